@@ -1,0 +1,315 @@
+-- The kinds of tokens by name, as document 01 numbers them: 1 to 78. The code has the same names in src/kind.rt.
+-- Assumes nothing: these are definitions.
+use Prim.Native.Nat.{ℕ}
+
+-- a name
+abbrev pub Ident : ℕ
+Ident = 1
+
+-- async
+abbrev pub Async : ℕ
+Async = 2
+
+-- as
+abbrev pub As : ℕ
+As = 3
+
+-- satisfies
+abbrev pub Satisfies : ℕ
+Satisfies = 4
+
+-- a modifier name: abstract accessor declare out override private protected public readonly static
+abbrev pub Modifier : ℕ
+Modifier = 5
+
+-- const
+abbrev pub Const : ℕ
+Const = 6
+
+-- this
+abbrev pub This : ℕ
+This = 7
+
+-- null
+abbrev pub Null : ℕ
+Null = 8
+
+-- true
+abbrev pub True : ℕ
+True = 9
+
+-- false
+abbrev pub False : ℕ
+False = 10
+
+-- a string
+abbrev pub Str : ℕ
+Str = 11
+
+-- a number
+abbrev pub Number : ℕ
+Number = 12
+
+-- a regular expression
+abbrev pub RegExp : ℕ
+RegExp = 13
+
+-- await
+abbrev pub Await : ℕ
+Await = 14
+
+-- yield
+abbrev pub Yield : ℕ
+Yield = 15
+
+-- extends
+abbrev pub Extends : ℕ
+Extends = 16
+
+-- another reserved word
+abbrev pub Reserved : ℕ
+Reserved = 17
+
+-- (
+abbrev pub LParen : ℕ
+LParen = 18
+
+-- )
+abbrev pub RParen : ℕ
+RParen = 19
+
+-- [
+abbrev pub LBrack : ℕ
+LBrack = 20
+
+-- ]
+abbrev pub RBrack : ℕ
+RBrack = 21
+
+-- {
+abbrev pub LCurly : ℕ
+LCurly = 22
+
+-- }
+abbrev pub RCurly : ℕ
+RCurly = 23
+
+-- ,
+abbrev pub Comma : ℕ
+Comma = 24
+
+-- :
+abbrev pub Colon : ℕ
+Colon = 25
+
+-- ?
+abbrev pub Question : ℕ
+Question = 26
+
+-- .
+abbrev pub Dot : ℕ
+Dot = 27
+
+-- ...
+abbrev pub Dot3 : ℕ
+Dot3 = 28
+
+-- =>
+abbrev pub Arrow : ℕ
+Arrow = 29
+
+-- !
+abbrev pub Bang : ℕ
+Bang = 30
+
+-- ~
+abbrev pub Tilde : ℕ
+Tilde = 31
+
+-- typeof
+abbrev pub Typeof : ℕ
+Typeof = 32
+
+-- void
+abbrev pub Void : ℕ
+Void = 33
+
+-- delete
+abbrev pub Delete : ℕ
+Delete = 34
+
+-- new
+abbrev pub New : ℕ
+New = 35
+
+-- ++
+abbrev pub Plus2 : ℕ
+Plus2 = 36
+
+-- --
+abbrev pub Minus2 : ℕ
+Minus2 = 37
+
+-- ??
+abbrev pub Question2 : ℕ
+Question2 = 38
+
+-- ||
+abbrev pub Pipe2 : ℕ
+Pipe2 = 39
+
+-- &&
+abbrev pub Amp2 : ℕ
+Amp2 = 40
+
+-- |
+abbrev pub Pipe : ℕ
+Pipe = 41
+
+-- ^
+abbrev pub Caret : ℕ
+Caret = 42
+
+-- &
+abbrev pub Amp : ℕ
+Amp = 43
+
+-- ==
+abbrev pub Eq2 : ℕ
+Eq2 = 44
+
+-- ===
+abbrev pub Eq3 : ℕ
+Eq3 = 45
+
+-- !=
+abbrev pub Neq : ℕ
+Neq = 46
+
+-- !==
+abbrev pub Neq2 : ℕ
+Neq2 = 47
+
+-- <
+abbrev pub LAngle : ℕ
+LAngle = 48
+
+-- >
+abbrev pub RAngle : ℕ
+RAngle = 49
+
+-- <=
+abbrev pub LtEq : ℕ
+LtEq = 50
+
+-- >=
+abbrev pub GtEq : ℕ
+GtEq = 51
+
+-- instanceof
+abbrev pub Instanceof : ℕ
+Instanceof = 52
+
+-- in
+abbrev pub In : ℕ
+In = 53
+
+-- <<
+abbrev pub ShiftLeft : ℕ
+ShiftLeft = 54
+
+-- >>
+abbrev pub ShiftRight : ℕ
+ShiftRight = 55
+
+-- >>>
+abbrev pub ShiftRight3 : ℕ
+ShiftRight3 = 56
+
+-- +
+abbrev pub Plus : ℕ
+Plus = 57
+
+-- -
+abbrev pub Minus : ℕ
+Minus = 58
+
+-- *
+abbrev pub Star : ℕ
+Star = 59
+
+-- /
+abbrev pub Slash : ℕ
+Slash = 60
+
+-- %
+abbrev pub Percent : ℕ
+Percent = 61
+
+-- **
+abbrev pub Star2 : ℕ
+Star2 = 62
+
+-- =
+abbrev pub Eq : ℕ
+Eq = 63
+
+-- +=
+abbrev pub PlusEq : ℕ
+PlusEq = 64
+
+-- -=
+abbrev pub MinusEq : ℕ
+MinusEq = 65
+
+-- *=
+abbrev pub StarEq : ℕ
+StarEq = 66
+
+-- /=
+abbrev pub SlashEq : ℕ
+SlashEq = 67
+
+-- %=
+abbrev pub PercentEq : ℕ
+PercentEq = 68
+
+-- <<=
+abbrev pub ShiftLeftEq : ℕ
+ShiftLeftEq = 69
+
+-- >>=
+abbrev pub ShiftRightEq : ℕ
+ShiftRightEq = 70
+
+-- >>>=
+abbrev pub ShiftRight3Eq : ℕ
+ShiftRight3Eq = 71
+
+-- |=
+abbrev pub PipeEq : ℕ
+PipeEq = 72
+
+-- ^=
+abbrev pub CaretEq : ℕ
+CaretEq = 73
+
+-- &=
+abbrev pub AmpEq : ℕ
+AmpEq = 74
+
+-- &&=
+abbrev pub Amp2Eq : ℕ
+Amp2Eq = 75
+
+-- ||=
+abbrev pub Pipe2Eq : ℕ
+Pipe2Eq = 76
+
+-- ??=
+abbrev pub Question2Eq : ℕ
+Question2Eq = 77
+
+-- **=
+abbrev pub Star2Eq : ℕ
+Star2Eq = 78

@@ -1,0 +1,4 @@
+pub mod Kind
+pub mod Bool
+pub mod Token
+pub mod Cause
