@@ -2,3 +2,4 @@ pub mod Kind
 pub mod Bool
 pub mod Token
 pub mod Cause
+pub mod Check

@@ -3,9 +3,8 @@
 use Prim.Native.Nat.{ℕ}
 use mathlib.Core.Bool.{Bool}
 use mathlib.Core.List.{List}
-use lib.Dec.{eqb}
 use lib.ListN.{getD}
-use Rattle.tokens.specs.Bool.{_or_, between}
+use Rattle.tokens.specs.Bool.{_or_, _is_, between}
 use Rattle.tokens.specs.Kind.{Ident, Async, Modifier, Const, Null, False, RegExp, Await, Yield, Reserved, Typeof, New, Instanceof, In}
 
 -- a place is a token's index; past the end the kind reads as 0, and so does the flag
@@ -33,4 +32,4 @@ is-binding-identifier k = between Ident Modifier k or between Await Yield k
 
 -- what the three-way answer takes for a modifier: 2, 5, 6, 53
 unfoldable pub is-modifier-kind : ℕ → Bool
-is-modifier-kind k = between Modifier Const k or eqb k Async or eqb k In
+is-modifier-kind k = between Modifier Const k or k is Async or k is In
