@@ -1,0 +1,2 @@
+pub mod ThreeWay
+pub mod Entry
