@@ -1,0 +1,46 @@
+-- The nonterminals, each with the place where it starts. Those that read a list or a chain bit by bit also have the place that they are
+-- at and what they have read so far: they are the standard's left-recursive productions.
+-- Assumes nothing: these are definitions.
+use Prim.Native.Nat.{ℕ}
+use Rattle.rows.specs.Tree.{Tree, Forest}
+use Rattle.grammar.specs.Sheet.{Reading}
+
+pub data Job : Type 0 where
+  -- 13.16
+  expression : ℕ → Job
+  sequence : (first comma at : ℕ) → Forest → Job
+  -- 13.15 and 13.14
+  assignment : ℕ → Job
+  value : ℕ → Job
+  -- 13.6 to 13.13
+  binary : (floor at : ℕ) → Job
+  operators : (floor first at : ℕ) → Tree → Job
+  -- 13.5 and 13.4
+  unary : ℕ → Job
+  postfix : ℕ → Job
+  -- 13.3
+  left-hand-side : ℕ → Job
+  links : (first at : ℕ) → Tree → Job
+  arguments : (first at : ℕ) → Forest → Job
+  -- 13.2
+  primary : ℕ → Job
+  elements : (first at kind : ℕ) → Forest → Job
+  properties : (first at kind : ℕ) → Forest → Job
+  property : ℕ → Job
+  key : ℕ → Job
+  spread : ℕ → Job
+  -- 14.3.3
+  binding : ℕ → Job
+  binding-element : ℕ → Job
+  binding-elements : (first at : ℕ) → Forest → Job
+  binding-properties : (first at : ℕ) → Forest → Job
+  binding-property : ℕ → Job
+  binding-rest : ℕ → Job
+  -- 15.3 and 15.9
+  head : ℕ → Job
+  parameters : ℕ → Forest → Job
+  body : (kind first at : ℕ) → Forest → Job
+
+-- how a production asks for its parts
+abbrev pub Asks : Type 0 → Type 0
+Asks N = Job → Reading N

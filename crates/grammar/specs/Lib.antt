@@ -1,0 +1,12 @@
+pub mod Sheet
+pub mod Job
+-- 
+-- 
+-- 
+-- 
+-- 
+-- 
+-- 
+-- 
+-- 
+-- 

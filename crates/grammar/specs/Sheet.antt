@@ -1,0 +1,91 @@
+-- What a reading is given, what comes of it, and the few words in which the productions are written.
+-- Assumes nothing: these are definitions.
+use Prim.Native.Nat.{ℕ, _+_}
+use mathlib.Core.Bool.{Bool, true, false}
+use mathlib.Core.List.{List, [], _∷_, _++_}
+use lib.ListN.{length}
+use Rattle.tokens.specs.Bool.{_is_, if_then_else_}
+use Rattle.tokens.specs.Token.{kind-at, flag-at}
+use Rattle.tokens.specs.declared.cause.Cause.{Cause}
+use Rattle.rows.specs.Tree.{Forest}
+use Rattle.rows.specs.Record.{Record}
+
+-- what a reading is given: the tokens' kinds, and the flags, 1 where a line break stands before the token
+pub record Sheet : Type 0 where
+  pub kinds : List ℕ
+  pub flags : List ℕ
+
+-- the kind at a place
+abbrev pub token : Sheet → ℕ → ℕ
+token sheet at = kind-at (sheet .kinds) at
+
+-- a line break stands before the token at a place
+abbrev pub break-before : Sheet → ℕ → Bool
+break-before sheet at = flag-at (sheet .flags) at is 1
+
+-- What comes of reading with notes N: it is done, up to a place, with trees, records, and the notes after; or it fails for a cause,
+-- with the notes after. (It is stuck only where a bound on the steps was too small, which never happens in a reading.)
+pub data Out (N : Type 0) : Type 0 where
+  done : ℕ → Forest → List Record → N → Out N
+  fail : Cause → N → Out N
+  stuck : Out N
+
+abbrev pub Reading : Type 0 → Type 0
+Reading N = N → Out N
+
+-- what a part of a production has read: up to where, and the trees
+pub record Part : Type 0 where
+  pub end : ℕ
+  pub trees : Forest
+
+module _ {N : Type 0} where
+  -- records that stand before those of what follows
+  unfoldable pub after-records : List Record → Out N → Out N
+  after-records records (done end trees more notes) = done end trees (records ++ more) notes
+  after-records records (fail cause notes) = fail cause notes
+  after-records records stuck = stuck
+
+  unfoldable pub and-then : Out N → (Part → Reading N) → Out N
+  and-then (done end trees records notes) next = after-records records (next (record { end = end; trees = trees }) notes)
+  and-then (fail cause notes) next = fail cause notes
+  and-then stuck next = stuck
+
+  unfoldable pub or-else : Out N → (Part → Reading N) → Reading N → Out N
+  or-else (done end trees records notes) next other = after-records records (next (record { end = end; trees = trees }) notes)
+  or-else (fail cause notes) next other = other notes
+  or-else stuck next other = stuck
+
+  -- `part ← reading` and what follows it: a refusal is final
+  unfoldable pub _>>=_ : Reading N → (Part → Reading N) → Reading N
+  _>>=_ reading next notes = and-then (reading notes) next
+
+  -- a line of its own and what follows it: a line says what must hold, or what is recorded
+  abbrev pub _>>_ : (Reading N → Reading N) → Reading N → Reading N
+  _>>_ line next = line next
+
+  -- a reading that may be given up: what follows it, or the other reading, with the notes as they were left
+  unfoldable pub try : Reading N → (Part → Reading N) → Reading N → Reading N
+  try reading next other notes = or-else (reading notes) next other
+
+  -- what was read, up to a place
+  unfoldable pub yield : ℕ → Forest → Reading N
+  yield end trees notes = done end trees [] notes
+
+  unfoldable pub refuse : Cause → Reading N
+  refuse cause notes = fail cause notes
+
+  -- 8: a token that no rule allows here, or the end
+  abbrev pub unexpected : ℕ → Reading N
+  unexpected at = refuse (Cause.Unexpected at)
+
+  -- a token of this kind must stand here
+  abbrev pub want : Sheet → ℕ → ℕ → Reading N → Reading N
+  want sheet kind at next = if token sheet at is kind then next else unexpected at
+
+  -- something must hold, or the reading is refused
+  abbrev pub unless-refuse : Bool → Cause → Reading N → Reading N
+  unless-refuse holds cause next = if holds then next else refuse cause
+
+  -- these are recorded
+  unfoldable pub say : List Record → Reading N → Reading N
+  say records next notes = after-records records (next notes)
