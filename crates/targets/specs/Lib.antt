@@ -1,1 +1,2 @@
 pub mod Conversion
+pub mod Examples
