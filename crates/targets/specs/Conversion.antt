@@ -74,14 +74,16 @@ is-array-or-object kind = between row.Array row.ObjectRestComma kind
 abbrev pub is-reference : ℕ → Bool
 is-reference kind = eqb kind row.Identifier or eqb kind row.Member or eqb kind row.Index
 
--- the kind of the first of some rows, and the first token of it; 0 of none
-abbrev pub head-kind : Forest → ℕ
-head-kind nil = 0
-head-kind (cons t ts) = kind-of t
+-- the last of some rows; a row of nothing where there is none
+abbrev pub last-or : Tree → Forest → Tree
+last-or t nil = t
+last-or t (cons u us) = last-or u us
 
-abbrev pub head-first : Forest → ℕ
-head-first nil = 0
-head-first (cons t ts) = first-of t
+abbrev pub last-of : Forest → Tree
+last-of ts = last-or (node 0 0 0 0 nil) ts
+
+abbrev pub ends-in-spread : Forest → Bool
+ends-in-spread ts = eqb (kind-of (last-of ts)) row.Spread
 
 -- the kind of what stands in Parens
 unfoldable mutual
@@ -92,16 +94,12 @@ unfoldable mutual
   inner-kinds nil = 0
   inner-kinds (cons t ts) = inner-kind t
 
--- record 4, at the literal's first token
-abbrev pub comma-of : ℕ → ℕ → List Record
-comma-of kind first = if eqb kind row.ArrayRestComma or eqb kind row.ObjectRestComma then rest-comma first ∷ [] else []
+-- record 3, at the argument's first token: through Parens a rest's argument must be a name, Member or Index, in arrays also Array or Object
+abbrev pub array-argument : Tree → List Record
+array-argument t = if is-reference (inner-kind t) or is-array-or-object (inner-kind t) then [] else rest-argument (first-of t) ∷ []
 
--- record 3, at the argument's first token: through Parens a rest's argument must be a name, Member or Index, in arrays also a literal
-abbrev pub array-argument : Forest → List Record
-array-argument kids = if is-reference (inner-kinds kids) or is-array-or-object (inner-kinds kids) then [] else rest-argument (head-first kids) ∷ []
-
-abbrev pub object-argument : Forest → List Record
-object-argument kids = if is-reference (inner-kinds kids) then [] else rest-argument (head-first kids) ∷ []
+abbrev pub object-argument : Tree → List Record
+object-argument t = if is-reference (inner-kind t) then [] else rest-argument (first-of t) ∷ []
 
 -- Name, Member and Index become targets; Paren becomes TargetParen over a simple target. Directly over a literal it is 9; all else is 9.
 abbrev pub as-simple : Tree → Change
@@ -109,14 +107,16 @@ as-simple (node kind mark first end kids) =
     if eqb kind row.Identifier then keep row.TargetName []
     else if eqb kind row.Member then keep row.TargetMember []
     else if eqb kind row.Index then keep row.TargetIndex []
-    else if eqb kind row.Paren and eqb (count kids) 1 and not (is-array-or-object (head-kind kids)) then turn row.TargetParen [] (only simple) []
+    else if eqb kind row.Paren and eqb (count kids) 1 and not (is-array-or-object (kind-of (last-of kids))) then turn row.TargetParen [] (only simple) []
     else refuse (NoTarget first)
 
 -- 13.15.5 AssignmentPattern: an Array or Object literal; otherwise a simple target
 abbrev pub as-any : Tree → Change
 as-any (node kind mark first end kids) =
-    if eqb kind row.Array or eqb kind row.ArrayRestComma then turn row.TargetArray [] (elements (comma-of kind first)) []
-    else if eqb kind row.Object or eqb kind row.ObjectRestComma then turn row.TargetObject [] (properties (comma-of kind first)) []
+    if eqb kind row.Array then turn row.TargetArray [] (elements []) []
+    else if eqb kind row.ArrayRestComma and ends-in-spread kids then turn row.TargetArray [] (elements (rest-comma first ∷ [])) []
+    else if eqb kind row.Object then turn row.TargetObject [] (properties []) []
+    else if eqb kind row.ObjectRestComma and ends-in-spread kids then turn row.TargetObject [] (properties (rest-comma first ∷ [])) []
     else as-simple (node kind mark first end kids)
 
 -- Assign becomes TargetDefault; CompoundAssign too, with record 5 at its operator. The left kid is a target already.
@@ -136,7 +136,7 @@ as-element (node kind mark first end kids) =
 -- a last Spread is a rest. Arrays: record 3, argument, record 4.
 abbrev pub as-last-element : List Record → Tree → Change
 as-last-element comma (node kind mark first end kids) =
-    if eqb kind row.Spread and eqb (count kids) 1 then turn row.TargetRest (array-argument kids) (only any) comma
+    if eqb kind row.Spread and eqb (count kids) 1 then turn row.TargetRest (array-argument (last-of kids)) (only any) comma
     else as-element (node kind mark first end kids)
 
 -- a shorthand, a shorthand with an initializer, or a key with its value; a Spread that is not last is 10
@@ -151,7 +151,7 @@ as-property (node kind mark first end kids) =
 -- Objects: record 3, record 4, argument.
 abbrev pub as-last-property : List Record → Tree → Change
 as-last-property comma (node kind mark first end kids) =
-    if eqb kind row.Spread and eqb (count kids) 1 then turn row.TargetRest (object-argument kids ++ comma) (only any) []
+    if eqb kind row.Spread and eqb (count kids) 1 then turn row.TargetRest (object-argument (last-of kids) ++ comma) (only any) []
     else as-property (node kind mark first end kids)
 
 abbrev pub as-name : Tree → Change
