@@ -170,9 +170,9 @@ change same t = keep (kind-of t) []
 
 -- the roles that a change gives the kids
 unfoldable pub roles : Change → ℕ → Role
-roles (refuse cause) after = same
-roles (keep kind records) after = same
-roles (turn kind before kids records) after = kids after
+roles (refuse cause) = only same
+roles (keep kind records) = only same
+roles (turn kind before kids after) = kids
 
 -- a row of that change, over what came of its kids
 unfoldable pub over : Change → Tree → Outcome Forest → Converted
