@@ -1,3 +1,5 @@
 pub mod Row
 pub mod Tree
 pub mod Record
+pub mod Shape
+pub mod Words
