@@ -3,3 +3,4 @@ pub mod Tree
 pub mod Record
 pub mod Shape
 pub mod Words
+pub mod Post
