@@ -1,3 +1,6 @@
 pub mod Row
 pub mod Tree
 pub mod Record
+pub mod Shape
+pub mod Words
+pub mod Post

@@ -1,0 +1,4 @@
+pub mod Conversion
+pub mod TargetRule
+pub mod RuleHolds
+pub mod Examples
