@@ -1,12 +1,13 @@
 pub mod Sheet
 pub mod Job
--- 
--- 
--- 
--- 
--- 
--- 
--- 
--- 
--- 
--- 
+pub mod Primary
+pub mod LeftHandSide
+pub mod Update
+pub mod Binary
+pub mod Assignment
+pub mod Comma
+pub mod Binding
+pub mod Arrow
+pub mod Step
+pub mod Reading
+pub mod Entry

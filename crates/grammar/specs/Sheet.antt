@@ -7,9 +7,10 @@ use lib.ListN.{length}
 use Rattle.tokens.specs.Bool.{_is_, if_then_else_}
 use Rattle.tokens.specs.Token.{kind-at, flag-at}
 use Rattle.tokens.specs.declared.cause.Cause.{Cause}
-use Rattle.rows.specs.Tree.{Forest}
+use Rattle.rows.specs.Tree.{Tree, Forest, node, nil, cons}
 use Rattle.rows.specs.Record.{Record}
 
+infixl 10 _>>=_
 -- what a reading is given: the tokens' kinds, and the flags, 1 where a line break stands before the token
 pub record Sheet : Type 0 where
   pub kinds : List ℕ
@@ -37,6 +38,18 @@ Reading N = N → Out N
 pub record Part : Type 0 where
   pub end : ℕ
   pub trees : Forest
+
+-- its first tree: most parts have read exactly one
+unfoldable pub first-tree : Forest → Tree
+first-tree nil = node 0 0 0 0 nil
+first-tree (cons t ts) = t
+
+abbrev pub tree : Part → Tree
+tree part = first-tree (part .trees)
+
+-- a row over one token, with no kids
+abbrev pub leaf : ℕ → ℕ → Tree
+leaf kind at = node kind at at (at + 1) nil
 
 module _ {N : Type 0} where
   -- records that stand before those of what follows

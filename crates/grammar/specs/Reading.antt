@@ -1,0 +1,82 @@
+-- A whole reading: one Expression up to the end of the list; and the pattern entry's, one binding with an optional initializer.
+-- Assumes nothing: these are definitions.
+use Prim.Native.Nat.{ℕ, _+_}
+use mathlib.Core.Bool.{Bool, false, not}
+use mathlib.Core.List.{List, [], _∷_, _++_}
+use lib.ListN.{length, getD, set, replicate}
+use Rattle.tokens.specs.Bool.{_is_, if_then_else_}
+use Rattle.tokens.specs.declared.cause.Cause.{Cause}
+use Rattle.lookahead.specs.ThreeWay.{three-way}
+use Rattle.lookahead.specs.declared.Tristate.{Tristate}
+use Rattle.rows.specs.Tree.{Tree, Forest, node, nil, cons}
+use Rattle.rows.specs.Row as Row
+use Rattle.rows.specs.Record.{Record, shorthand-initializer}
+use Rattle.grammar.specs.Sheet.{Sheet, Out, done, fail, stuck}
+use Rattle.grammar.specs.Job.{Job, expression, binding-element}
+use Rattle.grammar.specs.Arrow.{Way, pass, attempt, commit, Policy}
+use Rattle.grammar.specs.Step.{read, μ}
+
+-- The box's reader: the three-way answer with both flags off, and a note for each place whose head failed, 0 or 1. A noted place is passed.
+unfoldable pub way-of : Tristate → Bool → Way
+way-of Tristate.False noted = pass
+way-of Tristate.True noted = commit
+way-of Tristate.Maybe noted = if noted then pass else attempt
+
+abbrev pub box : Sheet → Policy (List ℕ)
+box sheet =
+    record {
+      way = λ at notes. way-of (three-way (sheet .kinds) (sheet .flags) false false at) (not (getD notes at 0 is 0));
+      mark = λ at notes. set notes at 1;
+    }
+
+-- notes cover 2,048 places, all cleared before each list
+abbrev pub cleared : List ℕ
+cleared = replicate 2048 0
+
+-- how many places are noted
+unfoldable pub noted-places : List ℕ → ℕ
+noted-places [] = 0
+noted-places (note ∷ notes) = note + noted-places notes
+
+-- The plain reader: it tries a head at every place where one could open, and remembers nothing.
+abbrev pub plain : Policy (Unit {0})
+plain = record { way = λ at notes. attempt; mark = λ at notes. notes }
+
+-- record 8: each ShorthandInit that was never converted, at its mark, in row order
+unfoldable mutual
+  pub unconverted : Tree → List Record
+  unconverted (node kind mark first end kids) =
+      unconverteds kids ++ (if kind is Row.ShorthandInit then shorthand-initializer mark ∷ [] else [])
+
+  pub unconverteds : Forest → List Record
+  unconverteds nil = []
+  unconverteds (cons t ts) = unconverted t ++ unconverteds ts
+
+-- what comes of a whole list: the trees with all records and the notes after, or a cause
+pub data Whole (N : Type 0) : Type 0 where
+  whole : Forest → List Record → N → Whole N
+  refused : Cause → Whole N
+
+-- nothing may follow, and then come the records 8
+unfoldable pub at-end : {N : Type 0} → ℕ → Out N → Whole N
+at-end tokens (done end trees records notes) =
+    if end is tokens then whole trees (records ++ unconverteds trees) notes else refused (Cause.Unexpected end)
+at-end tokens (fail cause notes) = refused cause
+at-end tokens stuck = refused (Cause.Unexpected 0)
+
+-- one nonterminal over the whole list
+unfoldable pub reading : {N : Type 0} → Policy N → Sheet → Job → N → Whole N
+reading policy sheet job notes = at-end (length (sheet .kinds)) (read policy sheet (μ sheet job) job notes)
+
+-- the list as one Expression, by the box's reader and by the plain one; the list as one binding
+abbrev pub box-reading : Sheet → Whole (List ℕ)
+box-reading sheet = reading (box sheet) sheet (expression 0) cleared
+
+abbrev pub plain-reading : Sheet → Whole (Unit {0})
+plain-reading sheet = reading plain sheet (expression 0) tt
+
+abbrev pub box-pattern : Sheet → Whole (List ℕ)
+box-pattern sheet = reading (box sheet) sheet (binding-element 0) cleared
+
+abbrev pub plain-pattern : Sheet → Whole (Unit {0})
+plain-pattern sheet = reading plain sheet (binding-element 0) tt

@@ -1,0 +1,158 @@
+-- The sheets to prove by, P1 to P10 of document 01: one statement over the table, exact to the last word of both buffers.
+-- Assumes nothing.
+use Prim.Native.Nat.{ℕ, _*_, _+_}
+use mathlib.Core.Path.{_≡_, refl}
+use mathlib.Core.List.{List, [], _∷_, _++_}
+use lib.ListN.{length, replicate}
+use Rattle.tokens.specs.Check.{check-length, check-flag-length, first-such, check-flags, check-kinds, depth-after, nesting, check-nesting}
+use Rattle.tokens.specs.Token.{is-name, is-word, is-literal, is-binding-identifier, is-modifier-kind}
+use Rattle.operators.specs.Precedence.{level, expression-level}
+use Rattle.lookahead.specs.ThreeWay.{no-parameters, rest-parameter, modified-name, after-name, first-parameter, after-paren, type-parameter, names-type, after-angle, after-open, three-way}
+use Rattle.rows.specs.Tree.{join, count, size, sizes, flat, flats, kind-of, mark-of, first-of, end-of, kids-of}
+use Rattle.rows.specs.Record.{record-words}
+use Rattle.targets.specs.Conversion.{inner-kind, inner-kinds, change, roles, over, both, convert-as, convert-kids}
+use Rattle.grammar.specs.Sheet.{first-tree, after-records, and-then, or-else, _>>=_, try, yield, refuse, say}
+use Rattle.grammar.specs.Primary.{parenthesized-of, primary-of, spread-of, elements-of, properties-of, shorthand-of, property-of, key-of}
+use Rattle.grammar.specs.LeftHandSide.{left-hand-side-of, links-of, arguments-of}
+use Rattle.grammar.specs.Update.{is-unary-operator, is-update-operator, converted-to, unary-of, postfix-of}
+use Rattle.grammar.specs.Binary.{operation-kind, right-floor, is-or-and, operation-records, binary-of, operators-of}
+use Rattle.grammar.specs.Assignment.{is-assignment-operator, assign-of, conditional-of, after-binary, is-async-name, value-of}
+use Rattle.grammar.specs.Comma.{expression-of, sequence-of}
+use Rattle.grammar.specs.Binding.{binding-of, binding-element-of, binding-rest-of, binding-elements-of, binding-properties-of, binding-shorthand-of, binding-property-of}
+use Rattle.grammar.specs.Arrow.{by-way, choose, noting, arrow-of, assignment-of, parenthesized-head-of, head-of, parameters-of, body-of}
+use Rattle.grammar.specs.Step.{step, read}
+use Rattle.grammar.specs.Reading.{way-of, noted-places, unconverted, unconverteds, at-end, reading}
+use Rattle.grammar.specs.Entry.{check-row-room, check-record-room, checks, padded, answered, checked, entry}
+use Rattle.rows.specs.Tree.{row}
+use Rattle.tokens.specs.declared.cause.Answer.{Answer}
+use Rattle.tokens.specs.declared.cause.Cause.{Cause}
+use Rattle.grammar.specs.Sheet.{Sheet}
+use Rattle.grammar.specs.Entry.{Given, read-entry}
+
+-- a sheet with no line breaks, and what the reader answers: the answer, the rows, the records
+pub record Case : Type 0 where
+  pub kinds : List ℕ
+  pub answer : Answer
+  pub rows : List ℕ
+  pub records : List ℕ
+
+abbrev counts : ℕ → ℕ → ℕ → Answer
+counts rows records abandoned = Answer.Read (record { rows = rows; records = records; abandoned = abandoned })
+
+-- P1: `[a, b] = c`
+abbrev pub P1 : Case
+P1 =
+    record {
+      kinds = 20 ∷ 1 ∷ 24 ∷ 1 ∷ 21 ∷ 63 ∷ 1 ∷ [];
+      answer = counts 5 0 0;
+      rows = row 40 1 1 2 0 1 ++ row 40 3 3 4 0 1 ++ row 42 0 0 5 2 3 ++ row 1 6 6 7 0 1 ++ row 25 5 0 7 2 5;
+      records = [];
+    }
+
+-- P2: `(a, b)`
+abbrev pub P2 : Case
+P2 =
+    record {
+      kinds = 18 ∷ 1 ∷ 24 ∷ 1 ∷ 19 ∷ [];
+      answer = counts 4 0 1;
+      rows = row 1 1 1 2 0 1 ++ row 1 3 3 4 0 1 ++ row 27 2 1 4 2 3 ++ row 4 0 0 5 1 4;
+      records = [];
+    }
+
+-- P3: `(a, b) => a`
+abbrev pub P3 : Case
+P3 =
+    record {
+      kinds = 18 ∷ 1 ∷ 24 ∷ 1 ∷ 19 ∷ 29 ∷ 1 ∷ [];
+      answer = counts 4 0 0;
+      rows = row 30 1 1 2 0 1 ++ row 30 3 3 4 0 1 ++ row 1 6 6 7 0 1 ++ row 28 5 0 7 3 4;
+      records = [];
+    }
+
+-- P4: `((a)) = b`
+abbrev pub P4 : Case
+P4 =
+    record {
+      kinds = 18 ∷ 18 ∷ 1 ∷ 19 ∷ 19 ∷ 63 ∷ 1 ∷ [];
+      answer = counts 5 0 1;
+      rows = row 40 2 2 3 0 1 ++ row 41 1 1 4 1 2 ++ row 41 0 0 5 1 3 ++ row 1 6 6 7 0 1 ++ row 25 5 0 7 2 5;
+      records = [];
+    }
+
+-- P5: `({a}) = b`
+abbrev pub P5 : Case
+P5 =
+    record {
+      kinds = 18 ∷ 22 ∷ 1 ∷ 23 ∷ 19 ∷ 63 ∷ 1 ∷ [];
+      answer = Answer.Refused (Cause.Target 0);
+      rows = [];
+      records = [];
+    }
+
+-- P6: `{...[a]} = b`
+abbrev pub P6 : Case
+P6 =
+    record {
+      kinds = 22 ∷ 28 ∷ 20 ∷ 1 ∷ 21 ∷ 23 ∷ 63 ∷ 1 ∷ [];
+      answer = counts 6 1 0;
+      rows = row 40 3 3 4 0 1 ++ row 42 2 2 5 1 2 ++ row 44 1 1 5 1 3 ++ row 43 0 0 6 1 4 ++ row 1 7 7 8 0 1 ++ row 25 6 0 8 2 6;
+      records = 3 ∷ 2 ∷ [];
+    }
+
+-- P7: `[...a,] = b`
+abbrev pub P7 : Case
+P7 =
+    record {
+      kinds = 20 ∷ 28 ∷ 1 ∷ 24 ∷ 21 ∷ 63 ∷ 1 ∷ [];
+      answer = counts 5 1 0;
+      rows = row 40 2 2 3 0 1 ++ row 44 1 1 3 1 2 ++ row 42 0 0 5 1 3 ++ row 1 6 6 7 0 1 ++ row 25 5 0 7 2 5;
+      records = 4 ∷ 0 ∷ [];
+    }
+
+-- P8: `[...a, b] = c`
+abbrev pub P8 : Case
+P8 =
+    record {
+      kinds = 20 ∷ 28 ∷ 1 ∷ 24 ∷ 1 ∷ 21 ∷ 63 ∷ 1 ∷ [];
+      answer = Answer.Refused (Cause.Spread 1);
+      rows = [];
+      records = [];
+    }
+
+-- P9: `a - b + c`
+abbrev pub P9 : Case
+P9 =
+    record {
+      kinds = 1 ∷ 58 ∷ 1 ∷ 57 ∷ 1 ∷ [];
+      answer = counts 5 0 0;
+      rows = row 1 0 0 1 0 1 ++ row 1 2 2 3 0 1 ++ row 22 1 0 3 2 3 ++ row 1 4 4 5 0 1 ++ row 22 3 0 5 2 5;
+      records = [];
+    }
+
+-- P10: `a ?? b || c`
+abbrev pub P10 : Case
+P10 =
+    record {
+      kinds = 1 ∷ 38 ∷ 1 ∷ 39 ∷ 1 ∷ [];
+      answer = counts 5 1 0;
+      rows = row 1 0 0 1 0 1 ++ row 1 2 2 3 0 1 ++ row 1 4 4 5 0 1 ++ row 23 3 2 5 2 3 ++ row 23 1 0 5 2 5;
+      records = 6 ∷ 1 ∷ [];
+    }
+
+abbrev pub sheets : List Case
+sheets = P1 ∷ P2 ∷ P3 ∷ P4 ∷ P5 ∷ P6 ∷ P7 ∷ P8 ∷ P9 ∷ P10 ∷ []
+
+-- read with two words more than asked in each buffer, all 7 before, a case gives its answer, and its words and then 0
+abbrev pub Holds : Case → Type 0
+Holds case =
+    let tokens = length (case .kinds) in
+    read-entry (record { kinds = case .kinds; flags = replicate tokens 0 }) (replicate (6 * tokens + 2) 7) (replicate (2 * tokens + 2) 7)
+    ≡ record { answer = case .answer; rows = padded (case .rows) (6 * tokens + 2); records = padded (case .records) (2 * tokens + 2) }
+
+abbrev pub All : (Case → Type 0) → List Case → Type 0
+All P [] = Unit {0}
+All P (case ∷ cases) = P case × All P cases
+
+pub sheets-hold : All Holds sheets
+unfolding check-length check-flag-length first-such check-flags check-kinds depth-after nesting check-nesting is-name is-word is-literal is-binding-identifier is-modifier-kind level expression-level no-parameters rest-parameter modified-name after-name first-parameter after-paren type-parameter names-type after-angle after-open three-way join count size sizes flat flats kind-of mark-of first-of end-of kids-of record-words inner-kind inner-kinds change roles over both convert-as convert-kids first-tree after-records and-then or-else _>>=_ try yield refuse say parenthesized-of primary-of spread-of elements-of properties-of shorthand-of property-of key-of left-hand-side-of links-of arguments-of is-unary-operator is-update-operator converted-to unary-of postfix-of operation-kind right-floor is-or-and operation-records binary-of operators-of is-assignment-operator assign-of conditional-of after-binary is-async-name value-of expression-of sequence-of binding-of binding-element-of binding-rest-of binding-elements-of binding-properties-of binding-shorthand-of binding-property-of by-way choose noting arrow-of assignment-of parenthesized-head-of head-of parameters-of body-of step read way-of noted-places unconverted unconverteds at-end reading check-row-room check-record-room checks padded answered checked entry
+sheets-hold = (refl, (refl, (refl, (refl, (refl, (refl, (refl, (refl, (refl, (refl, tt))))))))))

@@ -1,0 +1,1 @@
+// Theorems over the definition of a reading, in specs/. No code.
