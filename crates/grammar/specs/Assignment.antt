@@ -5,11 +5,11 @@ use mathlib.Core.Bool.{Bool, not}
 use Rattle.tokens.specs.Bool.{_and_, _is_, if_then_else_, between}
 use Rattle.tokens.specs.Kind.{Async, Colon, Question, Arrow, Eq, Star2Eq}
 use Rattle.tokens.specs.Token.{is-name}
-use Rattle.rows.specs.Tree.{Tree, Forest, node, one, join, kind-of}
+use Rattle.rows.specs.Tree.{Tree, Forest, node, cons, one, join, kind-of}
 use Rattle.rows.specs.Row as Row
 use Rattle.targets.specs.Conversion.{any, simple}
 use Rattle.grammar.specs.Sheet.{Sheet, token, break-before, Reading, Part, tree, leaf, _>>=_, _>>_, yield, want}
-use Rattle.grammar.specs.Job.{Job, assignment, binary, body, Asks}
+use Rattle.grammar.specs.Job.{Job, assignment, assign, conditional, binary, body, Asks}
 use Rattle.grammar.specs.Update.{converted}
 
 -- 13.15 = and AssignmentOperator, &&= ||= ??=
@@ -18,29 +18,29 @@ is-assignment-operator k = between Eq Star2Eq k
 
 module _ {N : Type 0} (sheet : Sheet) (ask : Asks N) where
   -- 13.15 LeftHandSideExpression = AssignmentExpression | LeftHandSideExpression AssignmentOperator AssignmentExpression
-  -- The left side is converted first: `=` to any target, the others to a simple one.
-  unfoldable pub assign-of : ℕ → Part → Reading N
-  assign-of first left = do
-    let plain = token sheet (left .end) is Eq
-    target ← converted (if plain then any else simple) (left .end) (tree left)
-    right ← ask (assignment (target .end + 1))
-    yield (right .end) (one (node (if plain then Row.Assign else Row.CompoundAssign) (target .end) first (right .end) (join (target .trees) (right .trees))))
+  -- What is left of the operator began at `first`. It is converted first: `=` to any target, the others to a simple one.
+  unfoldable pub assign-of : ℕ → ℕ → Tree → Reading N
+  assign-of first at left = do
+    let plain = token sheet at is Eq
+    target ← converted (if plain then any else simple) at left
+    right ← ask (assignment (at + 1))
+    yield (right .end) (one (node (if plain then Row.Assign else Row.CompoundAssign) at first (right .end) (join (target .trees) (right .trees))))
 
   -- 13.14 ConditionalExpression : ShortCircuitExpression ? AssignmentExpression : AssignmentExpression
-  unfoldable pub conditional-of : ℕ → Part → Reading N
-  conditional-of first test = do
-    if-true ← ask (assignment (test .end + 1))
+  unfoldable pub conditional-of : ℕ → ℕ → Tree → Reading N
+  conditional-of first at test = do
+    if-true ← ask (assignment (at + 1))
     want sheet Colon (if-true .end)
     if-false ← ask (assignment (if-true .end + 1))
-    yield (if-false .end) (one (node Row.Conditional (test .end) first (if-false .end) (join (test .trees) (join (if-true .trees) (if-false .trees)))))
+    yield (if-false .end) (one (node Row.Conditional at first (if-false .end) (cons test (join (if-true .trees) (if-false .trees)))))
 
   -- what may follow the binary level: `=>` after a lone Identifier (15.3 ArrowParameters : BindingIdentifier), an assignment, a Conditional
   unfoldable pub after-binary : ℕ → Part → Reading N
   after-binary first left =
       if kind-of (tree left) is Row.Identifier and token sheet (left .end) is Arrow
       then ask (body Row.Arrow first (left .end) (one (leaf Row.BindingName first)))
-      else if is-assignment-operator (token sheet (left .end)) then assign-of first left
-      else if token sheet (left .end) is Question then conditional-of first left
+      else if is-assignment-operator (token sheet (left .end)) then ask (assign first (left .end) (tree left))
+      else if token sheet (left .end) is Question then ask (conditional first (left .end) (tree left))
       else yield (left .end) (left .trees)
 
   -- 15.9 AsyncArrowFunction : async [no LineTerminator here] AsyncArrowBindingIdentifier [no LineTerminator here] => AsyncConciseBody

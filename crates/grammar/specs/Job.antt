@@ -12,6 +12,8 @@ pub data Job : Type 0 where
   -- 13.15 and 13.14
   assignment : ℕ → Job
   value : ℕ → Job
+  assign : (first at : ℕ) → Tree → Job
+  conditional : (first at : ℕ) → Tree → Job
   -- 13.6 to 13.13
   binary : (floor at : ℕ) → Job
   operators : (floor first at : ℕ) → Tree → Job

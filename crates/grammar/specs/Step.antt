@@ -4,12 +4,12 @@ use Prim.Native.Nat.{ℕ, zero, suc, _+_, _-_, _*_, _≤_}
 use mathlib.Core.Path.{_≡_}
 use lib.ListN.{length}
 use Rattle.grammar.specs.Sheet.{Sheet, Out, stuck, Reading}
-use Rattle.grammar.specs.Job.{Job, expression, sequence, assignment, value, binary, operators, unary, postfix, left-hand-side, links, arguments, primary, elements, properties, property, key, spread, binding, binding-element, binding-elements, binding-properties, binding-property, binding-rest, head, parameters, body, Asks}
+use Rattle.grammar.specs.Job.{Job, expression, sequence, assignment, value, assign, conditional, binary, operators, unary, postfix, left-hand-side, links, arguments, primary, elements, properties, property, key, spread, binding, binding-element, binding-elements, binding-properties, binding-property, binding-rest, head, parameters, body, Asks}
 use Rattle.grammar.specs.Primary.{primary-of, elements-of, properties-of, property-of, key-of, spread-of}
 use Rattle.grammar.specs.LeftHandSide.{left-hand-side-of, links-of, arguments-of}
 use Rattle.grammar.specs.Update.{unary-of, postfix-of}
 use Rattle.grammar.specs.Binary.{binary-of, operators-of}
-use Rattle.grammar.specs.Assignment.{value-of}
+use Rattle.grammar.specs.Assignment.{value-of, assign-of, conditional-of}
 use Rattle.grammar.specs.Comma.{expression-of, sequence-of}
 use Rattle.grammar.specs.Binding.{binding-of, binding-element-of, binding-elements-of, binding-properties-of, binding-property-of, binding-rest-of}
 use Rattle.grammar.specs.Arrow.{Policy, assignment-of, head-of, parameters-of, body-of}
@@ -21,6 +21,8 @@ module _ {N : Type 0} (policy : Policy N) (sheet : Sheet) where
   step ask (sequence first comma at so-far) = sequence-of sheet ask first comma at so-far
   step ask (assignment at) = assignment-of policy sheet ask at
   step ask (value at) = value-of sheet ask at
+  step ask (assign first at left) = assign-of sheet ask first at left
+  step ask (conditional first at test) = conditional-of sheet ask first at test
   step ask (binary floor at) = binary-of sheet ask floor at
   step ask (operators floor first at left) = operators-of sheet ask floor first at left
   step ask (unary at) = unary-of sheet ask at
@@ -55,6 +57,8 @@ place-of (expression at) = at
 place-of (sequence first comma at so-far) = at
 place-of (assignment at) = at
 place-of (value at) = at
+place-of (assign first at left) = at
+place-of (conditional first at test) = at
 place-of (binary floor at) = at
 place-of (operators floor first at left) = at
 place-of (unary at) = at
@@ -83,6 +87,8 @@ rank (expression at) = 12
 rank (sequence first comma at so-far) = 1
 rank (assignment at) = 11
 rank (value at) = 10
+rank (assign first at left) = 1
+rank (conditional first at test) = 1
 rank (binary floor at) = 9
 rank (operators floor first at left) = 1
 rank (unary at) = 8
