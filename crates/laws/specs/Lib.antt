@@ -1,1 +1,4 @@
 pub mod Sheets
+pub mod Good
+pub mod Owed
+pub mod Bounds
