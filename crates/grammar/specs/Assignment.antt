@@ -16,6 +16,11 @@ use Rattle.grammar.specs.Update.{converted}
 unfoldable pub is-assignment-operator : ℕ → Bool
 is-assignment-operator k = between Eq Star2Eq k
 
+-- 15.9 AsyncArrowFunction : async [no LineTerminator here] AsyncArrowBindingIdentifier [no LineTerminator here] => AsyncConciseBody
+unfoldable pub is-async-name : Sheet → ℕ → Bool
+is-async-name sheet at =
+    token sheet at is Async and is-name (token sheet (at + 1)) and not (break-before sheet (at + 1)) and token sheet (at + 2) is Arrow
+
 module _ {N : Type 0} (sheet : Sheet) (ask : Asks N) where
   -- 13.15 LeftHandSideExpression = AssignmentExpression | LeftHandSideExpression AssignmentOperator AssignmentExpression
   -- What is left of the operator began at `first`. It is converted first: `=` to any target, the others to a simple one.
@@ -43,14 +48,9 @@ module _ {N : Type 0} (sheet : Sheet) (ask : Asks N) where
       else if token sheet (left .end) is Question then ask (conditional first (left .end) (tree left))
       else yield (left .end) (left .trees)
 
-  -- 15.9 AsyncArrowFunction : async [no LineTerminator here] AsyncArrowBindingIdentifier [no LineTerminator here] => AsyncConciseBody
-  unfoldable pub is-async-name : ℕ → Bool
-  is-async-name at =
-      token sheet at is Async and is-name (token sheet (at + 1)) and not (break-before sheet (at + 1)) and token sheet (at + 2) is Arrow
-
   unfoldable pub value-of : ℕ → Reading N
   value-of at =
-      if is-async-name at
+      if is-async-name sheet at
       then ask (body Row.AsyncArrow at (at + 2) (one (leaf Row.BindingName (at + 1))))
       else do
         left ← ask (binary 0 at)

@@ -263,7 +263,7 @@ module _ {N : Type 0} (sheet : Sheet) {ask : Asks N} (h : Answers Any (λ job. B
   value-bound : (at : ℕ) → Reads (Bound (limits sheet (value at))) Nothing (value-of sheet ask at)
   unfolding value-of owes
   value-bound at =
-      test (is-async-name sheet ask at)
+      test (is-async-name sheet at)
       (λ t. so (asked (body Row.AsyncArrow at (at + 2) (one (leaf Row.BindingName (at + 1)))))
       (λ end trees more c. record { within = omega (arith, simp weights at (c .within)); single = c .single }))
       (λ _. follows (asked (binary 0 at)) (λ left rs b. after-binary-bound at left rs b))

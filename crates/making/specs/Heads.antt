@@ -1,0 +1,31 @@
+-- Where a head may open, and the way that the box takes there.
+-- Assumes nothing: these are definitions.
+use Prim.Native.Nat.{ℕ}
+use mathlib.Core.Bool.{Bool}
+use mathlib.Core.List.{List}
+use lib.ListN.{getD}
+use Rattle.tokens.specs.Bool.{_or_, _is_, if_then_else_}
+use Rattle.tokens.specs.Kind.{Async, LParen}
+use Rattle.rows.specs.Row as Row
+use Rattle.grammar.specs.Arrow as Grammar
+use Rattle.grammar.specs.Reading.{box}
+use Rattle.making.specs.Post.{sheet-of}
+use Rattle.making.specs.declared.heads.Way.{Way}
+
+-- `(` and Async may open a head
+unfoldable pub may-open : ℕ → Bool
+may-open k = k is LParen or k is Async
+
+-- the way that the box takes where the assignment level starts
+unfoldable pub way-at : List ℕ → List ℕ → List ℕ → ℕ → Grammar.Way
+way-at ks fs m at = if may-open (getD ks at 0) then box (sheet-of ks fs) .way at m else Grammar.pass
+
+-- the code's ways
+unfoldable pub way-of : Way → Grammar.Way
+way-of Way.Pass = Grammar.pass
+way-of Way.Attempt = Grammar.attempt
+way-of Way.Commit = Grammar.commit
+
+-- the row of an arrow whose head begins at a place
+unfoldable pub arrow-kind : List ℕ → ℕ → ℕ
+arrow-kind ks at = if getD ks at 0 is Async then Row.AsyncArrow else Row.Arrow
