@@ -1,2 +1,5 @@
 pub mod Rules
 pub mod Ways
+pub mod Ends
+pub mod Makes
+pub mod Steps

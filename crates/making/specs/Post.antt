@@ -10,12 +10,14 @@ use Rattle.rows.specs.Tree.{Tree, Forest, one, count}
 use Rattle.rows.specs.Record.{Record}
 use Rattle.rows.specs.Post.{Pushed, PushedRecord, Grown, Kept, GrownRecords, KeptRecords}
 use Rattle.grammar.specs.Sheet.{Sheet, Out, done, fail}
-use Rattle.grammar.specs.Job.{Job}
+use Rattle.grammar.specs.Job.{Job, assignment}
 use Rattle.grammar.specs.Step.{Settles}
 use Rattle.grammar.specs.Reading.{box}
+use Rattle.laws.specs.Owed.{owed}
 use Rattle.making.specs.declared.cursor.Cursor.{Cursor}
 use Rattle.making.specs.declared.cursor.Step.{Step}
 use Rattle.making.specs.declared.cursor.Listed.{Listed}
+use Rattle.making.specs.declared.heads.Head.{Head}
 
 abbrev pub cursor : ℕ → ℕ → ℕ → Cursor
 cursor at rows records = record { at = at; rows = rows; records = records }
@@ -145,3 +147,42 @@ pub record SayRoom (words : ℕ) (c : Cursor) (place : ℕ) : Type 0 where
   pub room : 2 * c .records + 2 ≤ words
   pub small : c .records ≤ 2048
   pub place-small : place ≤ 2048
+
+-- what was read last stands from the row `from` on and began at `first`; an operator or a bracket stands after it, and its records have room
+pub record Operand (ks r : List ℕ) (c : Cursor) (first from : ℕ) : Type 0 where
+  pub next : c .at < length ks
+  pub began : first < c .at
+  pub some : from < c .rows
+  pub left : Tree
+  pub stands : Grown r from r (c .rows) (one left)
+  pub few-rows : c .rows + first ≤ from + c .at
+  pub few-records : c .records + owed left ≤ c .at
+
+-- a head was read, and its `=>` stands here
+pub record HeadFits (ks : List ℕ) (c : Cursor) (h : Head) : Type 0 where
+  pub arrow : c .at < length ks
+  pub first-before : h .first < c .at
+  pub from-before : h .from ≤ c .rows
+  pub kids-few : h .kids ≤ c .at
+  pub rows-few : c .rows < c .at
+
+-- a name was read, whose row stands at `from` and whose token just before the `=` here
+pub record NameFits (ks : List ℕ) (c : Cursor) (from : ℕ) : Type 0 where
+  pub equals : c .at < length ks
+  pub name : 0 < c .at
+  pub row : c .rows ≡ from + 1
+  pub few : c .rows ≤ c .at
+
+-- an initializer was read, and the row over a name and it was written; or the initializer was refused
+pub record InitTo (ks fs r₀ s₀ m₀ r s m : List ℕ) (at kind from n k : ℕ) (d : Cursor) : Type 0 where
+  pub trees : Forest
+  pub records : List Record
+  pub comes : Comes ks fs (assignment (at + 1)) m₀ (done (d .at) trees records m)
+  pub rows : List ℕ
+  pub before : Cursor
+  pub made : Made r₀ s₀ n k rows s before trees records
+  pub topped : Topped rows before kind at (at - 1) (d .at) 2 from r d
+
+pub record MetInit (ks fs r₀ s₀ m₀ r s m : List ℕ) (at kind from n k : ℕ) (x : Step) : Type 0 where
+  pub init-to : (d : Cursor) → x ≡ Step.Done d → InitTo ks fs r₀ s₀ m₀ r s m at kind from n k d
+  pub init-fail : (cause : Cause) → x ≡ Step.Fail cause → Refused ks fs r₀ s₀ m₀ r s m (assignment (at + 1)) n k cause

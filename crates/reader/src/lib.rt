@@ -1,12 +1,8 @@
 // The reader: a list of token bytes into a flat tree in lent memory (document 01).
-pub mod cursor;
-pub mod grammar;
-pub mod heads;
-pub mod keys;
-pub mod operation;
+pub mod parse;
 
-use cursor::Cursor;
-use cursor::Step;
+use making::cursor::Cursor;
+use making::cursor::Step;
 use tokens::cause::Answer;
 use tokens::cause::Cause;
 use tokens::cause::Counts;
@@ -67,7 +63,7 @@ fn unconverted(rows: &[u32], records: &mut [u32], c: Cursor) -> Cursor {
     let mut n = 0;
     while n < c.rows {
         if rows::row_word(rows, n, 0) == rows::row::SHORTHAND_INIT {
-            here = cursor::say(records, here, 8, rows::row_word(rows, n, 1) as usize);
+            here = making::cursor::say(records, here, 8, rows::row_word(rows, n, 1) as usize);
         }
         n += 1;
     }
@@ -121,7 +117,7 @@ pub fn read(kinds: &[u8], flags: &[u8], rows: &mut [u32], records: &mut [u32]) -
         rows: 0,
         records: 0,
     };
-    let got = grammar::comma(kinds, flags, rows, records, &mut notes, start);
+    let got = parse::comma(kinds, flags, rows, records, &mut notes, start);
     finish(kinds, rows, records, &notes, got)
 }
 
@@ -137,6 +133,6 @@ pub fn pattern(kinds: &[u8], flags: &[u8], rows: &mut [u32], records: &mut [u32]
         rows: 0,
         records: 0,
     };
-    let got = grammar::element(kinds, flags, rows, records, &mut notes, start);
+    let got = parse::element(kinds, flags, rows, records, &mut notes, start);
     finish(kinds, rows, records, &notes, got)
 }

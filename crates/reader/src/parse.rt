@@ -1,16 +1,25 @@
 // The one cycle of calls: expressions, arrows, literals and bindings call one another (13.2 to 13.16, 14.3.3, 15.3, 15.9).
 // All of it stands in one file, since the folder of its proof is named after all of its functions.
-use crate::cursor::Cursor;
-use crate::cursor::Listed;
-use crate::cursor::Step;
-use crate::cursor::leaf;
-use crate::cursor::over;
-use crate::cursor::say;
-use crate::heads;
-use crate::heads::Head;
-use crate::heads::Way;
-use crate::keys;
-use crate::operation;
+ghost use Prim.Native.Nat.{_+_, _<_};
+ghost use lib.ListN.{length, getD};
+ghost use Rattle.tokens.specs.Bool.{_is_, if_then_else_};
+ghost use Rattle.tokens.specs.Kind.{Dot3};
+ghost use Rattle.tokens.specs.declared.cause.Cause.{Cause};
+ghost use Rattle.rows.specs.Tree.{nil, one};
+ghost use Rattle.rows.specs.Row as Row;
+ghost use Rattle.grammar.specs.Job as Job;
+ghost use Rattle.making.specs.Post.{Room, Met, MetOver, MetAfter, MetList, MetClosed, MetInit, Operand, HeadFits, NameFits};
+use making::cursor::Cursor;
+use making::cursor::Listed;
+use making::cursor::Step;
+use making::cursor::leaf;
+use making::cursor::over;
+use making::cursor::say;
+use making::heads;
+use making::heads::Head;
+use making::heads::Way;
+use making::keys;
+use making::operation;
 use rows::row;
 use targets::Conversion;
 use tokens::cause::Cause;
@@ -24,7 +33,10 @@ pub fn comma(
     records: &mut [u32],
     notes: &mut [u8; 2048],
     c: Cursor,
-) -> Step {
+) -> Step
+    requires { ⌜ Room (now kinds) (now rows) (now records) c ⌝ }
+    ensures { λ x. ⌜ Met (now (kinds .entry)) (now (flags .entry)) (now (rows .entry)) (now (records .entry)) (now (notes .entry)) (now (rows .exit)) (now (records .exit)) (now (notes .exit)) (Job.expression (c .at)) (c .rows) (c .records) x ⌝ }
+{
     let first = c.at;
     let from = c.rows;
     let got = assign(kinds, flags, rows, records, notes, c);
@@ -63,7 +75,10 @@ pub fn assign(
     records: &mut [u32],
     notes: &mut [u8; 2048],
     c: Cursor,
-) -> Step {
+) -> Step
+    requires { ⌜ Room (now kinds) (now rows) (now records) c ⌝ }
+    ensures { λ x. ⌜ Met (now (kinds .entry)) (now (flags .entry)) (now (rows .entry)) (now (records .entry)) (now (notes .entry)) (now (rows .exit)) (now (records .exit)) (now (notes .exit)) (Job.assignment (c .at)) (c .rows) (c .records) x ⌝ }
+{
     let at = c.at;
     let way = heads::way_at(kinds, flags, notes, at);
     match way {
@@ -102,7 +117,10 @@ pub fn value(
     records: &mut [u32],
     notes: &mut [u8; 2048],
     c: Cursor,
-) -> Step {
+) -> Step
+    requires { ⌜ Room (now kinds) (now rows) (now records) c ⌝ }
+    ensures { λ x. ⌜ Met (now (kinds .entry)) (now (flags .entry)) (now (rows .entry)) (now (records .entry)) (now (notes .entry)) (now (rows .exit)) (now (records .exit)) (now (notes .exit)) (Job.value (c .at)) (c .rows) (c .records) x ⌝ }
+{
     let at = c.at;
     let from = c.rows;
     if heads::is_async_name(kinds, flags, at) {
@@ -159,7 +177,11 @@ pub fn assigned(
     c: Cursor,
     first: usize,
     from: usize,
-) -> Step {
+) -> Step
+    requires { ⌜ Room (now kinds) (now rows) (now records) c ⌝ }
+    requires { ⌜ Operand (now kinds) (now rows) c first from ⌝ }
+    ensures { λ x. ⌜ MetOver (now (kinds .entry)) (now (flags .entry)) (now (rows .entry)) (now (records .entry)) (now (notes .entry)) (now (rows .exit)) (now (records .exit)) (now (notes .exit)) (Job.assign first (c .at)) from (c .rows) (c .records) x ⌝ }
+{
     let at = c.at;
     let plain = tokens::kind_at(kinds, at) == kind::EQ;
     let left = c.rows;
@@ -197,7 +219,11 @@ pub fn choice(
     c: Cursor,
     first: usize,
     from: usize,
-) -> Step {
+) -> Step
+    requires { ⌜ Room (now kinds) (now rows) (now records) c ⌝ }
+    requires { ⌜ Operand (now kinds) (now rows) c first from ⌝ }
+    ensures { λ x. ⌜ MetOver (now (kinds .entry)) (now (flags .entry)) (now (rows .entry)) (now (records .entry)) (now (notes .entry)) (now (rows .exit)) (now (records .exit)) (now (notes .exit)) (Job.conditional first (c .at)) from (c .rows) (c .records) x ⌝ }
+{
     let at = c.at;
     let next = Cursor {
         at: at + 1,
@@ -232,7 +258,10 @@ pub fn head(
     records: &mut [u32],
     notes: &mut [u8; 2048],
     c: Cursor,
-) -> Listed {
+) -> Listed
+    requires { ⌜ Room (now kinds) (now rows) (now records) c ⌝ }
+    ensures { λ x. ⌜ MetList (now (kinds .entry)) (now (flags .entry)) (now (rows .entry)) (now (records .entry)) (now (notes .entry)) (now (rows .exit)) (now (records .exit)) (now (notes .exit)) (Job.head (c .at)) (c .rows) (c .records) x ⌝ }
+{
     let at = c.at;
     let mut open = at;
     if tokens::kind_at(kinds, at) == kind::ASYNC {
@@ -268,7 +297,10 @@ pub fn params(
     records: &mut [u32],
     notes: &mut [u8; 2048],
     c: Cursor,
-) -> Listed {
+) -> Listed
+    requires { ⌜ Room (now kinds) (now rows) (now records) c ⌝ }
+    ensures { λ x. ⌜ MetList (now (kinds .entry)) (now (flags .entry)) (now (rows .entry)) (now (records .entry)) (now (notes .entry)) (now (rows .exit)) (now (records .exit)) (now (notes .exit)) (Job.parameters (c .at) nil) (c .rows) (c .records) x ⌝ }
+{
     let mut here = c;
     let mut kids = 0;
     loop {
@@ -322,7 +354,11 @@ pub fn body(
     notes: &mut [u8; 2048],
     c: Cursor,
     head: Head,
-) -> Step {
+) -> Step
+    requires { ⌜ Room (now kinds) (now rows) (now records) c ⌝ }
+    requires { ⌜ HeadFits (now kinds) c head ⌝ }
+    ensures { λ x. ⌜ MetAfter (now (kinds .entry)) (now (flags .entry)) (now (rows .entry)) (now (records .entry)) (now (notes .entry)) (now (rows .exit)) (now (records .exit)) (now (notes .exit)) (Job.body (head .kind) (head .first) (c .at)) (head .from) (c .rows) (head .kids) (c .records) x ⌝ }
+{
     let mark = c.at;
     if tokens::kind_at(kinds, mark + 1) == kind::L_CURLY {
         return Step::Fail(Cause::Unexpected(mark + 1));
@@ -360,7 +396,10 @@ pub fn binary(
     notes: &mut [u8; 2048],
     c: Cursor,
     floor: u8,
-) -> Step {
+) -> Step
+    requires { ⌜ Room (now kinds) (now rows) (now records) c ⌝ }
+    ensures { λ x. ⌜ Met (now (kinds .entry)) (now (flags .entry)) (now (rows .entry)) (now (records .entry)) (now (notes .entry)) (now (rows .exit)) (now (records .exit)) (now (notes .exit)) (Job.binary floor (c .at)) (c .rows) (c .records) x ⌝ }
+{
     let first = c.at;
     let from = c.rows;
     let got = unary(kinds, flags, rows, records, notes, c);
@@ -404,7 +443,10 @@ pub fn unary(
     records: &mut [u32],
     notes: &mut [u8; 2048],
     c: Cursor,
-) -> Step {
+) -> Step
+    requires { ⌜ Room (now kinds) (now rows) (now records) c ⌝ }
+    ensures { λ x. ⌜ Met (now (kinds .entry)) (now (flags .entry)) (now (rows .entry)) (now (records .entry)) (now (notes .entry)) (now (rows .exit)) (now (records .exit)) (now (notes .exit)) (Job.unary (c .at)) (c .rows) (c .records) x ⌝ }
+{
     let first = c.at;
     let from = c.rows;
     let mut at = first;
@@ -435,7 +477,10 @@ pub fn left(
     records: &mut [u32],
     notes: &mut [u8; 2048],
     c: Cursor,
-) -> Step {
+) -> Step
+    requires { ⌜ Room (now kinds) (now rows) (now records) c ⌝ }
+    ensures { λ x. ⌜ Met (now (kinds .entry)) (now (flags .entry)) (now (rows .entry)) (now (records .entry)) (now (notes .entry)) (now (rows .exit)) (now (records .exit)) (now (notes .exit)) (Job.left-hand-side (c .at)) (c .rows) (c .records) x ⌝ }
+{
     let first = c.at;
     let from = c.rows;
     let got = primary(kinds, flags, rows, records, notes, c);
@@ -483,7 +528,11 @@ pub fn args(
     c: Cursor,
     first: usize,
     from: usize,
-) -> Step {
+) -> Step
+    requires { ⌜ Room (now kinds) (now rows) (now records) c ⌝ }
+    requires { ⌜ Operand (now kinds) (now rows) c first from ⌝ }
+    ensures { λ x. ⌜ MetOver (now (kinds .entry)) (now (flags .entry)) (now (rows .entry)) (now (records .entry)) (now (notes .entry)) (now (rows .exit)) (now (records .exit)) (now (notes .exit)) (λ left. Job.arguments first (c .at + 1) (one left)) from (c .rows) (c .records) x ⌝ }
+{
     let mut here = Cursor {
         at: c.at + 1,
         rows: c.rows,
@@ -526,7 +575,11 @@ pub fn inside(
     notes: &mut [u8; 2048],
     c: Cursor,
     close: u8,
-) -> Step {
+) -> Step
+    requires { ⌜ Room (now kinds) (now rows) (now records) c ⌝ }
+    requires { ⌜ c .at < length (now kinds) ⌝ }
+    ensures { λ x. ⌜ MetClosed (now (kinds .entry)) (now (flags .entry)) (now (rows .entry)) (now (records .entry)) (now (notes .entry)) (now (rows .exit)) (now (records .exit)) (now (notes .exit)) (Job.expression (c .at + 1)) close Cause.Unexpected (c .rows) (c .records) x ⌝ }
+{
     let next = Cursor {
         at: c.at + 1,
         rows: c.rows,
@@ -555,7 +608,10 @@ pub fn primary(
     records: &mut [u32],
     notes: &mut [u8; 2048],
     c: Cursor,
-) -> Step {
+) -> Step
+    requires { ⌜ Room (now kinds) (now rows) (now records) c ⌝ }
+    ensures { λ x. ⌜ Met (now (kinds .entry)) (now (flags .entry)) (now (rows .entry)) (now (records .entry)) (now (notes .entry)) (now (rows .exit)) (now (records .exit)) (now (notes .exit)) (Job.primary (c .at)) (c .rows) (c .records) x ⌝ }
+{
     let at = c.at;
     let k = tokens::kind_at(kinds, at);
     if tokens::is_name(k) {
@@ -589,7 +645,10 @@ pub fn item(
     records: &mut [u32],
     notes: &mut [u8; 2048],
     c: Cursor,
-) -> Step {
+) -> Step
+    requires { ⌜ Room (now kinds) (now rows) (now records) c ⌝ }
+    ensures { λ x. ⌜ Met (now (kinds .entry)) (now (flags .entry)) (now (rows .entry)) (now (records .entry)) (now (notes .entry)) (now (rows .exit)) (now (records .exit)) (now (notes .exit)) (if getD (now (kinds .entry)) (c .at) 0 is Dot3 then Job.spread (c .at) else Job.assignment (c .at)) (c .rows) (c .records) x ⌝ }
+{
     if tokens::kind_at(kinds, c.at) == kind::DOT3 {
         return spread(kinds, flags, rows, records, notes, c);
     }
@@ -604,7 +663,11 @@ pub fn spread(
     records: &mut [u32],
     notes: &mut [u8; 2048],
     c: Cursor,
-) -> Step {
+) -> Step
+    requires { ⌜ Room (now kinds) (now rows) (now records) c ⌝ }
+    requires { ⌜ c .at < length (now kinds) ⌝ }
+    ensures { λ x. ⌜ Met (now (kinds .entry)) (now (flags .entry)) (now (rows .entry)) (now (records .entry)) (now (notes .entry)) (now (rows .exit)) (now (records .exit)) (now (notes .exit)) (Job.spread (c .at)) (c .rows) (c .records) x ⌝ }
+{
     let at = c.at;
     let next = Cursor {
         at: at + 1,
@@ -626,7 +689,11 @@ pub fn array(
     records: &mut [u32],
     notes: &mut [u8; 2048],
     c: Cursor,
-) -> Step {
+) -> Step
+    requires { ⌜ Room (now kinds) (now rows) (now records) c ⌝ }
+    requires { ⌜ c .at < length (now kinds) ⌝ }
+    ensures { λ x. ⌜ Met (now (kinds .entry)) (now (flags .entry)) (now (rows .entry)) (now (records .entry)) (now (notes .entry)) (now (rows .exit)) (now (records .exit)) (now (notes .exit)) (Job.elements (c .at) (c .at + 1) Row.Array nil) (c .rows) (c .records) x ⌝ }
+{
     let first = c.at;
     let mut here = Cursor {
         at: first + 1,
@@ -679,7 +746,11 @@ pub fn object(
     records: &mut [u32],
     notes: &mut [u8; 2048],
     c: Cursor,
-) -> Step {
+) -> Step
+    requires { ⌜ Room (now kinds) (now rows) (now records) c ⌝ }
+    requires { ⌜ c .at < length (now kinds) ⌝ }
+    ensures { λ x. ⌜ Met (now (kinds .entry)) (now (flags .entry)) (now (rows .entry)) (now (records .entry)) (now (notes .entry)) (now (rows .exit)) (now (records .exit)) (now (notes .exit)) (Job.properties (c .at) (c .at + 1) Row.Object nil) (c .rows) (c .records) x ⌝ }
+{
     let first = c.at;
     let mut here = Cursor {
         at: first + 1,
@@ -728,7 +799,11 @@ pub fn part(
     records: &mut [u32],
     notes: &mut [u8; 2048],
     c: Cursor,
-) -> Step {
+) -> Step
+    requires { ⌜ Room (now kinds) (now rows) (now records) c ⌝ }
+    requires { ⌜ c .rows < c .at ⌝ }
+    ensures { λ x. ⌜ Met (now (kinds .entry)) (now (flags .entry)) (now (rows .entry)) (now (records .entry)) (now (notes .entry)) (now (rows .exit)) (now (records .exit)) (now (notes .exit)) (if getD (now (kinds .entry)) (c .at) 0 is Dot3 then Job.spread (c .at) else Job.property (c .at)) (c .rows) (c .records) x ⌝ }
+{
     if tokens::kind_at(kinds, c.at) == kind::DOT3 {
         return spread(kinds, flags, rows, records, notes, c);
     }
@@ -743,7 +818,11 @@ pub fn property(
     records: &mut [u32],
     notes: &mut [u8; 2048],
     c: Cursor,
-) -> Step {
+) -> Step
+    requires { ⌜ Room (now kinds) (now rows) (now records) c ⌝ }
+    requires { ⌜ c .rows < c .at ⌝ }
+    ensures { λ x. ⌜ Met (now (kinds .entry)) (now (flags .entry)) (now (rows .entry)) (now (records .entry)) (now (notes .entry)) (now (rows .exit)) (now (records .exit)) (now (notes .exit)) (Job.property (c .at)) (c .rows) (c .records) x ⌝ }
+{
     let at = c.at;
     if keys::is_shorthand(kinds, at) {
         let d = leaf(rows, c, row::IDENTIFIER);
@@ -791,7 +870,11 @@ pub fn init(
     c: Cursor,
     kind: u32,
     from: usize,
-) -> Step {
+) -> Step
+    requires { ⌜ Room (now kinds) (now rows) (now records) c ⌝ }
+    requires { ⌜ NameFits (now kinds) c from ⌝ }
+    ensures { λ x. ⌜ MetInit (now (kinds .entry)) (now (flags .entry)) (now (rows .entry)) (now (records .entry)) (now (notes .entry)) (now (rows .exit)) (now (records .exit)) (now (notes .exit)) (c .at) kind from (c .rows) (c .records) x ⌝ }
+{
     let mark = c.at;
     let next = Cursor {
         at: mark + 1,
@@ -813,7 +896,10 @@ pub fn key(
     records: &mut [u32],
     notes: &mut [u8; 2048],
     c: Cursor,
-) -> Step {
+) -> Step
+    requires { ⌜ Room (now kinds) (now rows) (now records) c ⌝ }
+    ensures { λ x. ⌜ Met (now (kinds .entry)) (now (flags .entry)) (now (rows .entry)) (now (records .entry)) (now (notes .entry)) (now (rows .exit)) (now (records .exit)) (now (notes .exit)) (Job.key (c .at)) (c .rows) (c .records) x ⌝ }
+{
     let at = c.at;
     let k = tokens::kind_at(kinds, at);
     if keys::is_key(k) {
@@ -846,7 +932,10 @@ pub fn binding(
     records: &mut [u32],
     notes: &mut [u8; 2048],
     c: Cursor,
-) -> Step {
+) -> Step
+    requires { ⌜ Room (now kinds) (now rows) (now records) c ⌝ }
+    ensures { λ x. ⌜ Met (now (kinds .entry)) (now (flags .entry)) (now (rows .entry)) (now (records .entry)) (now (notes .entry)) (now (rows .exit)) (now (records .exit)) (now (notes .exit)) (Job.binding (c .at)) (c .rows) (c .records) x ⌝ }
+{
     let at = c.at;
     let k = tokens::kind_at(kinds, at);
     if tokens::is_name(k) {
@@ -867,7 +956,10 @@ pub fn element(
     records: &mut [u32],
     notes: &mut [u8; 2048],
     c: Cursor,
-) -> Step {
+) -> Step
+    requires { ⌜ Room (now kinds) (now rows) (now records) c ⌝ }
+    ensures { λ x. ⌜ Met (now (kinds .entry)) (now (flags .entry)) (now (rows .entry)) (now (records .entry)) (now (notes .entry)) (now (rows .exit)) (now (records .exit)) (now (notes .exit)) (Job.binding-element (c .at)) (c .rows) (c .records) x ⌝ }
+{
     let at = c.at;
     let got = binding(kinds, flags, rows, records, notes, c);
     let Step::Done(d) = got else {
@@ -897,7 +989,11 @@ pub fn rest(
     records: &mut [u32],
     notes: &mut [u8; 2048],
     c: Cursor,
-) -> Step {
+) -> Step
+    requires { ⌜ Room (now kinds) (now rows) (now records) c ⌝ }
+    requires { ⌜ c .at < length (now kinds) ⌝ }
+    ensures { λ x. ⌜ Met (now (kinds .entry)) (now (flags .entry)) (now (rows .entry)) (now (records .entry)) (now (notes .entry)) (now (rows .exit)) (now (records .exit)) (now (notes .exit)) (Job.binding-rest (c .at)) (c .rows) (c .records) x ⌝ }
+{
     let at = c.at;
     let next = Cursor {
         at: at + 1,
@@ -926,7 +1022,11 @@ pub fn last(
     notes: &mut [u8; 2048],
     c: Cursor,
     close: u8,
-) -> Step {
+) -> Step
+    requires { ⌜ Room (now kinds) (now rows) (now records) c ⌝ }
+    requires { ⌜ c .at < length (now kinds) ⌝ }
+    ensures { λ x. ⌜ MetClosed (now (kinds .entry)) (now (flags .entry)) (now (rows .entry)) (now (records .entry)) (now (notes .entry)) (now (rows .exit)) (now (records .exit)) (now (notes .exit)) (Job.binding-rest (c .at)) close Cause.RestLast (c .rows) (c .records) x ⌝ }
+{
     let got = rest(kinds, flags, rows, records, notes, c);
     let Step::Done(d) = got else {
         return got;
@@ -950,7 +1050,11 @@ pub fn barray(
     records: &mut [u32],
     notes: &mut [u8; 2048],
     c: Cursor,
-) -> Step {
+) -> Step
+    requires { ⌜ Room (now kinds) (now rows) (now records) c ⌝ }
+    requires { ⌜ c .at < length (now kinds) ⌝ }
+    ensures { λ x. ⌜ Met (now (kinds .entry)) (now (flags .entry)) (now (rows .entry)) (now (records .entry)) (now (notes .entry)) (now (rows .exit)) (now (records .exit)) (now (notes .exit)) (Job.binding-elements (c .at) (c .at + 1) nil) (c .rows) (c .records) x ⌝ }
+{
     let first = c.at;
     let mut here = Cursor {
         at: first + 1,
@@ -1015,7 +1119,11 @@ pub fn bobject(
     records: &mut [u32],
     notes: &mut [u8; 2048],
     c: Cursor,
-) -> Step {
+) -> Step
+    requires { ⌜ Room (now kinds) (now rows) (now records) c ⌝ }
+    requires { ⌜ c .at < length (now kinds) ⌝ }
+    ensures { λ x. ⌜ Met (now (kinds .entry)) (now (flags .entry)) (now (rows .entry)) (now (records .entry)) (now (notes .entry)) (now (rows .exit)) (now (records .exit)) (now (notes .exit)) (Job.binding-properties (c .at) (c .at + 1) nil) (c .rows) (c .records) x ⌝ }
+{
     let first = c.at;
     let mut here = Cursor {
         at: first + 1,
@@ -1079,7 +1187,11 @@ pub fn bproperty(
     records: &mut [u32],
     notes: &mut [u8; 2048],
     c: Cursor,
-) -> Step {
+) -> Step
+    requires { ⌜ Room (now kinds) (now rows) (now records) c ⌝ }
+    requires { ⌜ c .rows < c .at ⌝ }
+    ensures { λ x. ⌜ Met (now (kinds .entry)) (now (flags .entry)) (now (rows .entry)) (now (records .entry)) (now (notes .entry)) (now (rows .exit)) (now (records .exit)) (now (notes .exit)) (Job.binding-property (c .at)) (c .rows) (c .records) x ⌝ }
+{
     let at = c.at;
     if keys::is_shorthand(kinds, at) {
         let d = leaf(rows, c, row::BINDING_NAME);
