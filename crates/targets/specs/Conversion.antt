@@ -121,12 +121,17 @@ seen (node kind mark first end kids) =
       in-object = object-argument (last-of kids);
     }
 
--- the row is of a kind, and has so many kids
+-- the row is of a kind
 abbrev pub is : Seen → ℕ → Bool
 is r kind = eqb (r .kind) kind
 
-abbrev pub has : Seen → ℕ → Bool
-has r kids = eqb (r .kids) kids
+-- and has so many kids
+abbrev pub is-with : Seen → ℕ → ℕ → Bool
+is-with r kind kids = eqb (r .kind) kind and eqb (r .kids) kids
+
+-- and its last kid is a Spread
+abbrev pub is-closed : Seen → ℕ → Bool
+is-closed r kind = eqb (r .kind) kind and eqb (r .last) row.Spread
 
 -- Name, Member and Index become targets; Paren becomes TargetParen over a simple target. Directly over a literal it is 9; all else is 9.
 unfoldable pub as-simple : Seen → Change
@@ -134,16 +139,16 @@ as-simple r =
     if is r row.Identifier then keep row.TargetName []
     else if is r row.Member then keep row.TargetMember []
     else if is r row.Index then keep row.TargetIndex []
-    else if is r row.Paren and has r 1 and not (is-array-or-object (r .last)) then turn row.TargetParen [] (only simple) []
+    else if is-with r row.Paren 1 and not (is-array-or-object (r .last)) then turn row.TargetParen [] (only simple) []
     else refuse (NoTarget (r .first))
 
 -- 13.15.5 AssignmentPattern: an Array or Object literal; otherwise a simple target
 unfoldable pub as-any : Seen → Change
 as-any r =
     if is r row.Array then turn row.TargetArray [] (elements []) []
-    else if is r row.ArrayRestComma and eqb (r .last) row.Spread then turn row.TargetArray [] (elements (rest-comma (r .first) ∷ [])) []
+    else if is-closed r row.ArrayRestComma then turn row.TargetArray [] (elements (rest-comma (r .first) ∷ [])) []
     else if is r row.Object then turn row.TargetObject [] (properties []) []
-    else if is r row.ObjectRestComma and eqb (r .last) row.Spread then turn row.TargetObject [] (properties (rest-comma (r .first) ∷ [])) []
+    else if is-closed r row.ObjectRestComma then turn row.TargetObject [] (properties (rest-comma (r .first) ∷ [])) []
     else as-simple r
 
 -- Assign becomes TargetDefault; CompoundAssign too, with record 5 at its operator. The left kid is a target already.
@@ -163,22 +168,22 @@ as-element r =
 -- a last Spread is a rest. Arrays: record 3, argument, record 4.
 unfoldable pub as-last-element : List Record → Seen → Change
 as-last-element comma r =
-    if is r row.Spread and has r 1 then turn row.TargetRest (r .in-array) (only any) comma
+    if is-with r row.Spread 1 then turn row.TargetRest (r .in-array) (only any) comma
     else as-element r
 
 -- a shorthand, a shorthand with an initializer, or a key with its value; a Spread that is not last is 10
 unfoldable pub as-property : Seen → Change
 as-property r =
-    if is r row.Shorthand and has r 1 then turn row.TargetShorthand [] (only name) []
-    else if is r row.ShorthandInit and has r 2 then turn row.TargetShorthandInit [] name-and-initializer []
-    else if is r row.Property and has r 2 then turn row.TargetProperty [] key-and-value []
+    if is-with r row.Shorthand 1 then turn row.TargetShorthand [] (only name) []
+    else if is-with r row.ShorthandInit 2 then turn row.TargetShorthandInit [] name-and-initializer []
+    else if is-with r row.Property 2 then turn row.TargetProperty [] key-and-value []
     else if is r row.Spread then refuse (SpreadNotLast (r .first))
     else refuse (NoTarget (r .first))
 
 -- Objects: record 3, record 4, argument.
 unfoldable pub as-last-property : List Record → Seen → Change
 as-last-property comma r =
-    if is r row.Spread and has r 1 then turn row.TargetRest (r .in-object ++ comma) (only any) []
+    if is-with r row.Spread 1 then turn row.TargetRest (r .in-object ++ comma) (only any) []
     else as-property r
 
 unfoldable pub as-name : Seen → Change

@@ -2,3 +2,4 @@ pub mod Conversion
 pub mod TargetRule
 pub mod RuleHolds
 pub mod Examples
+pub mod Meaning

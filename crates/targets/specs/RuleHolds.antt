@@ -307,10 +307,10 @@ rule-simple k m f e kids s =
     by-test (eqb k row.Identifier) s (λ is _. rw (eqb-true k _ is) identifier)
     (λ _ s. by-test (eqb k row.Member) s (λ is _. rw (eqb-true k _ is) member)
     (λ _ s. by-test (eqb k row.Index) s (λ is _. rw (eqb-true k _ is) index)
-    (λ _ s. by-test (eqb k row.Paren and (eqb (count kids) 1 and not (is-array-or-object (kind-of (last-of kids))))) s
+    (λ _ s. by-test ((eqb k row.Paren and eqb (count kids) 1) and not (is-array-or-object (kind-of (last-of kids)))) s
     (λ is s.
-    let a = both-true (eqb k row.Paren) _ is in
-    let q = one-kid kids (both-true (eqb (count kids) 1) _ (a .1) .0) in
+    let a = both-true (eqb k row.Paren) _ (both-true (eqb k row.Paren and eqb (count kids) 1) _ is .0) in
+    let q = one-kid kids (a .1) in
     rw (eqb-true k _ (a .0), q .1) (parenthesized (of-one kids (q .0) (only Role.simple) (q .1) (gone s .2))))
     (λ _ s. absurd (nothing s)))))
 
