@@ -3,3 +3,5 @@ pub mod TargetRule
 pub mod RuleHolds
 pub mod Examples
 pub mod Meaning
+pub mod Potential
+pub mod Post

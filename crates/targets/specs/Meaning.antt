@@ -1,6 +1,6 @@
 -- What the code's own types say: a note is no record or one, a role and a plan are those of the definition.
 -- Assumes nothing: these are definitions.
-use Prim.Native.Nat.{ℕ}
+use Prim.Native.Nat.{ℕ, _+_}
 use mathlib.Core.List.{List, [], _∷_, _++_}
 use lib.Dec.{eqb}
 use lib.ListN.{length}
@@ -69,3 +69,9 @@ plan (Turn c) = change c
 abbrev pub found : {A : Type 0} → Outcome A → Conversion
 found (turned a records) = Turned (length records)
 found (refused cause) = Refused cause
+
+-- what is found of a row and of the rows after it
+abbrev pub both : Conversion → Conversion → Conversion
+both (Refused cause) rest = Refused cause
+both (Turned n) (Refused cause) = Refused cause
+both (Turned n) (Turned m) = Turned (n + m)

@@ -1,13 +1,15 @@
 // Conversion of what was read as an expression to an assignment target (document 01, "Conversion").
+ghost use mathlib.Core.Path.{_≡_};
+ghost use lib.ListN.{length};
+ghost use Rattle.targets.specs.Meaning as means;
+ghost use Rattle.targets.specs.Post.{Rooted, Looked, Judged, Sums, NoteFits, Written, Ready, TurnedRow, Room, RowConverted, aim};
+
 pub mod role;
 
-use role::Change;
-use role::Kids;
 use role::Note;
 use role::Plan;
 use role::Role;
 use role::Seen;
-use rows::row;
 use rows::row_word;
 use rows::set_kind;
 use tokens::cause::Cause;
@@ -18,17 +20,15 @@ pub enum Conversion {
     Refused(Cause),
 }
 
-// A word of a row, as a place or a number of rows.
-fn word_at(rows: &[u32], n: usize, word: usize) -> usize {
-    row_word(rows, n, word) as usize
-}
-
 // What conversion looks at in a row.
-fn look(rows: &[u32], root: usize) -> Seen {
+fn look(rows: &[u32], root: usize) -> Seen
+    requires { ⌜ Rooted (now rows) root ⌝ }
+    ensures { λ r. ⌜ Looked (now (rows .entry)) root r ⌝ }
+{
     let kind = row_word(rows, root, 0);
-    let mark = word_at(rows, root, 1);
-    let first = word_at(rows, root, 2);
-    let kids = word_at(rows, root, 4);
+    let mark = row_word(rows, root, 1);
+    let first = row_word(rows, root, 2);
+    let kids = row_word(rows, root, 4);
     if kids == 0 {
         return Seen {
             kind,
@@ -40,7 +40,7 @@ fn look(rows: &[u32], root: usize) -> Seen {
         };
     }
     let last = row_word(rows, root - 1, 0);
-    let begins = word_at(rows, root - 1, 2);
+    let begins = row_word(rows, root - 1, 2);
     Seen {
         kind,
         mark,
@@ -52,7 +52,10 @@ fn look(rows: &[u32], root: usize) -> Seen {
 }
 
 // What comes of a row and of the rows after it: the first refusal, or all records.
-fn both(one: Conversion, rest: Conversion) -> Conversion {
+fn both(one: Conversion, rest: Conversion) -> Conversion
+    requires { ⌜ Sums one rest ⌝ }
+    ensures { λ r. ⌜ r ≡ means.both one rest ⌝ }
+{
     match one {
         Conversion::Refused(cause) => Conversion::Refused(cause),
         Conversion::Turned(n) => match rest {
@@ -63,21 +66,26 @@ fn both(one: Conversion, rest: Conversion) -> Conversion {
 }
 
 // Whether the row can become what its role asks, and with how many records. It changes nothing.
-fn judge(rows: &[u32], root: usize, role: Role) -> Conversion {
-    let plan = role::plan_of(role, look(rows, root));
+fn judge(rows: &[u32], root: usize, role: Role) -> Conversion
+    requires { ⌜ Rooted (now rows) root ⌝ }
+    ensures { λ r. ⌜ Judged (now (rows .entry)) root (means.role role) r ⌝ }
+{
+    let seen = look(rows, root);
+    let plan = role::plan_of(role, seen);
     match plan {
         Plan::Refuse(cause) => Conversion::Refused(cause),
         Plan::Keep(_, note) => Conversion::Turned(role::note_count(note)),
         Plan::Turn(change) => {
-            let kids = word_at(rows, root, 4);
+            let kids = role::wide(seen.kids);
             let roles = change.kids;
             let mut end = root;
             let mut after = 0;
             let mut found = Conversion::Turned(role::notes_count(change));
             while after < kids {
+                let size = role::wide(row_word(rows, end - 1, 5));
                 let one = judge(rows, end - 1, role::kid_role(roles, after));
                 found = both(one, found);
-                end -= word_at(rows, end - 1, 5);
+                end -= size;
                 after += 1;
             }
             found
@@ -85,22 +93,29 @@ fn judge(rows: &[u32], root: usize, role: Role) -> Conversion {
     }
 }
 
-// Writes a record, if there is one, before the record `end`, and returns its place.
-fn write_note(records: &mut [u32], end: usize, note: Note) -> usize {
+// Writes a record, if there is one, before the record `end`, and returns where it stands.
+fn write_note(records: &mut [u32], end: usize, note: Note) -> usize
+    requires { ⌜ NoteFits (length (now records)) end note ⌝ }
+    ensures { λ r. ⌜ Written (now (records .entry)) end note (now (records .exit)) r ⌝ }
+{
     match note {
         Note::Nothing => end,
         Note::Says(number, place) => {
-            let i = 2 * (end - 1);
-            records[i] = number;
-            records[i + 1] = place as u32;
-            end - 1
+            let start = end - 1;
+            records[2 * start] = number;
+            records[2 * start + 1] = place;
+            start
         }
     }
 }
 
 // Makes a row that was judged fine what its role asks, and writes its records before the record `end`; returns where they begin.
-fn turn(rows: &mut [u32], root: usize, role: Role, records: &mut [u32], end: usize) -> usize {
-    let plan = role::plan_of(role, look(rows, root));
+fn turn(rows: &mut [u32], root: usize, role: Role, records: &mut [u32], end: usize) -> usize
+    requires { ⌜ Ready (now rows) root (means.role role) (length (now records)) end ⌝ }
+    ensures { λ r. ⌜ TurnedRow (now (rows .entry)) (now (records .entry)) root (means.role role) end (now (rows .exit)) (now (records .exit)) r ⌝ }
+{
+    let seen = look(rows, root);
+    let plan = role::plan_of(role, seen);
     match plan {
         Plan::Refuse(_) => end,
         Plan::Keep(kind, note) => {
@@ -108,22 +123,22 @@ fn turn(rows: &mut [u32], root: usize, role: Role, records: &mut [u32], end: usi
             write_note(records, end, note)
         }
         Plan::Turn(change) => {
-            let kids = word_at(rows, root, 4);
+            let kids = role::wide(seen.kids);
             let roles = change.kids;
             let last = change.after;
-            let mut top = write_note(records, end, last);
+            let mut start = write_note(records, end, last);
             let mut stop = root;
             let mut after = 0;
             while after < kids {
-                let size = word_at(rows, stop - 1, 5);
-                top = turn(rows, stop - 1, role::kid_role(roles, after), records, top);
+                let size = role::wide(row_word(rows, stop - 1, 5));
+                start = turn(rows, stop - 1, role::kid_role(roles, after), records, start);
                 stop -= size;
                 after += 1;
             }
             set_kind(rows, root, change.kind);
             let then = change.then;
+            let middle = write_note(records, start, then);
             let before = change.before;
-            let middle = write_note(records, top, then);
             write_note(records, middle, before)
         }
     }
@@ -136,7 +151,10 @@ pub fn convert_row(
     simple: bool,
     records: &mut [u32],
     used: usize,
-) -> Conversion {
+) -> Conversion
+    requires { ⌜ Room (now rows) root (length (now records)) used ⌝ }
+    ensures { λ r. ⌜ RowConverted (now (rows .entry)) (now (records .entry)) root (aim simple) used (now (rows .exit)) (now (records .exit)) r ⌝ }
+{
     let role = if simple { Role::Simple } else { Role::Any };
     let found = judge(rows, root, role);
     match found {

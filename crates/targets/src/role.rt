@@ -3,6 +3,7 @@ ghost use mathlib.Core.Path.{_≡_};
 ghost use mathlib.Core.Bool.{Bool};
 ghost use mathlib.Core.List.{List, [], _++_};
 ghost use lib.ListN.{length};
+ghost use Rattle.tokens.specs.declared.cause.Cause.the-variants.{Target as NoTarget, Spread as SpreadNotLast};
 ghost use Rattle.targets.specs.Conversion as def;
 ghost use Rattle.targets.specs.Meaning as means;
 use rows::row;
@@ -11,7 +12,7 @@ use tokens::cause::Cause;
 // A record, number and place, or none.
 pub enum Note {
     Nothing,
-    Says(u32, usize),
+    Says(u32, u32),
 }
 
 // What a row is to become.
@@ -44,14 +45,15 @@ pub enum Kids {
     NameAndInitializer,
 }
 
-// What conversion looks at in a row: the last kid is 0 where there is none.
+// What conversion looks at in a row: three of its words, how many kids it has, and the last kid's kind and first token (0 where
+// there is none).
 pub struct Seen {
     pub kind: u32,
-    pub mark: usize,
-    pub first: usize,
-    pub kids: usize,
+    pub mark: u32,
+    pub first: u32,
+    pub kids: u32,
     pub last: u32,
-    pub begins: usize,
+    pub begins: u32,
 }
 
 // Another kind over kids that are converted, with the records before theirs and after theirs.
@@ -69,6 +71,13 @@ pub enum Plan {
     // another kind over the same kids
     Keep(u32, Note),
     Turn(Change),
+}
+
+// A word as a place or a number of rows.
+pub fn wide(x: u32) -> usize
+    ensures { λ r. ⌜ r ≡ x ⌝ }
+{
+    x as usize
 }
 
 // Another kind over the same kids.
@@ -91,6 +100,20 @@ fn over(kind: u32, kids: Kids) -> Plan
     })
 }
 
+// 9, at the row's first token.
+fn no_target(seen: Seen) -> Plan
+    ensures { λ r. ⌜ means.plan r ≡ def.refuse (NoTarget (seen .first)) ⌝ }
+{
+    Plan::Refuse(Cause::Target(wide(seen.first)))
+}
+
+// 10, at the row's first token.
+fn not_last(seen: Seen) -> Plan
+    ensures { λ r. ⌜ means.plan r ≡ def.refuse (SpreadNotLast (seen .first)) ⌝ }
+{
+    Plan::Refuse(Cause::Spread(wide(seen.first)))
+}
+
 // An Array or Object, with or without a comma after its closing spread.
 fn is_array_or_object(kind: u32) -> bool
     ensures { λ r. ⌜ r ≡ def.is-array-or-object kind ⌝ }
@@ -99,7 +122,7 @@ fn is_array_or_object(kind: u32) -> bool
 }
 
 // The row is of a kind and has so many kids.
-fn is_with(seen: Seen, kind: u32, kids: usize) -> bool
+fn is_with(seen: Seen, kind: u32, kids: u32) -> bool
     ensures { λ r. ⌜ r ≡ def.is-with (means.seen seen) kind kids ⌝ }
 {
     seen.kind == kind && seen.kids == kids
@@ -127,11 +150,11 @@ fn as_simple(seen: Seen) -> Plan
     }
     if is_with(seen, row::PAREN, 1) {
         if is_array_or_object(seen.last) {
-            return Plan::Refuse(Cause::Target(seen.first));
+            return no_target(seen);
         }
         return over(row::TARGET_PAREN, Kids::Only(Role::Simple));
     }
-    Plan::Refuse(Cause::Target(seen.first))
+    no_target(seen)
 }
 
 // An Array or Object; otherwise a simple target.
@@ -177,7 +200,7 @@ fn as_element(seen: Seen) -> Plan
         return keep(row::HOLE);
     }
     if seen.kind == row::SPREAD {
-        return Plan::Refuse(Cause::Spread(seen.first));
+        return not_last(seen);
     }
     as_value(seen)
 }
@@ -212,9 +235,9 @@ fn as_property(seen: Seen) -> Plan
         return over(row::TARGET_PROPERTY, Kids::KeyAndValue);
     }
     if seen.kind == row::SPREAD {
-        return Plan::Refuse(Cause::Spread(seen.first));
+        return not_last(seen);
     }
-    Plan::Refuse(Cause::Target(seen.first))
+    no_target(seen)
 }
 
 // Record 3, where the argument of an object's rest is an Array or Object.
@@ -251,7 +274,7 @@ fn as_name(seen: Seen) -> Plan
     if seen.kind == row::IDENTIFIER {
         return keep(row::TARGET_NAME);
     }
-    Plan::Refuse(Cause::Target(seen.first))
+    no_target(seen)
 }
 
 // What a row becomes in a role.

@@ -15,9 +15,13 @@ returns : tie.Need-returns
 unfolding as-element
 returns c = rw (eq-eqb _ _ (c .before .if1 .taken)) (c .keep .ensures)
 
+not-last-requires : tie.Need-not-last-requires
+not-last-requires c κs = search needs
+
 returns-2 : tie.Need-returns-2
 unfolding as-element
-returns-2 c = rw (ne-eqb _ _ (c .before .before .if1 .left), eq-eqb _ _ (c .if2 .taken))
+returns-2 c =
+    rw (ne-eqb _ _ (c .before .before .before .if1 .left), eq-eqb _ _ (c .before .if2 .taken)) (c .not-last .ensures)
 
 as-value-requires : tie.Need-as-value-requires
 as-value-requires c κs = search needs
@@ -28,4 +32,4 @@ returns-3 c =
     rw (ne-eqb _ _ (c .before .before .before .if1 .left), ne-eqb _ _ (c .before .if2 .left)) (c .as-value .ensures)
 
 pub as-element-spec : {M : Type 1} → statement M
-as-element-spec = tie.close (tie.spec keep-requires returns returns-2 as-value-requires returns-3)
+as-element-spec = tie.close (tie.spec keep-requires returns not-last-requires returns-2 as-value-requires returns-3)

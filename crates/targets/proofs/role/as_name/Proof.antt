@@ -15,9 +15,12 @@ returns : tie.Need-returns
 unfolding as-name
 returns c = rw (eq-eqb _ _ (c .before .if1 .taken)) (c .keep .ensures)
 
+no-target-requires : tie.Need-no-target-requires
+no-target-requires c κs = search needs
+
 returns-2 : tie.Need-returns-2
 unfolding as-name
-returns-2 c = rw (ne-eqb _ _ (c .if1 .left))
+returns-2 c = rw (ne-eqb _ _ (c .before .if1 .left)) (c .no-target .ensures)
 
 pub as-name-spec : {M : Type 1} → statement M
-as-name-spec = tie.close (tie.spec keep-requires returns returns-2)
+as-name-spec = tie.close (tie.spec keep-requires returns no-target-requires returns-2)

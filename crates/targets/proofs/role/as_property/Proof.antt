@@ -40,15 +40,21 @@ unfolding as-property
 returns-3 c =
     rw (sym (c .before .before .before .before .before .before .is-with .ensures) ∙ c .before .before .before .before .before .if1 .left, sym (c .before .before .before .before .is-with2 .ensures) ∙ c .before .before .before .if2 .left, sym (c .before .before .is-with3 .ensures) ∙ c .before .if3 .taken) (c .over3 .ensures)
 
+not-last-requires : tie.Need-not-last-requires
+not-last-requires c κs = search needs
+
 returns-4 : tie.Need-returns-4
 unfolding as-property
 returns-4 c =
-    rw (sym (c .before .before .before .before .before .before .before .is-with .ensures) ∙ c .before .before .before .before .before .before .if1 .left, sym (c .before .before .before .before .before .is-with2 .ensures) ∙ c .before .before .before .before .if2 .left, sym (c .before .before .before .is-with3 .ensures) ∙ c .before .before .if3 .left, eq-eqb _ _ (c .if4 .taken))
+    rw (sym (c .before .before .before .before .before .before .before .before .is-with .ensures) ∙ c .before .before .before .before .before .before .before .if1 .left, sym (c .before .before .before .before .before .before .is-with2 .ensures) ∙ c .before .before .before .before .before .if2 .left, sym (c .before .before .before .before .is-with3 .ensures) ∙ c .before .before .before .if3 .left, eq-eqb _ _ (c .before .if4 .taken)) (c .not-last .ensures)
+
+no-target-requires : tie.Need-no-target-requires
+no-target-requires c κs = search needs
 
 returns-5 : tie.Need-returns-5
 unfolding as-property
 returns-5 c =
-    rw (sym (c .before .before .before .before .before .before .before .is-with .ensures) ∙ c .before .before .before .before .before .before .if1 .left, sym (c .before .before .before .before .before .is-with2 .ensures) ∙ c .before .before .before .before .if2 .left, sym (c .before .before .before .is-with3 .ensures) ∙ c .before .before .if3 .left, ne-eqb _ _ (c .if4 .left))
+    rw (sym (c .before .before .before .before .before .before .before .before .is-with .ensures) ∙ c .before .before .before .before .before .before .before .if1 .left, sym (c .before .before .before .before .before .before .is-with2 .ensures) ∙ c .before .before .before .before .before .if2 .left, sym (c .before .before .before .before .is-with3 .ensures) ∙ c .before .before .before .if3 .left, ne-eqb _ _ (c .before .if4 .left)) (c .no-target .ensures)
 
 pub as-property-spec : {M : Type 1} → statement M
-as-property-spec = tie.close (tie.spec is-with-requires over-requires returns is-with-requires-2 over-requires-2 returns-2 is-with-requires-3 over-requires-3 returns-3 returns-4 returns-5)
+as-property-spec = tie.close (tie.spec is-with-requires over-requires returns is-with-requires-2 over-requires-2 returns-2 is-with-requires-3 over-requires-3 returns-3 not-last-requires returns-4 no-target-requires returns-5)

@@ -36,10 +36,13 @@ is-with-requires c κs = search needs
 is-array-or-object-requires : tie.Need-is-array-or-object-requires
 is-array-or-object-requires c κs = search needs
 
+no-target-requires : tie.Need-no-target-requires
+no-target-requires c κs = search needs
+
 returns-4 : tie.Need-returns-4
 unfolding as-simple
 returns-4 c =
-    rw (ne-eqb _ _ (c .before .before .before .before .before .before .before .before .if1 .left), ne-eqb _ _ (c .before .before .before .before .before .before .if2 .left), ne-eqb _ _ (c .before .before .before .before .if3 .left), sym (c .before .before .before .is-with .ensures) ∙ c .before .before .if4 .taken, sym (c .before .is-array-or-object .ensures) ∙ c .if5 .taken)
+    rw (ne-eqb _ _ (c .before .before .before .before .before .before .before .before .before .if1 .left), ne-eqb _ _ (c .before .before .before .before .before .before .before .if2 .left), ne-eqb _ _ (c .before .before .before .before .before .if3 .left), sym (c .before .before .before .before .is-with .ensures) ∙ c .before .before .before .if4 .taken, sym (c .before .before .is-array-or-object .ensures) ∙ c .before .if5 .taken) (c .no-target .ensures)
 
 over-requires : tie.Need-over-requires
 over-requires c κs = search needs
@@ -49,10 +52,13 @@ unfolding as-simple
 returns-5 c =
     rw (ne-eqb _ _ (c .before .before .before .before .before .before .before .before .before .if1 .left), ne-eqb _ _ (c .before .before .before .before .before .before .before .if2 .left), ne-eqb _ _ (c .before .before .before .before .before .if3 .left), sym (c .before .before .before .before .is-with .ensures) ∙ c .before .before .before .if4 .taken, sym (c .before .before .is-array-or-object .ensures) ∙ c .before .if5 .left) (c .over .ensures)
 
+no-target-requires-2 : tie.Need-no-target-requires-2
+no-target-requires-2 c κs = search needs
+
 returns-6 : tie.Need-returns-6
 unfolding as-simple
 returns-6 c =
-    rw (ne-eqb _ _ (c .before .before .before .before .before .before .if1 .left), ne-eqb _ _ (c .before .before .before .before .if2 .left), ne-eqb _ _ (c .before .before .if3 .left), sym (c .before .is-with .ensures) ∙ c .if4 .left)
+    rw (ne-eqb _ _ (c .before .before .before .before .before .before .before .if1 .left), ne-eqb _ _ (c .before .before .before .before .before .if2 .left), ne-eqb _ _ (c .before .before .before .if3 .left), sym (c .before .before .is-with .ensures) ∙ c .before .if4 .left) (c .no-target2 .ensures)
 
 pub as-simple-spec : {M : Type 1} → statement M
-as-simple-spec = tie.close (tie.spec keep-requires returns keep-requires-2 returns-2 keep-requires-3 returns-3 is-with-requires is-array-or-object-requires returns-4 over-requires returns-5 returns-6)
+as-simple-spec = tie.close (tie.spec keep-requires returns keep-requires-2 returns-2 keep-requires-3 returns-3 is-with-requires is-array-or-object-requires no-target-requires returns-4 over-requires returns-5 no-target-requires-2 returns-6)
