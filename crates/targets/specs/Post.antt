@@ -19,7 +19,7 @@ use Rattle.targets.specs.declared.role.Seen.{Seen}
 use Rattle.targets.specs.declared.role.Note.{Note}
 
 -- a row of the words is the root of a tree: the words before its rows, the tree, and the words after
-pub record Rooted (rows : List ℕ) (root : ℕ) : Type 0 where
+pub record Subtree (rows : List ℕ) (root : ℕ) : Type 0 where
   pub before : List ℕ
   pub tree : Tree
   pub after : List ℕ
@@ -40,11 +40,11 @@ near (node kind mark first end kids) =
     }
 
 pub record Looked (rows : List ℕ) (root : ℕ) (r : Seen) : Type 0 where
-  pub is : (h : Rooted rows root) → means.seen r ≡ near (h .tree)
+  pub is : (h : Subtree rows root) → means.seen r ≡ near (h .tree)
 
 -- what the conversion of a row will give
 pub record Judged (rows : List ℕ) (root : ℕ) (role : def.Role) (r : Conversion) : Type 0 where
-  pub is : (h : Rooted rows root) → r ≡ means.found (convert-as (h .tree) role)
+  pub is : (h : Subtree rows root) → r ≡ means.found (convert-as (h .tree) role)
 
 -- so many records can be added
 pub data Sums : Conversion → Conversion → Type 0 where
@@ -67,7 +67,7 @@ pub record Written (r₀ : List ℕ) (end : ℕ) (note : Note) (r : List ℕ) (s
 
 -- a row can be converted, and its records have room before the record `end`
 pub record Ready (rows : List ℕ) (root : ℕ) (role : def.Role) (words end : ℕ) : Type 0 where
-  pub rooted : Rooted rows root
+  pub rooted : Subtree rows root
   pub made : Tree
   pub records : List Record
   pub accepted : convert-as (rooted .tree) role ≡ turned made records
@@ -81,7 +81,7 @@ pub record Made (before after r₀ : List ℕ) (t : Tree) (start : ℕ) (records
 
 -- the row was converted, its records before the record `end`
 pub record TurnedRow (rows₀ r₀ : List ℕ) (root : ℕ) (role : def.Role) (end : ℕ) (rows r : List ℕ) (start : ℕ) : Type 0 where
-  pub is : (h : Rooted rows₀ root) (t : Tree) (records : List Record) → convert-as (h .tree) role ≡ turned t records
+  pub is : (h : Subtree rows₀ root) (t : Tree) (records : List Record) → convert-as (h .tree) role ≡ turned t records
       → (start + length records ≡ end) × Made (h .before) (h .after) r₀ t start records rows r
 
 -- any target, or a simple one
@@ -91,11 +91,11 @@ aim false = def.any
 
 -- the row is the root of a tree, and there is room for all that conversion could record of it
 pub record Room (rows : List ℕ) (root words used : ℕ) : Type 0 where
-  pub rooted : Rooted rows root
+  pub rooted : Subtree rows root
   pub room : 2 * (used + potential (rooted .tree)) ≤ words
 
 -- the row was converted and its records added, or nothing was changed
 pub record RowConverted (rows₀ r₀ : List ℕ) (root : ℕ) (role : def.Role) (used : ℕ) (rows r : List ℕ) (x : Conversion) : Type 0 where
-  pub done : (h : Rooted rows₀ root) (t : Tree) (records : List Record) → convert-as (h .tree) role ≡ turned t records
+  pub done : (h : Subtree rows₀ root) (t : Tree) (records : List Record) → convert-as (h .tree) role ≡ turned t records
       → (x ≡ Turned (length records)) × Made (h .before) (h .after) r₀ t used records rows r
-  pub fail : (h : Rooted rows₀ root) (cause : Cause) → convert-as (h .tree) role ≡ refused cause → (x ≡ Refused cause) × (rows ≡ rows₀) × (r ≡ r₀)
+  pub fail : (h : Subtree rows₀ root) (cause : Cause) → convert-as (h .tree) role ≡ refused cause → (x ≡ Refused cause) × (rows ≡ rows₀) × (r ≡ r₀)

@@ -2,7 +2,7 @@
 ghost use mathlib.Core.Path.{_≡_};
 ghost use lib.ListN.{length};
 ghost use Rattle.targets.specs.Meaning as means;
-ghost use Rattle.targets.specs.Post.{Rooted, Looked, Judged, Sums, NoteFits, Written, Ready, TurnedRow, Room, RowConverted, aim};
+ghost use Rattle.targets.specs.Post.{Subtree, Looked, Judged, Sums, NoteFits, Written, Ready, TurnedRow, Room, RowConverted, aim};
 
 pub mod role;
 
@@ -22,7 +22,7 @@ pub enum Conversion {
 
 // What conversion looks at in a row.
 fn look(rows: &[u32], root: usize) -> Seen
-    requires { ⌜ Rooted (now rows) root ⌝ }
+    requires { ⌜ Subtree (now rows) root ⌝ }
     ensures { λ r. ⌜ Looked (now (rows .entry)) root r ⌝ }
 {
     let kind = row_word(rows, root, 0);
@@ -67,7 +67,7 @@ fn both(one: Conversion, rest: Conversion) -> Conversion
 
 // Whether the row can become what its role asks, and with how many records. It changes nothing.
 fn judge(rows: &[u32], root: usize, role: Role) -> Conversion
-    requires { ⌜ Rooted (now rows) root ⌝ }
+    requires { ⌜ Subtree (now rows) root ⌝ }
     ensures { λ r. ⌜ Judged (now (rows .entry)) root (means.role role) r ⌝ }
 {
     let seen = look(rows, root);

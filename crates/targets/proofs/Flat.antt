@@ -1,0 +1,1 @@
+use Rattle.rows.proofs.Rows.{sizes-join}
