@@ -4,3 +4,4 @@ pub mod Record
 pub mod Shape
 pub mod Words
 pub mod Post
+pub mod Part
