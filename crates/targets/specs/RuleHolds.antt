@@ -237,10 +237,10 @@ data Step (kids : Forest) : Change → Type 0 where
   kept : {kind : ℕ} {records : List Record} → records ≡ [] → Step kids (keep kind records)
   goes : {kind : ℕ} {before : List Record} {each : ℕ → Role} {after : List Record} → before ≡ [] → after ≡ [] → RuledKids each kids → Step kids (turn kind before each after)
 
-refused-turned : {A : Type 0} {c : Cause} {a : A} {rs : List Record} → _≡_ {A = Outcome A} (refused c) (turned a rs) → ⊥
+pub refused-turned : {A : Type 0} {c : Cause} {a : A} {rs : List Record} → _≡_ {A = Outcome A} (refused c) (turned a rs) → ⊥
 refused-turned e = let z : _≡_ {A = ℕ} 0 1 = cc in omega arith
 
-append-nil : (xs ys : List Record) → xs ++ ys ≡ [] → (xs ≡ []) × (ys ≡ [])
+pub append-nil : (xs ys : List Record) → xs ++ ys ≡ [] → (xs ≡ []) × (ys ≡ [])
 append-nil [] ys e = (refl, e)
 append-nil (x ∷ xs) ys e = let z : _≡_ {A = ℕ} 0 1 = cc in absurd (omega arith)
 
@@ -257,22 +257,22 @@ step (turn k before each after) kind mark first end kids (turned ts′ rs) t′ 
     goes (b .0) (a .1) (h ts′ (ap (turned ts′) (b .1)))
 
 -- a test, gone through
-by-test : {kids : Forest} {R : Type 0} (b : Bool) {x y : Change} → Step kids (if b then x else y) → (b ≡ true → Step kids x → R) → (b ≡ false → Step kids y → R) → R
-by-test true s f g = f refl s
-by-test false s f g = g refl s
+pub by-test : {A R : Type 0} (P : A → Type 0) (b : Bool) {x y : A} → P (if b then x else y) → (b ≡ true → P x → R) → (b ≡ false → P y → R) → R
+by-test P true s f g = f refl s
+by-test P false s f g = g refl s
 
-both-true : (a b : Bool) → a and b ≡ true → (a ≡ true) × (b ≡ true)
+pub both-true : (a b : Bool) → a and b ≡ true → (a ≡ true) × (b ≡ true)
 both-true true b e = (refl, e)
 both-true false b e = let z : _≡_ {A = ℕ} 0 1 = cc in absurd (omega arith)
 
 -- exactly one kid, exactly two kids
-one-kid : (kids : Forest) → eqb (count kids) 1 ≡ true → (t : Tree) × (kids ≡ one t)
+pub one-kid : (kids : Forest) → eqb (count kids) 1 ≡ true → (t : Tree) × (kids ≡ one t)
 unfolding count
 one-kid nil e = let z : _≡_ {A = ℕ} 0 1 = cc in absurd (omega arith)
 one-kid (cons t nil) e = (t, refl)
 one-kid (cons t (cons u us)) e = let z = eqb-true (count us + 1 + 1) 1 e in absurd (omega arith)
 
-two-kids : (kids : Forest) → eqb (count kids) 2 ≡ true → (t : Tree) × (u : Tree) × (kids ≡ cons t (one u))
+pub two-kids : (kids : Forest) → eqb (count kids) 2 ≡ true → (t : Tree) × (u : Tree) × (kids ≡ cons t (one u))
 unfolding count
 two-kids nil e = let z : _≡_ {A = ℕ} 0 1 = cc in absurd (omega arith)
 two-kids (cons t nil) e = let z : _≡_ {A = ℕ} 0 1 = cc in absurd (omega arith)
@@ -304,10 +304,10 @@ same-node m f e p q = cc
 rule-simple : (k m f e : ℕ) (kids : Forest) → Step kids (as-simple (seen (node k m f e kids))) → Simple (node k m f e kids)
 unfolding as-simple seen
 rule-simple k m f e kids s =
-    by-test (eqb k row.Identifier) s (λ is _. rw (eqb-true k _ is) identifier)
-    (λ _ s. by-test (eqb k row.Member) s (λ is _. rw (eqb-true k _ is) member)
-    (λ _ s. by-test (eqb k row.Index) s (λ is _. rw (eqb-true k _ is) index)
-    (λ _ s. by-test ((eqb k row.Paren and eqb (count kids) 1) and not (is-array-or-object (kind-of (last-of kids)))) s
+    by-test (Step kids) (eqb k row.Identifier) s (λ is _. rw (eqb-true k _ is) identifier)
+    (λ _ s. by-test (Step kids) (eqb k row.Member) s (λ is _. rw (eqb-true k _ is) member)
+    (λ _ s. by-test (Step kids) (eqb k row.Index) s (λ is _. rw (eqb-true k _ is) index)
+    (λ _ s. by-test (Step kids) ((eqb k row.Paren and eqb (count kids) 1) and not (is-array-or-object (kind-of (last-of kids)))) s
     (λ is s.
     let a = both-true (eqb k row.Paren) _ (both-true (eqb k row.Paren and eqb (count kids) 1) _ is .0) in
     let q = one-kid kids (a .1) in
@@ -356,7 +356,7 @@ no-rest-comma-property (cons t nil) r e k = last-no-spread property-no-spread (k
 no-rest-comma-property (cons t (cons u us)) r e k = no-rest-comma-property (cons u us) r e (k .1)
 
 -- another kid follows
-follows : (n : ℕ) → eqb (n + 1) 0 ≡ false
+pub follows : (n : ℕ) → eqb (n + 1) 0 ≡ false
 follows n = ne-eqb (n + 1) 0 (λ e. omega arith)
 
 next-slot : (t : Tree) {ts : Forest} → Slot t → Elements ts → Elements (cons t ts)
@@ -387,31 +387,31 @@ properties-ruled (cons t (cons u us)) k = next-property (rw (follows (count us))
 rule-any : (k m f e : ℕ) (kids : Forest) → Step kids (as-any (seen (node k m f e kids))) → Target (node k m f e kids)
 unfolding as-any seen
 rule-any k m f e kids s =
-    by-test (eqb k row.Array) s (λ is s. rw (eqb-true k _ is) (array (elements-ruled kids (gone s .2))))
-    (λ _ s. by-test (eqb k row.ArrayRestComma and ends-in-spread kids) s
+    by-test (Step kids) (eqb k row.Array) s (λ is s. rw (eqb-true k _ is) (array (elements-ruled kids (gone s .2))))
+    (λ _ s. by-test (Step kids) (eqb k row.ArrayRestComma and ends-in-spread kids) s
     (λ is s. absurd (no-rest-comma kids _ (both-true (eqb k row.ArrayRestComma) _ is .1) (gone s .2)))
-    (λ _ s. by-test (eqb k row.Object) s (λ is s. rw (eqb-true k _ is) (object (properties-ruled kids (gone s .2))))
-    (λ _ s. by-test (eqb k row.ObjectRestComma and ends-in-spread kids) s
+    (λ _ s. by-test (Step kids) (eqb k row.Object) s (λ is s. rw (eqb-true k _ is) (object (properties-ruled kids (gone s .2))))
+    (λ _ s. by-test (Step kids) (eqb k row.ObjectRestComma and ends-in-spread kids) s
     (λ is s. absurd (no-rest-comma-property kids _ (both-true (eqb k row.ObjectRestComma) _ is .1) (gone s .2)))
     (λ _ s. simple (rule-simple k m f e kids s)))))
 
 rule-value : (k m f e : ℕ) (kids : Forest) → Step kids (as-value (seen (node k m f e kids))) → Element (node k m f e kids)
 unfolding as-value seen
 rule-value k m f e kids s =
-    by-test (eqb k row.Assign) s (λ is _. rw (eqb-true k _ is) initialized)
-    (λ _ s. by-test (eqb k row.CompoundAssign) s (λ _ s. let z : _≡_ {A = ℕ} 0 1 = cc (kept-none s) in absurd (omega arith))
+    by-test (Step kids) (eqb k row.Assign) s (λ is _. rw (eqb-true k _ is) initialized)
+    (λ _ s. by-test (Step kids) (eqb k row.CompoundAssign) s (λ _ s. let z : _≡_ {A = ℕ} 0 1 = cc (kept-none s) in absurd (omega arith))
     (λ _ s. bare (rule-any k m f e kids s)))
 
 rule-element : (k m f e : ℕ) (kids : Forest) → Step kids (as-element (seen (node k m f e kids))) → Slot (node k m f e kids)
 unfolding as-element seen kind-of
 rule-element k m f e kids s =
-    by-test (eqb k row.Hole) s (λ is _. hole (eqb-true k _ is))
-    (λ _ s. by-test (eqb k row.Spread) s (λ _ s. absurd (nothing s)) (λ _ s. slot (rule-value k m f e kids s)))
+    by-test (Step kids) (eqb k row.Hole) s (λ is _. hole (eqb-true k _ is))
+    (λ _ s. by-test (Step kids) (eqb k row.Spread) s (λ _ s. absurd (nothing s)) (λ _ s. slot (rule-value k m f e kids s)))
 
 rule-last-element : (comma : List Record) (k m f e : ℕ) (kids : Forest) → Step kids (as-last-element comma (seen (node k m f e kids))) → Last comma (node k m f e kids) Slot Target
 unfolding as-last-element seen
 rule-last-element comma k m f e kids s =
-    by-test (eqb k row.Spread and eqb (count kids) 1) s
+    by-test (Step kids) (eqb k row.Spread and eqb (count kids) 1) s
     (λ is s.
     let a = both-true (eqb k row.Spread) _ is in
     let q = one-kid kids (a .1) in
@@ -428,7 +428,7 @@ rule-last-element comma k m f e kids s =
 
 rule-name : (k m f e : ℕ) (kids : Forest) → Step kids (as-name (seen (node k m f e kids))) → k ≡ row.Identifier
 unfolding as-name seen
-rule-name k m f e kids s = by-test (eqb k row.Identifier) s (λ is _. eqb-true k _ is) (λ _ s. absurd (nothing s))
+rule-name k m f e kids s = by-test (Step kids) (eqb k row.Identifier) s (λ is _. eqb-true k _ is) (λ _ s. absurd (nothing s))
 
 shorthand : (m f e : ℕ) (t : Tree) → kind-of t ≡ row.Identifier → Property (node row.Shorthand m f e (one t))
 unfolding kind-of
@@ -441,22 +441,22 @@ shorthand-initialized m f e (node k m′ f′ e′ kids) u is = rw is reference-
 rule-property : (k m f e : ℕ) (kids : Forest) → Step kids (as-property (seen (node k m f e kids))) → Property (node k m f e kids)
 unfolding as-property seen
 rule-property k m f e kids s =
-    by-test (eqb k row.Shorthand and eqb (count kids) 1) s
+    by-test (Step kids) (eqb k row.Shorthand and eqb (count kids) 1) s
     (λ is s.
     let a = both-true (eqb k row.Shorthand) _ is in
     let q = one-kid kids (a .1) in
     rw (eqb-true k _ (a .0), q .1) (shorthand m f e (q .0) (of-one kids (q .0) (only Role.name) (q .1) (gone s .2))))
-    (λ _ s. by-test (eqb k row.ShorthandInit and eqb (count kids) 2) s
+    (λ _ s. by-test (Step kids) (eqb k row.ShorthandInit and eqb (count kids) 2) s
     (λ is s.
     let a = both-true (eqb k row.ShorthandInit) _ is in
     let q = two-kids kids (a .1) in
     rw (eqb-true k _ (a .0), q .2) (shorthand-initialized m f e (q .0) (q .1) (of-two kids (q .0) (q .1) name-and-initializer (q .2) (gone s .2) .0)))
-    (λ _ s. by-test (eqb k row.Property and eqb (count kids) 2) s
+    (λ _ s. by-test (Step kids) (eqb k row.Property and eqb (count kids) 2) s
     (λ is s.
     let a = both-true (eqb k row.Property) _ is in
     let q = two-kids kids (a .1) in
     rw (eqb-true k _ (a .0), q .2) (pair (of-two kids (q .0) (q .1) key-and-value (q .2) (gone s .2) .1)))
-    (λ _ s. by-test (eqb k row.Spread) s (λ _ s. absurd (nothing s)) (λ _ s. absurd (nothing s)))))
+    (λ _ s. by-test (Step kids) (eqb k row.Spread) s (λ _ s. absurd (nothing s)) (λ _ s. absurd (nothing s)))))
 
 -- through Parens a reference, and simple or a literal: then it is simple
 simple-argument : {t : Tree} → Target t → object-argument t ≡ [] → Simple t
@@ -469,7 +469,7 @@ rule-last-property : (comma : List Record) (k m f e : ℕ) (kids : Forest) → S
     → Last comma (node k m f e kids) Property Simple
 unfolding as-last-property seen
 rule-last-property comma k m f e kids s =
-    by-test (eqb k row.Spread and eqb (count kids) 1) s
+    by-test (Step kids) (eqb k row.Spread and eqb (count kids) 1) s
     (λ is s.
     let a = both-true (eqb k row.Spread) _ is in
     let q = one-kid kids (a .1) in

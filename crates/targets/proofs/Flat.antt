@@ -1,1 +1,0 @@
-use Rattle.rows.proofs.Rows.{sizes-join}
