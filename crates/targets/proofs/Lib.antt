@@ -2,3 +2,6 @@
 mod Notes
 mod Near
 mod Potentials
+mod Flat
+mod Looking
+mod Records

@@ -46,11 +46,9 @@ pub record Looked (rows : List ℕ) (root : ℕ) (r : Seen) : Type 0 where
 pub record Judged (rows : List ℕ) (root : ℕ) (role : def.Role) (r : Conversion) : Type 0 where
   pub is : (h : Subtree rows root) → r ≡ means.found (convert-as (h .tree) role)
 
--- so many records can be added
-pub data Sums : Conversion → Conversion → Type 0 where
-  refuses : {c : Cause} {rest : Conversion} → Sums (Refused c) rest
-  refuses-rest : {n : ℕ} {c : Cause} → Sums (Turned n) (Refused c)
-  adds : {n m : ℕ} → n + m < 2 ^ 64 → Sums (Turned n) (Turned m)
+-- the records of both are not too many to count
+pub record Sums (one rest : Conversion) : Type 0 where
+  pub fits : (n m : ℕ) → one ≡ Turned n → rest ≡ Turned m → n + m < 2 ^ 64
 
 -- the records stand from `start` on, and no other word is changed
 pub record Filled (r₀ : List ℕ) (start : ℕ) (records : List Record) (r : List ℕ) : Type 0 where
