@@ -129,16 +129,23 @@ module _ {before : List ℕ} {kids : Forest} {tail rows : List ℕ} {after end :
           place = simp length-append (omega (arith, length-flats (n .rest), front-size, kid-size, w .stop));
         }
 
+    pub whole-next : kids ≡ join (n .rest) (cons (n .kid) (w .passed))
+    unfolding join
+    whole-next = w .whole ∙ ap (λ (f : Forest). join f (w .passed)) (n .is) ∙ join-assoc (n .rest) (one (n .kid)) (w .passed)
+
+    pub many-next : count (cons (n .kid) (w .passed)) ≡ after + 1
+    unfolding count
+    many-next = ap (λ (m : ℕ). m + 1) (w .many)
+
     -- it is passed, and another tree of its size stands for it
-    pub walk-next : (t′ : Tree) (rows′ : List ℕ) (size′ : ℕ) → rows′ ≡ (before ++ flats (n .rest)) ++ (flat t′ ++ tail) → size′ ≡ size (n .kid)
+    abbrev pub walk-next : (t′ : Tree) (rows′ : List ℕ) (size′ : ℕ) → rows′ ≡ (before ++ flats (n .rest)) ++ (flat t′ ++ tail) → size′ ≡ size (n .kid)
         → Walk before kids (flat t′ ++ tail) rows′ (after + 1) (end - size′)
-    unfolding count join
     walk-next t′ rows′ size′ e s =
         record {
           front = n .rest;
           passed = cons (n .kid) (w .passed);
-          whole = w .whole ∙ ap (λ (f : Forest). join f (w .passed)) (n .is) ∙ join-assoc (n .rest) (one (n .kid)) (w .passed);
-          many = ap (λ (m : ℕ). m + 1) (w .many);
+          whole = whole-next;
+          many = many-next;
           stop = omega (arith, front-size, kid-size, w .stop);
           text = e ∙ append-assoc before (flats (n .rest)) (flat t′ ++ tail);
         }

@@ -5,3 +5,4 @@ mod Potentials
 mod Flat
 mod Looking
 mod Records
+mod Judging

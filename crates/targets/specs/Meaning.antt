@@ -1,6 +1,7 @@
 -- What the code's own types say: a note is no record or one, a role and a plan are those of the definition.
 -- Assumes nothing: these are definitions.
 use Prim.Native.Nat.{ℕ, _+_}
+use mathlib.Core.Path.{_≡_}
 use mathlib.Core.List.{List, [], _∷_, _++_}
 use lib.Dec.{eqb}
 use lib.ListN.{length}
@@ -75,3 +76,15 @@ abbrev pub both : Conversion → Conversion → Conversion
 both (Refused cause) rest = Refused cause
 both (Turned n) (Refused cause) = Refused cause
 both (Turned n) (Turned m) = Turned (n + m)
+
+-- the plan is the change of a row in a role
+pub record Planned (r : def.Role) (s : def.Seen) (p : Plan) : Type 0 where
+  pub is : plan p ≡ def.change r s
+
+-- the role is that of a kid with so many kids after it
+pub record KidRole (each : Kids) (after : ℕ) (r : Role) : Type 0 where
+  pub is : role r ≡ kids each after
+
+-- the records that a change gives beside its kids' are so many
+pub record NotesCount (c : Change) (n : ℕ) : Type 0 where
+  pub is : n ≡ length (note (c .before) ++ note (c .then) ++ note (c .after))

@@ -279,7 +279,7 @@ fn as_name(seen: Seen) -> Plan
 
 // What a row becomes in a role.
 pub fn plan_of(role: Role, seen: Seen) -> Plan
-    ensures { λ r. ⌜ means.plan r ≡ def.change (means.role role) (means.seen seen) ⌝ }
+    ensures { λ r. ⌜ means.Planned (means.role role) (means.seen seen) r ⌝ }
 {
     match role {
         Role::Any => as_any(seen),
@@ -296,7 +296,7 @@ pub fn plan_of(role: Role, seen: Seen) -> Plan
 
 // The role of a kid that has so many kids after it.
 pub fn kid_role(kids: Kids, after: usize) -> Role
-    ensures { λ r. ⌜ means.role r ≡ means.kids kids after ⌝ }
+    ensures { λ r. ⌜ means.KidRole kids after r ⌝ }
 {
     match kids {
         Kids::Only(role) => role,
@@ -327,7 +327,7 @@ pub fn note_count(note: Note) -> usize
 
 // How many records a change gives beside its kids'.
 pub fn notes_count(change: Change) -> usize
-    ensures { λ r. ⌜ r ≡ length (means.note (change .before) ++ means.note (change .then) ++ means.note (change .after)) ⌝ }
+    ensures { λ r. ⌜ means.NotesCount change r ⌝ }
 {
     let before = change.before;
     let then = change.then;

@@ -28,7 +28,7 @@ add-result-2 c =
 
 returns : tie.Need-returns
 returns c =
-    simp length-append (omega (arith, c .before .before .note-count .ensures, c .before .note-count2 .ensures, c .note-count3 .ensures))
+    record { is = simp length-append (omega (arith, c .before .before .note-count .ensures, c .before .note-count2 .ensures, c .note-count3 .ensures)) }
 
 pub notes-count-spec : {M : Type 1} → statement M
 notes-count-spec = tie.close (tie.spec note-count-requires note-count-requires-2 add-result note-count-requires-3 add-result-2 returns)
