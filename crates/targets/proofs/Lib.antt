@@ -6,3 +6,5 @@ mod Flat
 mod Looking
 mod Records
 mod Judging
+mod Shapes
+mod Turning
