@@ -218,7 +218,7 @@ few-kids (cons t ts) k ts′ rs h =
     (λ us ss q. few-kids ts k us ss q) in
     omega arith
 
-found-turned : {A : Type 0} (x : Outcome A) (n : ℕ) → means.found x ≡ Turned n → (a : A) × (rs : List Record) × (x ≡ turned a rs) × (length rs ≡ n)
+pub found-turned : {A : Type 0} (x : Outcome A) (n : ℕ) → means.found x ≡ Turned n → (a : A) × (rs : List Record) × (x ≡ turned a rs) × (length rs ≡ n)
 found-turned (turned a rs) n e = (a, rs, refl, let f : length rs ≡ n = cc in f)
 found-turned (refused c) n e = let z : _≡_ {A = ℕ} 0 1 = cc in absurd (omega arith)
 

@@ -8,3 +8,4 @@ mod Records
 mod Judging
 mod Shapes
 mod Turning
+mod Converting

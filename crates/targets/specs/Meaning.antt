@@ -2,6 +2,7 @@
 -- Assumes nothing: these are definitions.
 use Prim.Native.Nat.{ℕ, _+_}
 use mathlib.Core.Path.{_≡_}
+use mathlib.Core.Bool.{Bool, true, false}
 use mathlib.Core.List.{List, [], _∷_, _++_}
 use lib.Dec.{eqb}
 use lib.ListN.{length}
@@ -36,6 +37,11 @@ role (LastProperty comma) = def.last-property (note comma)
 role Value = def.value
 role Name = def.name
 role Same = def.same
+
+-- any target, or a simple one
+abbrev pub aim : Bool → def.Role
+aim true = def.simple
+aim false = def.any
 
 abbrev pub kids : Kids → ℕ → def.Role
 kids (Only r) = def.only (role r)

@@ -82,11 +82,6 @@ pub record TurnedRow (rows₀ r₀ : List ℕ) (root : ℕ) (role : def.Role) (e
   pub is : (h : Subtree rows₀ root) (t : Tree) (records : List Record) → convert-as (h .tree) role ≡ turned t records
       → (start + length records ≡ end) × Made (h .before) (h .after) r₀ t start records rows r
 
--- any target, or a simple one
-abbrev pub aim : Bool → def.Role
-aim true = def.simple
-aim false = def.any
-
 -- the row is the root of a tree, and there is room for all that conversion could record of it
 pub record Room (rows : List ℕ) (root words used : ℕ) : Type 0 where
   pub rooted : Subtree rows root

@@ -2,7 +2,7 @@
 ghost use mathlib.Core.Path.{_≡_};
 ghost use lib.ListN.{length};
 ghost use Rattle.targets.specs.Meaning as means;
-ghost use Rattle.targets.specs.Post.{Subtree, Looked, Judged, Sums, NoteFits, Written, Ready, TurnedRow, Room, RowConverted, aim};
+ghost use Rattle.targets.specs.Post.{Subtree, Looked, Judged, Sums, NoteFits, Written, Ready, TurnedRow, Room, RowConverted};
 
 pub mod role;
 
@@ -153,9 +153,9 @@ pub fn convert_row(
     used: usize,
 ) -> Conversion
     requires { ⌜ Room (now rows) root (length (now records)) used ⌝ }
-    ensures { λ r. ⌜ RowConverted (now (rows .entry)) (now (records .entry)) root (aim simple) used (now (rows .exit)) (now (records .exit)) r ⌝ }
+    ensures { λ r. ⌜ RowConverted (now (rows .entry)) (now (records .entry)) root (means.aim simple) used (now (rows .exit)) (now (records .exit)) r ⌝ }
 {
-    let role = if simple { Role::Simple } else { Role::Any };
+    let role = role::aim_at(simple);
     let found = judge(rows, root, role);
     match found {
         Conversion::Refused(cause) => Conversion::Refused(cause),

@@ -294,6 +294,13 @@ pub fn plan_of(role: Role, seen: Seen) -> Plan
     }
 }
 
+// Any target, or a simple one.
+pub fn aim_at(simple: bool) -> Role
+    ensures { λ r. ⌜ means.role r ≡ means.aim simple ⌝ }
+{
+    if simple { Role::Simple } else { Role::Any }
+}
+
 // The role of a kid that has so many kids after it.
 pub fn kid_role(kids: Kids, after: usize) -> Role
     ensures { λ r. ⌜ means.KidRole kids after r ⌝ }
