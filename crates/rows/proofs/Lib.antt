@@ -5,3 +5,5 @@ pub mod Flat
 pub mod Parts
 pub mod Tests
 pub mod Subtrees
+pub mod Masks
+pub mod Shapes

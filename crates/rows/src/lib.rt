@@ -3,6 +3,7 @@ ghost use lib.ListN.{length};
 ghost use Rattle.rows.specs.Post.{RowFits, Pushed, RecordFits, PushedRecord, Word, RowInside, KindSet, Cleared};
 
 pub mod row;
+pub mod shape;
 
 // Writes a row as the row n.
 pub fn push_row(
