@@ -7,3 +7,4 @@ pub mod Tests
 pub mod Subtrees
 pub mod Masks
 pub mod Shapes
+pub mod Walks

@@ -6,3 +6,4 @@ pub mod Mask
 pub mod Words
 pub mod Post
 pub mod Part
+pub mod Stands

@@ -4,6 +4,7 @@ ghost use Rattle.rows.specs.Post.{RowFits, Pushed, RecordFits, PushedRec
 
 pub mod row;
 pub mod shape;
+pub mod walk;
 
 // Writes a row as the row n.
 pub fn push_row(
