@@ -8,3 +8,5 @@ pub mod Subtrees
 pub mod Masks
 pub mod Shapes
 pub mod Walks
+pub mod Whole
+pub mod Once

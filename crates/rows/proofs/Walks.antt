@@ -84,7 +84,7 @@ all-fit-at kind before (cons t ts) u us h =
     rw (sym e) (all-fit-at kind (before + 1) ts u us (and-right (fits kind before (count (join ts (cons u us))) (kind-of t) (last-kind 0 (kids-of t))) (all-fit kind (before + 1) (join ts (cons u us))) h))
 
 -- a tree's own bounds, and the part of its kids
-root-small : {w : List ℕ} {n : ℕ} {t : Tree} → Rooted w n t → size t ≤ n + 1
+pub root-small : {w : List ℕ} {n : ℕ} {t : Tree} → Rooted w n t → size t ≤ n + 1
 unfolding sizes
 root-small {w} {n} {t} h = omega (arith, h .part .used, some-row t)
 

@@ -7,3 +7,4 @@ pub mod Words
 pub mod Post
 pub mod Part
 pub mod Stands
+pub mod Handed
