@@ -5,3 +5,8 @@ pub mod Flat
 pub mod Parts
 pub mod Tests
 pub mod Subtrees
+pub mod Masks
+pub mod Shapes
+pub mod Walks
+pub mod Whole
+pub mod Once

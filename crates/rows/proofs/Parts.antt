@@ -148,6 +148,11 @@ pub size-word : (w : List ℕ) (n : ℕ) {k m f e j s : ℕ} → row-at w n ≡ 
 unfolding row-at
 size-word w n h = ap (λ (l : List ℕ). getD l 5 0) h
 
+pub row-of-words : (w : List ℕ) (n : ℕ) {k j s : ℕ} → k ≡ getD w (6 * n + 0) 0 → j ≡ getD w (6 * n + 4) 0 → s ≡ getD w (6 * n + 5) 0
+    → row-at w n ≡ row k (getD w (6 * n + 1) 0) (getD w (6 * n + 2) 0) (getD w (6 * n + 3) 0) j s
+unfolding row-at
+row-of-words w n p q r = rw (p, q, r)
+
 -- the words of a tree are the part from the first row to the last
 pub part-whole : (t : Tree) → Part (flat t) 0 (size t) (one t)
 unfolding sizes flats
