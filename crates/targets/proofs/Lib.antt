@@ -9,3 +9,4 @@ mod Judging
 mod Shapes
 mod Turning
 mod Converting
+mod Entering

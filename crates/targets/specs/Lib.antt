@@ -5,3 +5,4 @@ pub mod Examples
 pub mod Meaning
 pub mod Potential
 pub mod Post
+pub mod Entry

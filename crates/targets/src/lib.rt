@@ -2,17 +2,22 @@
 ghost use mathlib.Core.Path.{_≡_};
 ghost use lib.ListN.{length};
 ghost use Rattle.targets.specs.Meaning as means;
+ghost use Rattle.targets.specs.Entry.{Answered};
 ghost use Rattle.targets.specs.Post.{Subtree, Looked, Judged, Sums, NoteFits, Written, Ready, TurnedRow, Room, RowConverted};
 
-pub mod role;
+mod role;
 
 use role::Note;
 use role::Plan;
 use role::Role;
 use role::Seen;
+use rows::clear_from;
 use rows::row_word;
 use rows::set_kind;
+use rows::well_formed;
+use tokens::cause::Answer;
 use tokens::cause::Cause;
+use tokens::cause::Counts;
 
 // What comes of a conversion: the number of records added, or why it is refused.
 pub enum Conversion {
@@ -162,6 +167,41 @@ pub fn convert_row(
         Conversion::Turned(count) => {
             turn(rows, root, role, records, used + count);
             Conversion::Turned(count)
+        }
+    }
+}
+
+// Conversion as its own entry: the row of a tree becomes any target, with its records, or nothing changes.
+pub fn convert(tree: &mut [u32], row: usize, records: &mut [u32]) -> Answer
+    ensures { λ r. ⌜ Answered (now (tree .entry)) (now (records .entry)) row r (now (tree .exit)) (now (records .exit)) ⌝ }
+{
+    let length = tree.len();
+    if length == 0 {
+        return Answer::Refused(Cause::Length(0));
+    }
+    if 12288 < length {
+        return Answer::Refused(Cause::Length(0));
+    }
+    if !well_formed(tree) {
+        return Answer::Refused(Cause::Tree(0));
+    }
+    if length / 6 <= row {
+        return Answer::Refused(Cause::Outside(0));
+    }
+    let size = role::wide(row_word(tree, row, 5));
+    if records.len() < 2 * size {
+        return Answer::Refused(Cause::RecordRoom(0));
+    }
+    let found = convert_row(tree, row, false, records, 0);
+    match found {
+        Conversion::Refused(cause) => Answer::Refused(cause),
+        Conversion::Turned(count) => {
+            clear_from(records, 2 * count);
+            Answer::Read(Counts {
+                rows: size,
+                records: count,
+                abandoned: 0,
+            })
         }
     }
 }
