@@ -1,3 +1,12 @@
 pub mod Rows
 pub mod Records
 pub mod Clear
+pub mod Flat
+pub mod Parts
+pub mod Tests
+pub mod Subtrees
+pub mod Masks
+pub mod Shapes
+pub mod Walks
+pub mod Whole
+pub mod Once

@@ -5,7 +5,7 @@ use mathlib.Core.Path.{_≡_, refl, sym, ap, _∙_}
 use mathlib.Core.List.{List, [], _∷_, _++_, append-nil, append-assoc}
 use native.Mathlib.Omega.{arith}
 use lib.ListN.{length, take, set, length-set, length-append}
-use lib.Seq.{take-take, take-append-le, length-take-le}
+use lib.Seq.{drop-set-lt, take-take, take-append-le, length-take-le}
 use Rattle.rows.specs.Record.{Record, says, record-words}
 use Rattle.rows.specs.Post.{PushedRecord, GrownRecords, KeptRecords}
 use Rattle.rows.proofs.Rows.{put}
@@ -18,6 +18,7 @@ pushed-record l n number place h =
           put _ (2 * n + 1) (2 * (n + 1)) place (omega arith) (simp length-set (omega arith))
           ∙ ap (λ (x : List ℕ). x ++ (place ∷ [])) (put l (2 * n) (2 * n + 1) number (omega arith) (omega arith))
           ∙ append-assoc (take (2 * n) l) (number ∷ []) (place ∷ []);
+      rest = drop-set-lt (2 * (n + 1)) _ (2 * n + 1) place (omega arith) ∙ drop-set-lt (2 * (n + 1)) l (2 * n) number (omega arith);
     }
 
 pub record-words-append : (xs ys : List Record) → record-words (xs ++ ys) ≡ record-words xs ++ record-words ys

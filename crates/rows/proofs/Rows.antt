@@ -5,8 +5,8 @@ use mathlib.Core.Path.{_≡_, refl, sym, ap, _∙_}
 use mathlib.Core.List.{List, [], _∷_, _++_, append-nil, append-assoc}
 use native.Mathlib.Omega.{arith}
 use native.Mathlib.Nat.{add-assoc}
-use lib.ListN.{length, take, set, length-set}
-use lib.Seq.{take-suc-set, take-take, take-append-le, length-take-le}
+use lib.ListN.{length, take, drop, set, length-set}
+use lib.Seq.{take-suc-set, drop-set-lt, take-take, take-append-le, length-take-le}
 use Rattle.rows.specs.Tree.{Tree, Forest, node, nil, cons, one, join, count, size, sizes, row, flat, flats}
 use Rattle.rows.specs.Post.{Pushed, Grown, Kept}
 
@@ -26,9 +26,19 @@ six l n k m a e j s h =
     ∙ ap (λ (x : List ℕ). x ++ (m ∷ [])) (put l (6 * n) (6 * n + 1) k (omega arith) (omega arith))))))
     ∙ simp append-assoc
 
+beyond : (l : List ℕ) (n k m a e j s : ℕ)
+    → drop (6 * (n + 1)) (set (set (set (set (set (set l (6 * n) k) (6 * n + 1) m) (6 * n + 2) a) (6 * n + 3) e) (6 * n + 4) j) (6 * n + 5) s) ≡ drop (6 * (n + 1)) l
+beyond l n k m a e j s =
+    drop-set-lt (6 * (n + 1)) _ (6 * n + 5) s (omega arith)
+    ∙ drop-set-lt (6 * (n + 1)) _ (6 * n + 4) j (omega arith)
+    ∙ drop-set-lt (6 * (n + 1)) _ (6 * n + 3) e (omega arith)
+    ∙ drop-set-lt (6 * (n + 1)) _ (6 * n + 2) a (omega arith)
+    ∙ drop-set-lt (6 * (n + 1)) _ (6 * n + 1) m (omega arith)
+    ∙ drop-set-lt (6 * (n + 1)) l (6 * n) k (omega arith)
+
 pub pushed : (l : List ℕ) (n k m a e j s : ℕ) → 6 * n + 6 ≤ length l
     → Pushed l n k m a e j s (set (set (set (set (set (set l (6 * n) k) (6 * n + 1) m) (6 * n + 2) a) (6 * n + 3) e) (6 * n + 4) j) (6 * n + 5) s)
-pushed l n k m a e j s h = record { text = six l n k m a e j s h }
+pushed l n k m a e j s h = record { text = six l n k m a e j s h; rest = beyond l n k m a e j s }
 
 pub sizes-join : (ts us : Forest) → sizes (join ts us) ≡ sizes ts + sizes us
 unfolding sizes join

@@ -2,5 +2,9 @@ pub mod Row
 pub mod Tree
 pub mod Record
 pub mod Shape
+pub mod Mask
 pub mod Words
 pub mod Post
+pub mod Part
+pub mod Stands
+pub mod Handed

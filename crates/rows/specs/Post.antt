@@ -4,7 +4,7 @@
 use Prim.Native.Nat.{ℕ, _+_, _-_, _*_, _^_, _≤_, _<_}
 use mathlib.Core.Path.{_≡_}
 use mathlib.Core.List.{List, [], _∷_, _++_}
-use lib.ListN.{length, take, set, getD, replicate}
+use lib.ListN.{length, take, drop, set, getD, replicate}
 use Rattle.rows.specs.Tree.{Forest, sizes, flats, row}
 use Rattle.rows.specs.Record.{Record, record-words}
 
@@ -17,18 +17,20 @@ pub record RowFits (words n mark first end kids size : ℕ) : Type 0 where
   pub kids-fits : kids < 2 ^ 32
   pub size-fits : size < 2 ^ 32
 
--- the row n was written after the rows before it
+-- the row n was written after the rows before it, and no word past it
 pub record Pushed (r₀ : List ℕ) (n kind mark first end kids size : ℕ) (r : List ℕ) : Type 0 where
   pub text : take (6 * (n + 1)) r ≡ take (6 * n) r₀ ++ row kind mark first end kids size
+  pub rest : drop (6 * (n + 1)) r ≡ drop (6 * (n + 1)) r₀
 
 -- in so many words the record n has room, and its place fits
 pub record RecordFits (words n place : ℕ) : Type 0 where
   pub room : 2 * n + 2 ≤ words
   pub place-fits : place < 2 ^ 32
 
--- the record n was written after the records before it
+-- the record n was written after the records before it, and no word past it
 pub record PushedRecord (r₀ : List ℕ) (n number place : ℕ) (r : List ℕ) : Type 0 where
   pub text : take (2 * (n + 1)) r ≡ take (2 * n) r₀ ++ (number ∷ place ∷ [])
+  pub rest : drop (2 * (n + 1)) r ≡ drop (2 * (n + 1)) r₀
 
 -- x is a word of the row n: 0 kind, 1 mark, 2 first, 3 end, 4 kids, 5 size; past the end it reads as 0
 pub record Word (r : List ℕ) (n word x : ℕ) : Type 0 where

@@ -53,97 +53,81 @@ is-simple-target kind = between TargetName TargetParen kind or between TargetMem
 unfoldable pub is-target : ℕ → Bool
 is-target kind = is-simple-target kind or between TargetArray TargetObject kind
 
--- what a place among the kids may ask
-pub data Class : Type 0 where
-  -- nothing stands here
-  nothing : Class
-  -- the one kind
-  only : ℕ → Class
-  -- L, U, B, G, S, E
-  left-hand-side unary binary logical assignment expression : Class
-  -- in an Array: S, 9, 10
-  element : Class
-  -- in an Object: 10, 11, 12, 13 with an S value
-  property : Class
-  -- 14, 15
-  key : Class
-  -- of a Property: S, Binding, 34
-  value : Class
-  -- of a Call: S, 10
-  argument : Class
-  -- of an arrow: S, but no 7 or 8
-  body : Class
-  -- 30 to 32
-  binding : Class
-  -- Binding, 34
-  parameter : Class
-  -- in a BindingArray: Binding, 34, 9
-  binding-element : Class
-  -- in a BindingObject: 35, 36, 13 with a Binding or 34
-  binding-property : Class
-  -- in a BindingObject: a 33 over a 30
-  name-rest : Class
-  -- 40, 41, 46, 47
-  simple-target : Class
-  -- the same, 42, 43
-  target : Class
-  -- in a TargetArray: target, 9, 45
-  target-element : Class
-  -- in a TargetObject: 48 to 50
-  target-property : Class
-  -- of a TargetProperty: target, 45
-  target-value : Class
+-- in an Array: S, 9, 10
+unfoldable pub is-element : ℕ → Bool
+is-element kind = is-assignment kind or between Hole Spread kind
 
--- a row of this kind, whose last kid is of kind `last` (0 if it has none), may stand where the class is asked
-unfoldable pub in-class : Class → ℕ → ℕ → Bool
-in-class nothing kind last = false
-in-class (only k) kind last = eqb kind k
-in-class left-hand-side kind last = is-left-hand-side kind
-in-class unary kind last = is-unary kind
-in-class binary kind last = is-binary kind
-in-class logical kind last = is-logical kind
-in-class assignment kind last = is-assignment kind
-in-class expression kind last = is-expression kind
-in-class element kind last = is-assignment kind or between Hole Spread kind
-in-class property kind last = between Spread ShorthandInit kind or (eqb kind Property and is-assignment last)
-in-class key kind last = between Key ComputedKey kind
-in-class value kind last = is-assignment kind or is-parameter kind
-in-class argument kind last = is-assignment kind or eqb kind Spread
-in-class body kind last = is-assignment kind and (if between Object ObjectRestComma kind then false else true)
-in-class binding kind last = is-binding kind
-in-class parameter kind last = is-parameter kind
-in-class binding-element kind last = is-parameter kind or eqb kind Hole
-in-class binding-property kind last = between BindingShorthand BindingShorthandInit kind or (eqb kind Property and is-parameter last)
-in-class name-rest kind last = eqb kind BindingRest and eqb last BindingName
-in-class simple-target kind last = is-simple-target kind
-in-class target kind last = is-target kind
-in-class target-element kind last = is-target kind or eqb kind Hole or eqb kind TargetDefault
-in-class target-property kind last = between TargetProperty TargetShorthandInit kind
-in-class target-value kind last = is-target kind or eqb kind TargetDefault
+-- of a Property: 14, 15
+unfoldable pub is-key : ℕ → Bool
+is-key kind = between Key ComputedKey kind
 
--- the kids of a row: fixed ones in front, then any number of one class, then at most one of a closing class, then fixed ones at
--- the end (the last kid first)
+-- of a Property: S, Binding, 34
+unfoldable pub is-value : ℕ → Bool
+is-value kind = is-assignment kind or is-parameter kind
+
+-- of a Call: S, 10
+unfoldable pub is-argument : ℕ → Bool
+is-argument kind = is-assignment kind or eqb kind Spread
+
+-- of an arrow: S, but no 7 or 8
+unfoldable pub is-body : ℕ → Bool
+is-body kind = if between Object ObjectRestComma kind then false else is-assignment kind
+
+-- in a BindingArray: Binding, 34, 9
+unfoldable pub is-binding-element : ℕ → Bool
+is-binding-element kind = is-parameter kind or eqb kind Hole
+
+-- in a TargetArray: target, 9, 45
+unfoldable pub is-target-element : ℕ → Bool
+is-target-element kind = is-target kind or eqb kind Hole or eqb kind TargetDefault
+
+-- in a TargetObject: 48 to 50
+unfoldable pub is-target-property : ℕ → Bool
+is-target-property kind = between TargetProperty TargetShorthandInit kind
+
+-- of a TargetProperty: target, 45
+unfoldable pub is-target-value : ℕ → Bool
+is-target-value kind = is-target kind or eqb kind TargetDefault
+
+-- in an Object: 10 to 13
+unfoldable pub is-property : ℕ → Bool
+is-property kind = between Spread Property kind
+
+-- in a BindingObject: 35, 36, 13
+unfoldable pub is-binding-property : ℕ → Bool
+is-binding-property kind = between BindingShorthand BindingShorthandInit kind or eqb kind Property
+
+-- the one kind k
+unfoldable pub only : ℕ → ℕ → Bool
+only k kind = eqb kind k
+
+-- no kind
+unfoldable pub nothing : ℕ → Bool
+nothing kind = false
+
+-- the kids of a row, each by the kinds that it may have: fixed ones in front, then any number of the same kinds, then at most one
+-- closing kid, then fixed ones at the end (the last kid first)
 pub record Shape : Type 0 where
-  pub front : List Class
-  pub many : Class
-  pub closing : Class
-  pub ending : List Class
+  pub front : List (ℕ → Bool)
+  pub many : ℕ → Bool
+  pub closing : ℕ → Bool
+  pub ending : List (ℕ → Bool)
 
 -- these kids and no others
-abbrev pub exactly : List Class → Shape
+abbrev pub exactly : List (ℕ → Bool) → Shape
 exactly front = record { front = front; many = nothing; closing = nothing; ending = [] }
 
--- any number of one class
-abbrev pub any : Class → Shape
-any class = record { front = []; many = class; closing = nothing; ending = [] }
+-- any number of kids of these kinds
+abbrev pub any : (ℕ → Bool) → Shape
+any kinds = record { front = []; many = kinds; closing = nothing; ending = [] }
 
--- these kids, then any number of one class
-abbrev pub any-after : List Class → Class → Shape
-any-after front class = record { front = front; many = class; closing = nothing; ending = [] }
+-- these kids, then any number of these kinds
+abbrev pub any-after : List (ℕ → Bool) → (ℕ → Bool) → Shape
+any-after front kinds = record { front = front; many = kinds; closing = nothing; ending = [] }
 
--- any number of one class, then at most one of another
-abbrev pub any-closed : Class → Class → Shape
-any-closed class closing = record { front = []; many = class; closing = closing; ending = [] }
+-- any number of kids of these kinds, then at most one closing kid
+abbrev pub any-closed : (ℕ → Bool) → (ℕ → Bool) → Shape
+any-closed kinds closing = record { front = []; many = kinds; closing = closing; ending = [] }
 
 -- a line of the table: kinds, and the kids of a row of each of them
 pub data Line : Type 0 where
@@ -152,41 +136,41 @@ pub data Line : Type 0 where
 -- the kids of each kind; a kind that has no line has none
 unfoldable pub table : List Line
 table =
-    line (Paren ∷ []) (exactly (expression ∷ []))
-    ∷ line (Array ∷ []) (any element)
-    ∷ line (ArrayRestComma ∷ []) (record { front = []; many = element; closing = nothing; ending = only Spread ∷ [] })
-    ∷ line (Object ∷ []) (any property)
-    ∷ line (ObjectRestComma ∷ []) (record { front = []; many = property; closing = nothing; ending = only Spread ∷ [] })
-    ∷ line (Spread ∷ ComputedKey ∷ []) (exactly (assignment ∷ []))
+    line (Paren ∷ []) (exactly (is-expression ∷ []))
+    ∷ line (Array ∷ []) (any is-element)
+    ∷ line (ArrayRestComma ∷ []) (record { front = []; many = is-element; closing = nothing; ending = only Spread ∷ [] })
+    ∷ line (Object ∷ []) (any is-property)
+    ∷ line (ObjectRestComma ∷ []) (record { front = []; many = is-property; closing = nothing; ending = only Spread ∷ [] })
+    ∷ line (Spread ∷ ComputedKey ∷ []) (exactly (is-assignment ∷ []))
     ∷ line (Shorthand ∷ []) (exactly (only Identifier ∷ []))
-    ∷ line (ShorthandInit ∷ []) (exactly (only Identifier ∷ assignment ∷ []))
-    ∷ line (Property ∷ []) (exactly (key ∷ value ∷ []))
-    ∷ line (Member ∷ TargetMember ∷ []) (exactly (left-hand-side ∷ []))
-    ∷ line (Index ∷ TargetIndex ∷ []) (exactly (left-hand-side ∷ expression ∷ []))
-    ∷ line (Call ∷ []) (any-after (left-hand-side ∷ []) argument)
-    ∷ line (Unary ∷ []) (exactly (unary ∷ []))
-    ∷ line (PrefixUpdate ∷ PostfixUpdate ∷ []) (exactly (simple-target ∷ []))
-    ∷ line (Binary ∷ []) (exactly (binary ∷ binary ∷ []))
-    ∷ line (Logical ∷ []) (exactly (logical ∷ logical ∷ []))
-    ∷ line (Conditional ∷ []) (exactly (logical ∷ assignment ∷ assignment ∷ []))
-    ∷ line (Assign ∷ []) (exactly (target ∷ assignment ∷ []))
-    ∷ line (CompoundAssign ∷ []) (exactly (simple-target ∷ assignment ∷ []))
-    ∷ line (Sequence ∷ []) (any-after (assignment ∷ assignment ∷ []) assignment)
-    ∷ line (Arrow ∷ AsyncArrow ∷ []) (record { front = []; many = parameter; closing = only BindingRest; ending = body ∷ [] })
-    ∷ line (BindingArray ∷ []) (any-closed binding-element (only BindingRest))
-    ∷ line (BindingObject ∷ []) (any-closed binding-property name-rest)
-    ∷ line (BindingRest ∷ []) (exactly (parameter ∷ []))
-    ∷ line (BindingDefault ∷ []) (exactly (binding ∷ assignment ∷ []))
+    ∷ line (ShorthandInit ∷ []) (exactly (only Identifier ∷ is-assignment ∷ []))
+    ∷ line (Property ∷ []) (exactly (is-key ∷ is-value ∷ []))
+    ∷ line (Member ∷ TargetMember ∷ []) (exactly (is-left-hand-side ∷ []))
+    ∷ line (Index ∷ TargetIndex ∷ []) (exactly (is-left-hand-side ∷ is-expression ∷ []))
+    ∷ line (Call ∷ []) (any-after (is-left-hand-side ∷ []) is-argument)
+    ∷ line (Unary ∷ []) (exactly (is-unary ∷ []))
+    ∷ line (PrefixUpdate ∷ PostfixUpdate ∷ []) (exactly (is-simple-target ∷ []))
+    ∷ line (Binary ∷ []) (exactly (is-binary ∷ is-binary ∷ []))
+    ∷ line (Logical ∷ []) (exactly (is-logical ∷ is-logical ∷ []))
+    ∷ line (Conditional ∷ []) (exactly (is-logical ∷ is-assignment ∷ is-assignment ∷ []))
+    ∷ line (Assign ∷ []) (exactly (is-target ∷ is-assignment ∷ []))
+    ∷ line (CompoundAssign ∷ []) (exactly (is-simple-target ∷ is-assignment ∷ []))
+    ∷ line (Sequence ∷ []) (any-after (is-assignment ∷ is-assignment ∷ []) is-assignment)
+    ∷ line (Arrow ∷ AsyncArrow ∷ []) (record { front = []; many = is-parameter; closing = only BindingRest; ending = is-body ∷ [] })
+    ∷ line (BindingArray ∷ []) (any-closed is-binding-element (only BindingRest))
+    ∷ line (BindingObject ∷ []) (any-closed is-binding-property (only BindingRest))
+    ∷ line (BindingRest ∷ []) (exactly (is-parameter ∷ []))
+    ∷ line (BindingDefault ∷ []) (exactly (is-binding ∷ is-assignment ∷ []))
     ∷ line (BindingShorthand ∷ []) (exactly (only BindingName ∷ []))
-    ∷ line (BindingShorthandInit ∷ []) (exactly (only BindingName ∷ assignment ∷ []))
-    ∷ line (TargetParen ∷ []) (exactly (simple-target ∷ []))
-    ∷ line (TargetArray ∷ []) (any-closed target-element (only TargetRest))
-    ∷ line (TargetObject ∷ []) (any-closed target-property (only TargetRest))
-    ∷ line (TargetRest ∷ []) (exactly (target ∷ []))
-    ∷ line (TargetDefault ∷ []) (exactly (target ∷ assignment ∷ []))
-    ∷ line (TargetProperty ∷ []) (exactly (key ∷ target-value ∷ []))
+    ∷ line (BindingShorthandInit ∷ []) (exactly (only BindingName ∷ is-assignment ∷ []))
+    ∷ line (TargetParen ∷ []) (exactly (is-simple-target ∷ []))
+    ∷ line (TargetArray ∷ []) (any-closed is-target-element (only TargetRest))
+    ∷ line (TargetObject ∷ []) (any-closed is-target-property (only TargetRest))
+    ∷ line (TargetRest ∷ []) (exactly (is-target ∷ []))
+    ∷ line (TargetDefault ∷ []) (exactly (is-target ∷ is-assignment ∷ []))
+    ∷ line (TargetProperty ∷ []) (exactly (is-key ∷ is-target-value ∷ []))
     ∷ line (TargetShorthand ∷ []) (exactly (only TargetName ∷ []))
-    ∷ line (TargetShorthandInit ∷ []) (exactly (only TargetName ∷ assignment ∷ []))
+    ∷ line (TargetShorthandInit ∷ []) (exactly (only TargetName ∷ is-assignment ∷ []))
     ∷ []
 
 -- the kind is one of these
@@ -206,26 +190,39 @@ shape-of kind = look-up table kind
 unfoldable pub least : Shape → ℕ
 least shape = length (shape .front) + length (shape .ending)
 
--- a kid with so many kids before it and so many after it may be of this kind, its own last kid of kind `last`
-unfoldable pub fits : Shape → ℕ → ℕ → ℕ → ℕ → Bool
-fits shape before after kind last =
-    if ltb before (length (shape .front)) then in-class (getD (shape .front) before nothing) kind last else
-    if ltb after (length (shape .ending)) then in-class (getD (shape .ending) after nothing) kind last else
-    (in-class (shape .many) kind last or (eqb after (length (shape .ending)) and in-class (shape .closing) kind last))
+-- a kid with so many kids before it and so many after it may be of this kind
+unfoldable pub may-be : Shape → ℕ → ℕ → ℕ → Bool
+may-be shape before after kid =
+    if ltb before (length (shape .front)) then getD (shape .front) before nothing kid else
+    if ltb after (length (shape .ending)) then getD (shape .ending) after nothing kid else
+    ((shape .many) kid or (eqb after (length (shape .ending)) and (shape .closing) kid))
+
+-- what the last kid of a kid may be: the value of a Property is an S in an Object, and a Binding or 34 in a BindingObject, in which
+-- a rest is over a bare name
+unfoldable pub may-end : ℕ → ℕ → ℕ → Bool
+may-end kind kid last =
+    if eqb kid Property then (if eqb kind BindingObject then is-parameter last else is-assignment last) else
+    if eqb kid BindingRest and eqb kind BindingObject then eqb last BindingName else
+    true
+
+-- a row of this kind may have a kid of kind `kid`, with so many kids before it and so many after it, its own last kid of kind `last`
+-- (0 if it has none)
+unfoldable pub fits : ℕ → ℕ → ℕ → ℕ → ℕ → Bool
+fits kind before after kid last = may-be (shape-of kind) before after kid and may-end kind kid last
 
 -- the kind of the last tree, and `kind` if there is none
 unfoldable pub last-kind : ℕ → Forest → ℕ
 last-kind kind nil = kind
 last-kind kind (cons t ts) = last-kind (kind-of t) ts
 
--- all these kids, with so many before them, are where the shape has them
-unfoldable pub all-fit : Shape → ℕ → Forest → Bool
-all-fit shape before nil = true
-all-fit shape before (cons t ts) = fits shape before (count ts) (kind-of t) (last-kind 0 (kids-of t)) and all-fit shape (before + 1) ts
+-- these kids of a row of this kind, with so many before them, are where they may stand
+unfoldable pub all-fit : ℕ → ℕ → Forest → Bool
+all-fit kind before nil = true
+all-fit kind before (cons t ts) = fits kind before (count ts) (kind-of t) (last-kind 0 (kids-of t)) and all-fit kind (before + 1) ts
 
--- a row's kids are enough, and each is where the shape has it
+-- the kind is listed, and the kids are enough and where they may stand
 unfoldable pub is-shaped : ℕ → Forest → Bool
-is-shaped kind kids = is-listed kind and leb (least (shape-of kind)) (count kids) and all-fit (shape-of kind) 0 kids
+is-shaped kind kids = is-listed kind and leb (least (shape-of kind)) (count kids) and all-fit kind 0 kids
 
 -- listed kinds, and kids of the kinds and number that the table gives; any kind as root
 unfoldable mutual

@@ -82,9 +82,6 @@ last-or t (cons u us) = last-or u us
 abbrev pub last-of : Forest → Tree
 last-of ts = last-or (node 0 0 0 0 nil) ts
 
-abbrev pub ends-in-spread : Forest → Bool
-ends-in-spread ts = eqb (kind-of (last-of ts)) row.Spread
-
 -- the kind of what stands in Parens
 unfoldable mutual
   pub inner-kind : Tree → ℕ
@@ -94,79 +91,114 @@ unfoldable mutual
   inner-kinds nil = 0
   inner-kinds (cons t ts) = inner-kind t
 
--- record 3, at the argument's first token: through Parens a rest's argument must be a name, Member or Index, in arrays also Array or Object
+-- record 3, at the first token of a rest's argument: through Parens it must be a name, Member or Index, in arrays also Array or Object
 abbrev pub array-argument : Tree → List Record
 array-argument t = if is-reference (inner-kind t) or is-array-or-object (inner-kind t) then [] else rest-argument (first-of t) ∷ []
 
 abbrev pub object-argument : Tree → List Record
 object-argument t = if is-reference (inner-kind t) then [] else rest-argument (first-of t) ∷ []
 
+-- what conversion looks at in a row: three of its words, how many kids it has, the kind of the last of them, and the record 3
+-- that the last would give as a rest's argument
+pub record Seen : Type 0 where
+  pub kind : ℕ
+  pub mark : ℕ
+  pub first : ℕ
+  pub kids : ℕ
+  pub last : ℕ
+  pub in-array : List Record
+  pub in-object : List Record
+
+unfoldable pub seen : Tree → Seen
+seen (node kind mark first end kids) =
+    record {
+      kind = kind;
+      mark = mark;
+      first = first;
+      kids = count kids;
+      last = kind-of (last-of kids);
+      in-array = array-argument (last-of kids);
+      in-object = object-argument (last-of kids);
+    }
+
+-- the row is of a kind
+abbrev pub is : Seen → ℕ → Bool
+is r kind = eqb (r .kind) kind
+
+-- and has so many kids
+abbrev pub is-with : Seen → ℕ → ℕ → Bool
+is-with r kind kids = eqb (r .kind) kind and eqb (r .kids) kids
+
+-- and its last kid is a Spread
+abbrev pub is-closed : Seen → ℕ → Bool
+is-closed r kind = eqb (r .kind) kind and eqb (r .last) row.Spread
+
 -- Name, Member and Index become targets; Paren becomes TargetParen over a simple target. Directly over a literal it is 9; all else is 9.
-abbrev pub as-simple : Tree → Change
-as-simple (node kind mark first end kids) =
-    if eqb kind row.Identifier then keep row.TargetName []
-    else if eqb kind row.Member then keep row.TargetMember []
-    else if eqb kind row.Index then keep row.TargetIndex []
-    else if eqb kind row.Paren and eqb (count kids) 1 and not (is-array-or-object (kind-of (last-of kids))) then turn row.TargetParen [] (only simple) []
-    else refuse (NoTarget first)
+unfoldable pub as-simple : Seen → Change
+as-simple r =
+    if is r row.Identifier then keep row.TargetName []
+    else if is r row.Member then keep row.TargetMember []
+    else if is r row.Index then keep row.TargetIndex []
+    else if is-with r row.Paren 1 and not (is-array-or-object (r .last)) then turn row.TargetParen [] (only simple) []
+    else refuse (NoTarget (r .first))
 
 -- 13.15.5 AssignmentPattern: an Array or Object literal; otherwise a simple target
-abbrev pub as-any : Tree → Change
-as-any (node kind mark first end kids) =
-    if eqb kind row.Array then turn row.TargetArray [] (elements []) []
-    else if eqb kind row.ArrayRestComma and ends-in-spread kids then turn row.TargetArray [] (elements (rest-comma first ∷ [])) []
-    else if eqb kind row.Object then turn row.TargetObject [] (properties []) []
-    else if eqb kind row.ObjectRestComma and ends-in-spread kids then turn row.TargetObject [] (properties (rest-comma first ∷ [])) []
-    else as-simple (node kind mark first end kids)
+unfoldable pub as-any : Seen → Change
+as-any r =
+    if is r row.Array then turn row.TargetArray [] (elements []) []
+    else if is-closed r row.ArrayRestComma then turn row.TargetArray [] (elements (rest-comma (r .first) ∷ [])) []
+    else if is r row.Object then turn row.TargetObject [] (properties []) []
+    else if is-closed r row.ObjectRestComma then turn row.TargetObject [] (properties (rest-comma (r .first) ∷ [])) []
+    else as-simple r
 
 -- Assign becomes TargetDefault; CompoundAssign too, with record 5 at its operator. The left kid is a target already.
-abbrev pub as-value : Tree → Change
-as-value (node kind mark first end kids) =
-    if eqb kind row.Assign then keep row.TargetDefault []
-    else if eqb kind row.CompoundAssign then keep row.TargetDefault (compound-default mark ∷ [])
-    else as-any (node kind mark first end kids)
+unfoldable pub as-value : Seen → Change
+as-value r =
+    if is r row.Assign then keep row.TargetDefault []
+    else if is r row.CompoundAssign then keep row.TargetDefault (compound-default (r .mark) ∷ [])
+    else as-any r
 
 -- a Hole stays; a Spread that is not last is 10
-abbrev pub as-element : Tree → Change
-as-element (node kind mark first end kids) =
-    if eqb kind row.Hole then keep row.Hole []
-    else if eqb kind row.Spread then refuse (SpreadNotLast first)
-    else as-value (node kind mark first end kids)
+unfoldable pub as-element : Seen → Change
+as-element r =
+    if is r row.Hole then keep row.Hole []
+    else if is r row.Spread then refuse (SpreadNotLast (r .first))
+    else as-value r
 
 -- a last Spread is a rest. Arrays: record 3, argument, record 4.
-abbrev pub as-last-element : List Record → Tree → Change
-as-last-element comma (node kind mark first end kids) =
-    if eqb kind row.Spread and eqb (count kids) 1 then turn row.TargetRest (array-argument (last-of kids)) (only any) comma
-    else as-element (node kind mark first end kids)
+unfoldable pub as-last-element : List Record → Seen → Change
+as-last-element comma r =
+    if is-with r row.Spread 1 then turn row.TargetRest (r .in-array) (only any) comma
+    else as-element r
 
 -- a shorthand, a shorthand with an initializer, or a key with its value; a Spread that is not last is 10
-abbrev pub as-property : Tree → Change
-as-property (node kind mark first end kids) =
-    if eqb kind row.Shorthand and eqb (count kids) 1 then turn row.TargetShorthand [] (only name) []
-    else if eqb kind row.ShorthandInit and eqb (count kids) 2 then turn row.TargetShorthandInit [] name-and-initializer []
-    else if eqb kind row.Property and eqb (count kids) 2 then turn row.TargetProperty [] key-and-value []
-    else if eqb kind row.Spread then refuse (SpreadNotLast first)
-    else refuse (NoTarget first)
+unfoldable pub as-property : Seen → Change
+as-property r =
+    if is-with r row.Shorthand 1 then turn row.TargetShorthand [] (only name) []
+    else if is-with r row.ShorthandInit 2 then turn row.TargetShorthandInit [] name-and-initializer []
+    else if is-with r row.Property 2 then turn row.TargetProperty [] key-and-value []
+    else if is r row.Spread then refuse (SpreadNotLast (r .first))
+    else refuse (NoTarget (r .first))
 
 -- Objects: record 3, record 4, argument.
-abbrev pub as-last-property : List Record → Tree → Change
-as-last-property comma (node kind mark first end kids) =
-    if eqb kind row.Spread and eqb (count kids) 1 then turn row.TargetRest (object-argument (last-of kids) ++ comma) (only any) []
-    else as-property (node kind mark first end kids)
+unfoldable pub as-last-property : List Record → Seen → Change
+as-last-property comma r =
+    if is-with r row.Spread 1 then turn row.TargetRest (r .in-object ++ comma) (only any) []
+    else as-property r
 
-abbrev pub as-name : Tree → Change
-as-name (node kind mark first end kids) = if eqb kind row.Identifier then keep row.TargetName [] else refuse (NoTarget first)
+unfoldable pub as-name : Seen → Change
+as-name r = if is r row.Identifier then keep row.TargetName [] else refuse (NoTarget (r .first))
 
-unfoldable pub change : Role → Tree → Change
-change any t = as-any t
-change simple t = as-simple t
-change element t = as-element t
-change (last-element comma) t = as-last-element comma t
-change property t = as-property t
-change (last-property comma) t = as-last-property comma t
-change value t = as-value t
-change name t = as-name t
-change same t = keep (kind-of t) []
+unfoldable pub change : Role → Seen → Change
+change any r = as-any r
+change simple r = as-simple r
+change element r = as-element r
+change (last-element comma) r = as-last-element comma r
+change property r = as-property r
+change (last-property comma) r = as-last-property comma r
+change value r = as-value r
+change name r = as-name r
+change same r = keep (r .kind) []
 
 -- the roles that a change gives the kids
 unfoldable pub roles : Change → ℕ → Role
@@ -192,8 +224,8 @@ unfoldable mutual
   -- a row in a role
   pub convert-as : Tree → Role → Converted
   convert-as (node kind mark first end kids) role =
-      over (change role (node kind mark first end kids)) (node kind mark first end kids)
-      (convert-kids kids (roles (change role (node kind mark first end kids))))
+      over (change role (seen (node kind mark first end kids))) (node kind mark first end kids)
+      (convert-kids kids (roles (change role (seen (node kind mark first end kids)))))
 
   -- kids, whose roles are given by the number of kids after one
   pub convert-kids : Forest → (ℕ → Role) → Outcome Forest

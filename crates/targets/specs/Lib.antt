@@ -2,3 +2,7 @@ pub mod Conversion
 pub mod TargetRule
 pub mod RuleHolds
 pub mod Examples
+pub mod Meaning
+pub mod Potential
+pub mod Post
+pub mod Entry

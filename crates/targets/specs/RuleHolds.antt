@@ -13,8 +13,11 @@ use Rattle.tokens.specs.declared.cause.Cause.{Cause}
 use Rattle.rows.specs.Row as row
 use Rattle.rows.specs.Tree.{Tree, Forest, node, nil, cons, one, count, kind-of, first-of}
 use Rattle.rows.specs.Record.{Record}
-use Rattle.targets.specs.Conversion.{Outcome, turned, refused, Role, Change, refuse, keep, turn, only, elements, properties, key-and-value, name-and-initializer, is-array-or-object, is-reference, last-or, last-of, ends-in-spread, inner-kind, inner-kinds, array-argument, object-argument, as-simple, as-any, as-value, as-element, as-last-element, as-property, as-last-property, as-name, change, roles, over, both, convert-as, convert-kids, convert, convert-simple}
+use Rattle.targets.specs.Conversion.{Outcome, turned, refused, Role, Change, refuse, keep, turn, only, elements, properties, key-and-value, name-and-initializer, is-array-or-object, is-reference, last-or, last-of, inner-kind, inner-kinds, array-argument, object-argument, Seen, seen, as-simple, as-any, as-value, as-element, as-last-element, as-property, as-last-property, as-name, change, roles, over, both, convert-as, convert-kids, convert, convert-simple}
 use Rattle.targets.specs.TargetRule.{Simple, identifier, member, index, parenthesized, Target, simple, array, object, Elements, no-elements, elision, next-element, rest-element, Element, bare, initialized, Properties, no-properties, next-property, rest-property, Property, reference, reference-initialized, pair}
+
+abbrev ends-in-spread : Forest → Bool
+ends-in-spread ts = eqb (kind-of (last-of ts)) row.Spread
 
 -- a row is converted in a role with neither refusal nor record
 pub record Clean (t : Tree) (role : Role) : Type 0 where
@@ -26,7 +29,7 @@ pub record CleanKids (ts : Forest) (each : ℕ → Role) : Type 0 where
   pub is : convert-kids ts each ≡ turned made []
 
 -- a row that changes alike in two roles is converted alike
-alike : (t : Tree) (r s : Role) → change r t ≡ change s t → convert-as t r ≡ convert-as t s
+alike : (t : Tree) (r s : Role) → change r (seen t) ≡ change s (seen t) → convert-as t r ≡ convert-as t s
 unfolding convert-as
 alike (node kind mark first end kids) r s e = rw e
 
@@ -45,15 +48,15 @@ references member = refl
 references index = refl
 references (parenthesized s) = references s
 
-simple-any : {t : Tree} → Simple t → change Role.any t ≡ change Role.simple t
-unfolding change
+simple-any : {t : Tree} → Simple t → change Role.any (seen t) ≡ change Role.simple (seen t)
+unfolding change as-any as-simple as-value as-element as-last-element as-property as-last-property as-name seen
 simple-any identifier = refl
 simple-any member = refl
 simple-any index = refl
 simple-any (parenthesized s) = refl
 
 simple-clean : {t : Tree} → Simple t → Clean t Role.simple
-unfolding convert-as convert-kids change roles over both count
+unfolding convert-as convert-kids change as-any as-simple as-value as-element as-last-element as-property as-last-property as-name seen roles over both count
 simple-clean identifier = record { made = _; is = refl }
 simple-clean member = record { made = _; is = refl }
 simple-clean index = record { made = _; is = refl }
@@ -61,7 +64,7 @@ simple-clean (parenthesized {mark} {first} {end} s) =
     let c = simple-clean s in
     record { made = node row.TargetParen mark first end (one (c .made)); is = rw (not-literal s, c .is) }
 
-as-alike : {t : Tree} {r s : Role} → change r t ≡ change s t → Clean t s → Clean t r
+as-alike : {t : Tree} {r s : Role} → change r (seen t) ≡ change s (seen t) → Clean t s → Clean t r
 as-alike {t} {r} {s} e c = record { made = c .made; is = alike t r s e ∙ c .is }
 
 rest-kinds : {t : Tree} → Target t → array-argument t ≡ []
@@ -71,8 +74,8 @@ rest-kinds (array d) = refl
 rest-kinds (object d) = refl
 
 -- an AssignmentElement is the same among others, and last
-element-value : {t : Tree} → Element t → change Role.element t ≡ change Role.value t
-unfolding change
+element-value : {t : Tree} → Element t → change Role.element (seen t) ≡ change Role.value (seen t)
+unfolding change as-any as-simple as-value as-element as-last-element as-property as-last-property as-name seen
 element-value (bare (simple identifier)) = refl
 element-value (bare (simple member)) = refl
 element-value (bare (simple index)) = refl
@@ -81,8 +84,8 @@ element-value (bare (array d)) = refl
 element-value (bare (object d)) = refl
 element-value initialized = refl
 
-target-value : {t : Tree} → Target t → change Role.value t ≡ change Role.any t
-unfolding change
+target-value : {t : Tree} → Target t → change Role.value (seen t) ≡ change Role.any (seen t)
+unfolding change as-any as-simple as-value as-element as-last-element as-property as-last-property as-name seen
 target-value (simple identifier) = refl
 target-value (simple member) = refl
 target-value (simple index) = refl
@@ -90,8 +93,8 @@ target-value (simple (parenthesized s)) = refl
 target-value (array d) = refl
 target-value (object d) = refl
 
-last-value : {t : Tree} → Element t → change (Role.last-element []) t ≡ change Role.value t
-unfolding change
+last-value : {t : Tree} → Element t → change (Role.last-element []) (seen t) ≡ change Role.value (seen t)
+unfolding change as-any as-simple as-value as-element as-last-element as-property as-last-property as-name seen
 last-value (bare (simple identifier)) = refl
 last-value (bare (simple member)) = refl
 last-value (bare (simple index)) = refl
@@ -100,8 +103,8 @@ last-value (bare (array d)) = refl
 last-value (bare (object d)) = refl
 last-value initialized = refl
 
-last-property : {t : Tree} → Property t → change (Role.last-property []) t ≡ change Role.property t
-unfolding change
+last-property : {t : Tree} → Property t → change (Role.last-property []) (seen t) ≡ change Role.property (seen t)
+unfolding change as-any as-simple as-value as-element as-last-element as-property as-last-property as-name seen
 last-property reference = refl
 last-property reference-initialized = refl
 last-property (pair e) = refl
@@ -124,44 +127,44 @@ unfolding convert-kids
 no-kids-clean each = record { made = nil; is = refl }
 
 array-clean : (mark first end : ℕ) {ts : Forest} → CleanKids ts (elements []) → Clean (node row.Array mark first end ts) Role.any
-unfolding convert-as change roles over
+unfolding convert-as change as-any as-simple as-value as-element as-last-element as-property as-last-property as-name seen roles over
 array-clean mark first end c = record { made = node row.TargetArray mark first end (c .made); is = rw (c .is) }
 
 object-clean : (mark first end : ℕ) {ts : Forest} → CleanKids ts (properties []) → Clean (node row.Object mark first end ts) Role.any
-unfolding convert-as change roles over
+unfolding convert-as change as-any as-simple as-value as-element as-last-element as-property as-last-property as-name seen roles over
 object-clean mark first end c = record { made = node row.TargetObject mark first end (c .made); is = rw (c .is) }
 
 hole-clean : (mark first end : ℕ) (kids : Forest) (after : ℕ) → Clean (node row.Hole mark first end kids) (elements [] after)
-unfolding convert-as change roles over
+unfolding convert-as change as-any as-simple as-value as-element as-last-element as-property as-last-property as-name seen roles over
 hole-clean mark first end kids after = either (eqb after 0) (record { made = _; is = refl }) (record { made = _; is = refl })
 
 initialized-clean : (mark first end : ℕ) (kids : Forest) → Clean (node row.Assign mark first end kids) Role.value
-unfolding convert-as change roles over
+unfolding convert-as change as-any as-simple as-value as-element as-last-element as-property as-last-property as-name seen roles over
 initialized-clean mark first end kids = record { made = _; is = refl }
 
 rest-clean : (mark first end : ℕ) {t : Tree} → Target t → Clean t Role.any → CleanKids (one (node row.Spread mark first end (one t))) (elements [])
-unfolding convert-as convert-kids change roles over both count
+unfolding convert-as convert-kids change as-any as-simple as-value as-element as-last-element as-property as-last-property as-name seen roles over both count
 rest-clean mark first end d c = record { made = one (node row.TargetRest mark first end (one (c .made))); is = rw (rest-kinds d, c .is) }
 
 rest-property-clean : (mark first end : ℕ) {t : Tree} → Simple t → CleanKids (one (node row.Spread mark first end (one t))) (properties [])
-unfolding convert-as convert-kids change roles over both count
+unfolding convert-as convert-kids change as-any as-simple as-value as-element as-last-element as-property as-last-property as-name seen roles over both count
 rest-property-clean mark first end {t} s =
     let c : Clean t Role.any = as-alike (simple-any s) (simple-clean s) in
     record { made = one (node row.TargetRest mark first end (one (c .made))); is = rw (references s, c .is) }
 
 pair-clean : (mark first end : ℕ) (key : Tree) {t : Tree} → Clean t Role.value → Clean (node row.Property mark first end (cons key (one t))) Role.property
-unfolding convert-as convert-kids change roles over both count kind-of
+unfolding convert-as convert-kids change as-any as-simple as-value as-element as-last-element as-property as-last-property as-name seen roles over both count kind-of
 pair-clean mark first end (node k m f e kids) c =
     record { made = node row.TargetProperty mark first end (cons (node k m f e kids) (one (c .made))); is = rw (c .is) }
 
 reference-clean : (mark first end mark′ first′ end′ : ℕ) (kids : Forest)
     → Clean (node row.Shorthand mark first end (one (node row.Identifier mark′ first′ end′ kids))) Role.property
-unfolding convert-as convert-kids change roles over both count
+unfolding convert-as convert-kids change as-any as-simple as-value as-element as-last-element as-property as-last-property as-name seen roles over both count
 reference-clean mark first end mark′ first′ end′ kids = record { made = _; is = refl }
 
 reference-initialized-clean : (mark first end mark′ first′ end′ : ℕ) (kids : Forest) (t : Tree)
     → Clean (node row.ShorthandInit mark first end (cons (node row.Identifier mark′ first′ end′ kids) (one t))) Role.property
-unfolding convert-as convert-kids change roles over both count kind-of
+unfolding convert-as convert-kids change as-any as-simple as-value as-element as-last-element as-property as-last-property as-name seen roles over both count kind-of
 reference-initialized-clean mark first end mark′ first′ end′ kids (node k m f e ts) = record { made = _; is = refl }
 
 mutual
@@ -234,10 +237,10 @@ data Step (kids : Forest) : Change → Type 0 where
   kept : {kind : ℕ} {records : List Record} → records ≡ [] → Step kids (keep kind records)
   goes : {kind : ℕ} {before : List Record} {each : ℕ → Role} {after : List Record} → before ≡ [] → after ≡ [] → RuledKids each kids → Step kids (turn kind before each after)
 
-refused-turned : {A : Type 0} {c : Cause} {a : A} {rs : List Record} → _≡_ {A = Outcome A} (refused c) (turned a rs) → ⊥
+pub refused-turned : {A : Type 0} {c : Cause} {a : A} {rs : List Record} → _≡_ {A = Outcome A} (refused c) (turned a rs) → ⊥
 refused-turned e = let z : _≡_ {A = ℕ} 0 1 = cc in omega arith
 
-append-nil : (xs ys : List Record) → xs ++ ys ≡ [] → (xs ≡ []) × (ys ≡ [])
+pub append-nil : (xs ys : List Record) → xs ++ ys ≡ [] → (xs ≡ []) × (ys ≡ [])
 append-nil [] ys e = (refl, e)
 append-nil (x ∷ xs) ys e = let z : _≡_ {A = ℕ} 0 1 = cc in absurd (omega arith)
 
@@ -254,22 +257,22 @@ step (turn k before each after) kind mark first end kids (turned ts′ rs) t′ 
     goes (b .0) (a .1) (h ts′ (ap (turned ts′) (b .1)))
 
 -- a test, gone through
-by-test : {kids : Forest} {R : Type 0} (b : Bool) {x y : Change} → Step kids (if b then x else y) → (b ≡ true → Step kids x → R) → (b ≡ false → Step kids y → R) → R
-by-test true s f g = f refl s
-by-test false s f g = g refl s
+pub by-test : {A R : Type 0} (P : A → Type 0) (b : Bool) {x y : A} → P (if b then x else y) → (b ≡ true → P x → R) → (b ≡ false → P y → R) → R
+by-test P true s f g = f refl s
+by-test P false s f g = g refl s
 
-both-true : (a b : Bool) → a and b ≡ true → (a ≡ true) × (b ≡ true)
+pub both-true : (a b : Bool) → a and b ≡ true → (a ≡ true) × (b ≡ true)
 both-true true b e = (refl, e)
 both-true false b e = let z : _≡_ {A = ℕ} 0 1 = cc in absurd (omega arith)
 
 -- exactly one kid, exactly two kids
-one-kid : (kids : Forest) → eqb (count kids) 1 ≡ true → (t : Tree) × (kids ≡ one t)
+pub one-kid : (kids : Forest) → eqb (count kids) 1 ≡ true → (t : Tree) × (kids ≡ one t)
 unfolding count
 one-kid nil e = let z : _≡_ {A = ℕ} 0 1 = cc in absurd (omega arith)
 one-kid (cons t nil) e = (t, refl)
 one-kid (cons t (cons u us)) e = let z = eqb-true (count us + 1 + 1) 1 e in absurd (omega arith)
 
-two-kids : (kids : Forest) → eqb (count kids) 2 ≡ true → (t : Tree) × (u : Tree) × (kids ≡ cons t (one u))
+pub two-kids : (kids : Forest) → eqb (count kids) 2 ≡ true → (t : Tree) × (u : Tree) × (kids ≡ cons t (one u))
 unfolding count
 two-kids nil e = let z : _≡_ {A = ℕ} 0 1 = cc in absurd (omega arith)
 two-kids (cons t nil) e = let z : _≡_ {A = ℕ} 0 1 = cc in absurd (omega arith)
@@ -298,15 +301,16 @@ of-two kids t u each e r = ((rw e at r) .0, (rw e at r) .1 .0)
 same-node : (m f e : ℕ) {k k′ : ℕ} {kids kids′ : Forest} → k ≡ k′ → kids ≡ kids′ → node k m f e kids ≡ node k′ m f e kids′
 same-node m f e p q = cc
 
-rule-simple : (k m f e : ℕ) (kids : Forest) → Step kids (as-simple (node k m f e kids)) → Simple (node k m f e kids)
+rule-simple : (k m f e : ℕ) (kids : Forest) → Step kids (as-simple (seen (node k m f e kids))) → Simple (node k m f e kids)
+unfolding as-simple seen
 rule-simple k m f e kids s =
-    by-test (eqb k row.Identifier) s (λ is _. rw (eqb-true k _ is) identifier)
-    (λ _ s. by-test (eqb k row.Member) s (λ is _. rw (eqb-true k _ is) member)
-    (λ _ s. by-test (eqb k row.Index) s (λ is _. rw (eqb-true k _ is) index)
-    (λ _ s. by-test (eqb k row.Paren and (eqb (count kids) 1 and not (is-array-or-object (kind-of (last-of kids))))) s
+    by-test (Step kids) (eqb k row.Identifier) s (λ is _. rw (eqb-true k _ is) identifier)
+    (λ _ s. by-test (Step kids) (eqb k row.Member) s (λ is _. rw (eqb-true k _ is) member)
+    (λ _ s. by-test (Step kids) (eqb k row.Index) s (λ is _. rw (eqb-true k _ is) index)
+    (λ _ s. by-test (Step kids) ((eqb k row.Paren and eqb (count kids) 1) and not (is-array-or-object (kind-of (last-of kids)))) s
     (λ is s.
-    let a = both-true (eqb k row.Paren) _ is in
-    let q = one-kid kids (both-true (eqb (count kids) 1) _ (a .1) .0) in
+    let a = both-true (eqb k row.Paren) _ (both-true (eqb k row.Paren and eqb (count kids) 1) _ is .0) in
+    let q = one-kid kids (a .1) in
     rw (eqb-true k _ (a .0), q .1) (parenthesized (of-one kids (q .0) (only Role.simple) (q .1) (gone s .2))))
     (λ _ s. absurd (nothing s)))))
 
@@ -352,7 +356,7 @@ no-rest-comma-property (cons t nil) r e k = last-no-spread property-no-spread (k
 no-rest-comma-property (cons t (cons u us)) r e k = no-rest-comma-property (cons u us) r e (k .1)
 
 -- another kid follows
-follows : (n : ℕ) → eqb (n + 1) 0 ≡ false
+pub follows : (n : ℕ) → eqb (n + 1) 0 ≡ false
 follows n = ne-eqb (n + 1) 0 (λ e. omega arith)
 
 next-slot : (t : Tree) {ts : Forest} → Slot t → Elements ts → Elements (cons t ts)
@@ -380,31 +384,34 @@ properties-ruled (cons t nil) k = last (k .0)
     last (rest c q) = rw (q .is) (rest-property (q .holds))
 properties-ruled (cons t (cons u us)) k = next-property (rw (follows (count us)) at (k .0)) (properties-ruled (cons u us) (k .1))
 
-rule-any : (k m f e : ℕ) (kids : Forest) → Step kids (as-any (node k m f e kids)) → Target (node k m f e kids)
+rule-any : (k m f e : ℕ) (kids : Forest) → Step kids (as-any (seen (node k m f e kids))) → Target (node k m f e kids)
+unfolding as-any seen
 rule-any k m f e kids s =
-    by-test (eqb k row.Array) s (λ is s. rw (eqb-true k _ is) (array (elements-ruled kids (gone s .2))))
-    (λ _ s. by-test (eqb k row.ArrayRestComma and ends-in-spread kids) s
+    by-test (Step kids) (eqb k row.Array) s (λ is s. rw (eqb-true k _ is) (array (elements-ruled kids (gone s .2))))
+    (λ _ s. by-test (Step kids) (eqb k row.ArrayRestComma and ends-in-spread kids) s
     (λ is s. absurd (no-rest-comma kids _ (both-true (eqb k row.ArrayRestComma) _ is .1) (gone s .2)))
-    (λ _ s. by-test (eqb k row.Object) s (λ is s. rw (eqb-true k _ is) (object (properties-ruled kids (gone s .2))))
-    (λ _ s. by-test (eqb k row.ObjectRestComma and ends-in-spread kids) s
+    (λ _ s. by-test (Step kids) (eqb k row.Object) s (λ is s. rw (eqb-true k _ is) (object (properties-ruled kids (gone s .2))))
+    (λ _ s. by-test (Step kids) (eqb k row.ObjectRestComma and ends-in-spread kids) s
     (λ is s. absurd (no-rest-comma-property kids _ (both-true (eqb k row.ObjectRestComma) _ is .1) (gone s .2)))
     (λ _ s. simple (rule-simple k m f e kids s)))))
 
-rule-value : (k m f e : ℕ) (kids : Forest) → Step kids (as-value (node k m f e kids)) → Element (node k m f e kids)
+rule-value : (k m f e : ℕ) (kids : Forest) → Step kids (as-value (seen (node k m f e kids))) → Element (node k m f e kids)
+unfolding as-value seen
 rule-value k m f e kids s =
-    by-test (eqb k row.Assign) s (λ is _. rw (eqb-true k _ is) initialized)
-    (λ _ s. by-test (eqb k row.CompoundAssign) s (λ _ s. let z : _≡_ {A = ℕ} 0 1 = cc (kept-none s) in absurd (omega arith))
+    by-test (Step kids) (eqb k row.Assign) s (λ is _. rw (eqb-true k _ is) initialized)
+    (λ _ s. by-test (Step kids) (eqb k row.CompoundAssign) s (λ _ s. let z : _≡_ {A = ℕ} 0 1 = cc (kept-none s) in absurd (omega arith))
     (λ _ s. bare (rule-any k m f e kids s)))
 
-rule-element : (k m f e : ℕ) (kids : Forest) → Step kids (as-element (node k m f e kids)) → Slot (node k m f e kids)
-unfolding kind-of
+rule-element : (k m f e : ℕ) (kids : Forest) → Step kids (as-element (seen (node k m f e kids))) → Slot (node k m f e kids)
+unfolding as-element seen kind-of
 rule-element k m f e kids s =
-    by-test (eqb k row.Hole) s (λ is _. hole (eqb-true k _ is))
-    (λ _ s. by-test (eqb k row.Spread) s (λ _ s. absurd (nothing s)) (λ _ s. slot (rule-value k m f e kids s)))
+    by-test (Step kids) (eqb k row.Hole) s (λ is _. hole (eqb-true k _ is))
+    (λ _ s. by-test (Step kids) (eqb k row.Spread) s (λ _ s. absurd (nothing s)) (λ _ s. slot (rule-value k m f e kids s)))
 
-rule-last-element : (comma : List Record) (k m f e : ℕ) (kids : Forest) → Step kids (as-last-element comma (node k m f e kids)) → Last comma (node k m f e kids) Slot Target
+rule-last-element : (comma : List Record) (k m f e : ℕ) (kids : Forest) → Step kids (as-last-element comma (seen (node k m f e kids))) → Last comma (node k m f e kids) Slot Target
+unfolding as-last-element seen
 rule-last-element comma k m f e kids s =
-    by-test (eqb k row.Spread and eqb (count kids) 1) s
+    by-test (Step kids) (eqb k row.Spread and eqb (count kids) 1) s
     (λ is s.
     let a = both-true (eqb k row.Spread) _ is in
     let q = one-kid kids (a .1) in
@@ -419,8 +426,9 @@ rule-last-element comma k m f e kids s =
     }))
     (λ _ s. one-more (rule-element k m f e kids s))
 
-rule-name : (k m f e : ℕ) (kids : Forest) → Step kids (as-name (node k m f e kids)) → k ≡ row.Identifier
-rule-name k m f e kids s = by-test (eqb k row.Identifier) s (λ is _. eqb-true k _ is) (λ _ s. absurd (nothing s))
+rule-name : (k m f e : ℕ) (kids : Forest) → Step kids (as-name (seen (node k m f e kids))) → k ≡ row.Identifier
+unfolding as-name seen
+rule-name k m f e kids s = by-test (Step kids) (eqb k row.Identifier) s (λ is _. eqb-true k _ is) (λ _ s. absurd (nothing s))
 
 shorthand : (m f e : ℕ) (t : Tree) → kind-of t ≡ row.Identifier → Property (node row.Shorthand m f e (one t))
 unfolding kind-of
@@ -430,24 +438,25 @@ shorthand-initialized : (m f e : ℕ) (t u : Tree) → kind-of t ≡ row.Identif
 unfolding kind-of
 shorthand-initialized m f e (node k m′ f′ e′ kids) u is = rw is reference-initialized
 
-rule-property : (k m f e : ℕ) (kids : Forest) → Step kids (as-property (node k m f e kids)) → Property (node k m f e kids)
+rule-property : (k m f e : ℕ) (kids : Forest) → Step kids (as-property (seen (node k m f e kids))) → Property (node k m f e kids)
+unfolding as-property seen
 rule-property k m f e kids s =
-    by-test (eqb k row.Shorthand and eqb (count kids) 1) s
+    by-test (Step kids) (eqb k row.Shorthand and eqb (count kids) 1) s
     (λ is s.
     let a = both-true (eqb k row.Shorthand) _ is in
     let q = one-kid kids (a .1) in
     rw (eqb-true k _ (a .0), q .1) (shorthand m f e (q .0) (of-one kids (q .0) (only Role.name) (q .1) (gone s .2))))
-    (λ _ s. by-test (eqb k row.ShorthandInit and eqb (count kids) 2) s
+    (λ _ s. by-test (Step kids) (eqb k row.ShorthandInit and eqb (count kids) 2) s
     (λ is s.
     let a = both-true (eqb k row.ShorthandInit) _ is in
     let q = two-kids kids (a .1) in
     rw (eqb-true k _ (a .0), q .2) (shorthand-initialized m f e (q .0) (q .1) (of-two kids (q .0) (q .1) name-and-initializer (q .2) (gone s .2) .0)))
-    (λ _ s. by-test (eqb k row.Property and eqb (count kids) 2) s
+    (λ _ s. by-test (Step kids) (eqb k row.Property and eqb (count kids) 2) s
     (λ is s.
     let a = both-true (eqb k row.Property) _ is in
     let q = two-kids kids (a .1) in
     rw (eqb-true k _ (a .0), q .2) (pair (of-two kids (q .0) (q .1) key-and-value (q .2) (gone s .2) .1)))
-    (λ _ s. by-test (eqb k row.Spread) s (λ _ s. absurd (nothing s)) (λ _ s. absurd (nothing s)))))
+    (λ _ s. by-test (Step kids) (eqb k row.Spread) s (λ _ s. absurd (nothing s)) (λ _ s. absurd (nothing s)))))
 
 -- through Parens a reference, and simple or a literal: then it is simple
 simple-argument : {t : Tree} → Target t → object-argument t ≡ [] → Simple t
@@ -456,10 +465,11 @@ simple-argument (simple s) e = s
 simple-argument (array d) e = let z : _≡_ {A = ℕ} 0 1 = cc in absurd (omega arith)
 simple-argument (object d) e = let z : _≡_ {A = ℕ} 0 1 = cc in absurd (omega arith)
 
-rule-last-property : (comma : List Record) (k m f e : ℕ) (kids : Forest) → Step kids (as-last-property comma (node k m f e kids))
+rule-last-property : (comma : List Record) (k m f e : ℕ) (kids : Forest) → Step kids (as-last-property comma (seen (node k m f e kids)))
     → Last comma (node k m f e kids) Property Simple
+unfolding as-last-property seen
 rule-last-property comma k m f e kids s =
-    by-test (eqb k row.Spread and eqb (count kids) 1) s
+    by-test (Step kids) (eqb k row.Spread and eqb (count kids) 1) s
     (λ is s.
     let a = both-true (eqb k row.Spread) _ is in
     let q = one-kid kids (a .1) in
@@ -476,8 +486,8 @@ rule-last-property comma k m f e kids s =
     }))
     (λ _ s. one-more (rule-property k m f e kids s))
 
-rule-of : (role : Role) (k m f e : ℕ) (kids : Forest) → Step kids (change role (node k m f e kids)) → Ruled role (node k m f e kids)
-unfolding change kind-of
+rule-of : (role : Role) (k m f e : ℕ) (kids : Forest) → Step kids (change role (seen (node k m f e kids))) → Ruled role (node k m f e kids)
+unfolding change as-any as-simple as-value as-element as-last-element as-property as-last-property as-name seen kind-of
 rule-of Role.any k m f e kids s = rule-any k m f e kids s
 rule-of Role.simple k m f e kids s = rule-simple k m f e kids s
 rule-of Role.element k m f e kids s = rule-element k m f e kids s
@@ -503,8 +513,8 @@ mutual
   ruled : (t : Tree) (role : Role) (t′ : Tree) → convert-as t role ≡ turned t′ [] → Ruled role t
   ruled (node k m f e kids) role t′ h =
       rule-of role k m f e kids
-      (step (change role (node k m f e kids)) k m f e kids (convert-kids kids (roles (change role (node k m f e kids)))) t′ h
-      (λ ts′ q. ruled-kids kids (roles (change role (node k m f e kids))) ts′ q))
+      (step (change role (seen (node k m f e kids))) k m f e kids (convert-kids kids (roles (change role (seen (node k m f e kids))))) t′ h
+      (λ ts′ q. ruled-kids kids (roles (change role (seen (node k m f e kids)))) ts′ q))
 
   ruled-kids : (ts : Forest) (each : ℕ → Role) (ts′ : Forest) → convert-kids ts each ≡ turned ts′ [] → RuledKids each ts
   ruled-kids nil each ts′ h = tt

@@ -1,0 +1,61 @@
+-- `rows::shape::may_be` meets its contract: what the table's numbers say at each place.
+-- Assumes nothing.
+use mathlib.Core.Path.{_∙_, sym}
+use native.Mathlib.Omega.{arith}
+use borrow.Author.Needs.{needs}
+use Rattle.rows.specs.Mask.{cells}
+use Rattle.rows.proofs.Shapes.{front-few, ending-few, in-front, at-end, one-of-many, no-closing, closing}
+use Rattle.rows.proofs.shape.may_be.Statement.{statement}
+use Rattle.rows.proofs.shape.may_be.Tie as tie
+
+cell-requires : tie.Need-cell-requires
+cell-requires c κs = search needs
+
+add-cell : tie.Need-add-cell
+add-cell c = search needs
+
+cell-requires-2 : tie.Need-cell-requires-2
+unfolding cells
+cell-requires-2 c κs = omega (arith, front-few (c .before .before .args .kind) (c .before .before .pre .0), c .before .cell .ensures .is)
+
+holds-requires : tie.Need-holds-requires
+holds-requires c κs = search needs
+
+returns : tie.Need-returns
+returns c = c .holds .ensures ∙ in-front (c .before .before .before .before .args .after) (c .before .before .before .cell .ensures) (c .before .before .if1 .taken) (front-few _ (c .before .before .before .before .pre .0)) (c .before .cell2 .ensures) (c .before .before .before .before .pre .1)
+
+cell-requires-3 : tie.Need-cell-requires-3
+cell-requires-3 c κs = search needs
+
+cell-requires-4 : tie.Need-cell-requires-4
+cell-requires-4 c κs = search needs
+
+holds-requires-2 : tie.Need-holds-requires-2
+holds-requires-2 c κs = search needs
+
+returns-2 : tie.Need-returns-2
+returns-2 c = c .holds2 .ensures ∙ at-end (c .before .before .before .before .before .cell .ensures) (c .before .before .before .before .if1 .left) (c .before .before .before .cell3 .ensures) (c .before .before .if2 .taken) (ending-few _ (c .before .before .before .before .before .before .pre .0)) (c .before .cell4 .ensures) (c .before .before .before .before .before .before .pre .1)
+
+cell-requires-5 : tie.Need-cell-requires-5
+cell-requires-5 c κs = search needs
+
+holds-requires-3 : tie.Need-holds-requires-3
+holds-requires-3 c κs = search needs
+
+returns-3 : tie.Need-returns-3
+returns-3 c = one-of-many (c .before .before .before .before .before .before .cell .ensures) (c .before .before .before .before .before .if1 .left) (c .before .before .before .before .cell3 .ensures) (c .before .before .before .if2 .left) (c .before .before .cell5 .ensures) (c .before .before .before .before .before .before .before .pre .1) (sym (c .before .holds3 .ensures) ∙ c .if3 .taken)
+
+returns-4 : tie.Need-returns-4
+returns-4 c = no-closing (c .before .before .before .before .before .before .before .cell .ensures) (c .before .before .before .before .before .before .if1 .left) (c .before .before .before .before .before .cell3 .ensures) (c .before .before .before .before .if2 .left) (c .before .before .before .cell5 .ensures) (c .before .before .before .before .before .before .before .before .pre .1) (sym (c .before .before .holds3 .ensures) ∙ c .before .if3 .left) (c .if4 .taken)
+
+cell-requires-6 : tie.Need-cell-requires-6
+cell-requires-6 c κs = search needs
+
+holds-requires-4 : tie.Need-holds-requires-4
+holds-requires-4 c κs = search needs
+
+returns-5 : tie.Need-returns-5
+returns-5 c = c .holds4 .ensures ∙ closing (c .before .before .before .before .before .before .before .before .before .cell .ensures) (c .before .before .before .before .before .before .before .before .if1 .left) (c .before .before .before .before .before .before .before .cell3 .ensures) (c .before .before .before .before .before .before .if2 .left) (c .before .before .before .before .before .cell5 .ensures) (c .before .before .before .before .before .before .before .before .before .before .pre .1) (sym (c .before .before .before .before .holds3 .ensures) ∙ c .before .before .before .if3 .left) (c .before .before .if4 .left) (c .before .cell6 .ensures)
+
+pub may-be-spec : {M : Type 1} → statement M
+may-be-spec = tie.close (tie.spec cell-requires add-cell cell-requires-2 holds-requires returns cell-requires-3 cell-requires-4 holds-requires-2 returns-2 cell-requires-5 holds-requires-3 returns-3 returns-4 cell-requires-6 holds-requires-4 returns-5)

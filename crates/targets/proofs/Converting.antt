@@ -1,0 +1,57 @@
+-- A row is judged, and turned where it was judged fine.
+-- Assumes nothing.
+use Prim.Native.Nat.{ℕ, _+_, _*_, _≤_}
+use mathlib.Core.Path.{_≡_, refl, sym, ap, _∙_}
+use mathlib.Core.Bool.{Bool, true, false}
+use mathlib.Core.List.{List, [], _∷_, _++_}
+use native.Mathlib.Omega.{arith}
+use lib.ListN.{length}
+use Rattle.tokens.specs.declared.cause.Cause.{Cause}
+use Rattle.rows.specs.Tree.{Tree}
+use Rattle.rows.specs.Record.{Record}
+use Rattle.targets.specs.Conversion.{Outcome, turned, refused, Role, convert-as}
+use Rattle.targets.specs.Meaning as means
+use Rattle.targets.specs.Post.{Subtree, Judged, Ready, Made, TurnedRow, Room, RowConverted}
+use Rattle.targets.specs.Potential.{potential}
+use Rattle.targets.specs.declared.Conversion.{Conversion}
+use Rattle.targets.specs.declared.Conversion.the-variants.{Turned, Refused}
+use Rattle.targets.proofs.Potentials.{comma-count, pays}
+use Rattle.targets.proofs.Judging.{found-turned}
+
+no-comma : (b : Bool) → comma-count (means.aim b) ≡ 0
+no-comma true = refl
+no-comma false = refl
+
+-- what was found is what comes of the row in the role that is aimed at
+module _ {rows : List ℕ} {root : ℕ} {role : Role} (simple : Bool) {found : Conversion} (e : role ≡ means.aim simple) (j : Judged rows root role found) where
+  found-is : (h : Subtree rows root) (out : Outcome Tree) → convert-as (h .tree) (means.aim simple) ≡ out → found ≡ means.found out
+  found-is h out q = j .is h ∙ ap means.found (ap (convert-as (h .tree)) e ∙ q)
+
+  pub convert-fails : {r : List ℕ} {used : ℕ} {c : Cause} → found ≡ Refused c → RowConverted rows r root (means.aim simple) used rows r (Refused c)
+  convert-fails {c = c} f =
+      record {
+        done = λ h t rs q. let z : Refused c ≡ Turned (length rs) = sym f ∙ found-is h _ q in let y : _≡_ {A = ℕ} 0 1 = cc in absurd (omega arith);
+        fail = λ h cause q. (sym f ∙ found-is h _ q, refl, refl);
+      }
+
+  pub convert-ready : {words used n : ℕ} → Room rows root words used → found ≡ Turned n → Ready rows root role words (used + n)
+  convert-ready {words} {used} {n} m f =
+      let a = found-turned (convert-as (m .rooted .tree) role) n (sym (j .is (m .rooted)) ∙ f) in
+      let p = pays (m .rooted .tree) role (a .0) (a .1) (a .2) .is in
+      let c : comma-count role ≡ 0 = ap comma-count e ∙ no-comma simple in
+      let l = a .3 in
+      let i = m .room in
+      record { rooted = m .rooted; made = a .0; records = a .1; accepted = a .2; room = omega arith; inside = omega arith }
+
+  pub convert-done : {r rows′ r′ : List ℕ} {used n start : ℕ} → found ≡ Turned n → TurnedRow rows r root role (used + n) rows′ r′ start
+      → RowConverted rows r root (means.aim simple) used rows′ r′ (Turned n)
+  convert-done {used = used} {n = n} {start = start} f tr =
+      record {
+        done = λ h t rs q.
+            let z : Turned n ≡ Turned (length rs) = sym f ∙ found-is h _ q in
+            let l : n ≡ length rs = cc in
+            let m = tr .is h t rs (ap (convert-as (h .tree)) e ∙ q) in
+            let s : start ≡ used = let b = m .0 in omega arith in
+            (z, rw s at (m .1));
+        fail = λ h cause q. let z : Turned n ≡ Refused cause = sym f ∙ found-is h _ q in let y : _≡_ {A = ℕ} 0 1 = cc in absurd (omega arith);
+      }

@@ -1,0 +1,100 @@
+-- What the code reads of a row and of its last kid is what the definition looks at.
+-- Assumes nothing.
+use Prim.Native.Nat.{ℕ, _+_, _-_, _*_, _≤_, _<_}
+use mathlib.Core.Path.{_≡_, refl, sym, ap, _∙_}
+use mathlib.Core.List.{List, [], _∷_, _++_}
+use native.Mathlib.Omega.{arith}
+use lib.ListN.{getD}
+use Rattle.rows.specs.Tree.{Tree, Forest, node, nil, cons, one, join, count, size, row, kind-of, mark-of, first-of, kids-of}
+use Rattle.rows.specs.Post.{Word}
+use Rattle.targets.specs.Conversion.{last-or, last-of}
+use Rattle.targets.specs.Meaning as means
+use Rattle.targets.specs.Post.{Subtree, near, Looked}
+use Rattle.targets.specs.declared.role.Seen.{Seen}
+use Rattle.targets.proofs.Flat.{root-words, root-word, Walk, Next, walk-start, walk-more, kid-tree, kid-size}
+
+kind-word : (t : Tree) → getD (root-words t) 0 0 ≡ kind-of t
+unfolding root-words kind-of
+kind-word (node k m f e kids) = refl
+
+mark-word : (t : Tree) → getD (root-words t) 1 0 ≡ mark-of t
+unfolding root-words mark-of
+mark-word (node k m f e kids) = refl
+
+first-word : (t : Tree) → getD (root-words t) 2 0 ≡ first-of t
+unfolding root-words first-of
+first-word (node k m f e kids) = refl
+
+kids-word : (t : Tree) → getD (root-words t) 4 0 ≡ count (kids-of t)
+unfolding root-words kids-of
+kids-word (node k m f e kids) = refl
+
+size-word : (t : Tree) → getD (root-words t) 5 0 ≡ size t
+unfolding root-words size
+size-word (node k m f e kids) = refl
+
+module _ {rows : List ℕ} {root : ℕ} (h : Subtree rows root) where
+  pub reads-kind : {x : ℕ} → Word rows root 0 x → x ≡ kind-of (h .tree)
+  reads-kind w = w .is ∙ root-word h 0 (omega arith) ∙ kind-word (h .tree)
+
+  pub reads-mark : {x : ℕ} → Word rows root 1 x → x ≡ mark-of (h .tree)
+  reads-mark w = w .is ∙ root-word h 1 (omega arith) ∙ mark-word (h .tree)
+
+  pub reads-first : {x : ℕ} → Word rows root 2 x → x ≡ first-of (h .tree)
+  reads-first w = w .is ∙ root-word h 2 (omega arith) ∙ first-word (h .tree)
+
+  pub reads-kids : {x : ℕ} → Word rows root 4 x → x ≡ count (kids-of (h .tree))
+  reads-kids w = w .is ∙ root-word h 4 (omega arith) ∙ kids-word (h .tree)
+
+  pub reads-size : {x : ℕ} → Word rows root 5 x → x ≡ size (h .tree)
+  reads-size w = w .is ∙ root-word h 5 (omega arith) ∙ size-word (h .tree)
+
+near-is : (t : Tree) (s : Seen) → s .kind ≡ kind-of t → s .mark ≡ mark-of t → s .first ≡ first-of t → s .kids ≡ count (kids-of t)
+    → s .last ≡ kind-of (last-of (kids-of t)) → s .begins ≡ first-of (last-of (kids-of t)) → means.seen s ≡ near t
+unfolding near kind-of mark-of first-of kids-of
+near-is (node k m f e kids) s a b c d l g = rw (a, b, c, d, l, g)
+
+no-kid : (ts : Forest) → count ts ≡ 0 → ts ≡ nil
+unfolding count
+no-kid nil h = refl
+no-kid (cons t ts) h = absurd (omega arith)
+
+last-join : (u : Tree) (ts : Forest) (t : Tree) → last-or u (join ts (one t)) ≡ t
+unfolding join
+last-join u nil t = refl
+last-join u (cons v vs) t = last-join v vs t
+
+pub looks-none : {rows : List ℕ} {root kind mark first kids : ℕ} → Word rows root 0 kind → Word rows root 1 mark → Word rows root 2 first
+    → Word rows root 4 kids → kids ≡ 0 → Looked rows root (record { kind = kind; mark = mark; first = first; kids = kids; last = 0; begins = 0 })
+unfolding kind-of first-of
+looks-none a b c d z =
+    record {
+      is = λ h.
+          let none : last-of (kids-of (h .tree)) ≡ node 0 0 0 0 nil = ap last-of (no-kid (kids-of (h .tree)) (sym (reads-kids h d) ∙ z)) in
+          near-is (h .tree) _ (reads-kind h a) (reads-mark h b) (reads-first h c) (reads-kids h d) (sym (ap kind-of none)) (sym (ap first-of none));
+    }
+
+-- the row has a kid
+more-than : {rows : List ℕ} {root kids : ℕ} (h : Subtree rows root) → Word rows root 4 kids → (kids ≡ 0 → ⊥) → 0 < count (kids-of (h .tree))
+more-than h d some = let e = reads-kids h d in omega (arith, some)
+
+pub has-kid : {rows : List ℕ} {root kids : ℕ} → Subtree rows root → Word rows root 4 kids → (kids ≡ 0 → ⊥) → 1 ≤ root
+has-kid h d some =
+    let w = walk-start h in
+    let n = walk-more w (more-than h d some) in
+    let s = kid-size w n in
+    omega arith
+
+pub looks-last : {rows : List ℕ} {root kind mark first kids last begins : ℕ} → Word rows root 0 kind → Word rows root 1 mark → Word rows root 2 first
+    → Word rows root 4 kids → (kids ≡ 0 → ⊥) → Word rows (root - 1) 0 last → Word rows (root - 1) 2 begins
+    → Looked rows root (record { kind = kind; mark = mark; first = first; kids = kids; last = last; begins = begins })
+looks-last a b c d some l g =
+    record {
+      is = λ h.
+          let w = walk-start h in
+          let n = walk-more w (more-than h d some) in
+          let k = kid-tree w n in
+          let e : last-of (kids-of (h .tree)) ≡ n .kid = ap last-of (n .is) ∙ last-join (node 0 0 0 0 nil) (n .rest) (n .kid) in
+          near-is (h .tree) _ (reads-kind h a) (reads-mark h b) (reads-first h c) (reads-kids h d)
+          (reads-kind k l ∙ sym (ap kind-of e)) (reads-first k g ∙ sym (ap first-of e));
+    }

@@ -1,0 +1,94 @@
+-- What the contracts of the conversion say: the row is the root of a tree, what is found of it, and what is in both buffers after.
+-- Assumes nothing: these are definitions.
+use Prim.Native.Nat.{ℕ, _+_, _*_, _≤_, _<_, _^_}
+use mathlib.Core.Path.{_≡_}
+use mathlib.Core.Bool.{Bool, true, false}
+use mathlib.Core.List.{List, [], _∷_, _++_}
+use lib.ListN.{length, take, drop}
+use Rattle.tokens.specs.Bool.{if_then_else_}
+use Rattle.tokens.specs.declared.cause.Cause.{Cause}
+use Rattle.rows.specs.Tree.{Tree, Forest, node, nil, cons, size, flat, count, kind-of, first-of}
+use Rattle.rows.specs.Record.{Record, rest-argument, record-words}
+use Rattle.targets.specs.Conversion as def
+use Rattle.targets.specs.Conversion.{Outcome, turned, refused, convert-as}
+use Rattle.targets.specs.Meaning as means
+use Rattle.targets.specs.Potential.{potential}
+use Rattle.targets.specs.declared.Conversion.{Conversion}
+use Rattle.targets.specs.declared.Conversion.the-variants.{Turned, Refused}
+use Rattle.targets.specs.declared.role.Seen.{Seen}
+use Rattle.targets.specs.declared.role.Note.{Note}
+
+-- a row of the words is the root of a tree: the words before its rows, the tree, and the words after
+pub record Subtree (rows : List ℕ) (root : ℕ) : Type 0 where
+  pub before : List ℕ
+  pub tree : Tree
+  pub after : List ℕ
+  pub text : rows ≡ before ++ (flat tree ++ after)
+  pub place : 6 * (root + 1) ≡ length before + 6 * size tree
+
+-- what the code looks at in a tree's root: an argument itself, and not through Parens
+unfoldable pub near : Tree → def.Seen
+near (node kind mark first end kids) =
+    record {
+      kind = kind;
+      mark = mark;
+      first = first;
+      kids = count kids;
+      last = kind-of (def.last-of kids);
+      in-array = [];
+      in-object = if def.is-array-or-object (kind-of (def.last-of kids)) then rest-argument (first-of (def.last-of kids)) ∷ [] else [];
+    }
+
+pub record Looked (rows : List ℕ) (root : ℕ) (r : Seen) : Type 0 where
+  pub is : (h : Subtree rows root) → means.seen r ≡ near (h .tree)
+
+-- what the conversion of a row will give
+pub record Judged (rows : List ℕ) (root : ℕ) (role : def.Role) (r : Conversion) : Type 0 where
+  pub is : (h : Subtree rows root) → r ≡ means.found (convert-as (h .tree) role)
+
+-- the records of both are not too many to count
+pub record Sums (one rest : Conversion) : Type 0 where
+  pub fits : (n m : ℕ) → one ≡ Turned n → rest ≡ Turned m → n + m < 2 ^ 64
+
+-- the records stand from `start` on, and no other word is changed
+pub record Filled (r₀ : List ℕ) (start : ℕ) (records : List Record) (r : List ℕ) : Type 0 where
+  pub text : r ≡ take (2 * start) r₀ ++ (record-words records ++ drop (2 * (start + length records)) r₀)
+
+-- a note has room before the record `end`
+pub record NoteFits (words end : ℕ) (note : Note) : Type 0 where
+  pub room : length (means.note note) ≤ end
+  pub inside : 2 * end ≤ words
+
+pub record Written (r₀ : List ℕ) (end : ℕ) (note : Note) (r : List ℕ) (start : ℕ) : Type 0 where
+  pub begins : start + length (means.note note) ≡ end
+  pub filled : Filled r₀ start (means.note note) r
+
+-- a row can be converted, and its records have room before the record `end`
+pub record Ready (rows : List ℕ) (root : ℕ) (role : def.Role) (words end : ℕ) : Type 0 where
+  pub rooted : Subtree rows root
+  pub made : Tree
+  pub records : List Record
+  pub accepted : convert-as (rooted .tree) role ≡ turned made records
+  pub room : length records ≤ end
+  pub inside : 2 * end ≤ words
+
+-- the rows of a tree stand where those of another stood, and its records from `start` on
+pub record Made (before after r₀ : List ℕ) (t : Tree) (start : ℕ) (records : List Record) (rows r : List ℕ) : Type 0 where
+  pub text : rows ≡ before ++ (flat t ++ after)
+  pub filled : Filled r₀ start records r
+
+-- the row was converted, its records before the record `end`
+pub record TurnedRow (rows₀ r₀ : List ℕ) (root : ℕ) (role : def.Role) (end : ℕ) (rows r : List ℕ) (start : ℕ) : Type 0 where
+  pub is : (h : Subtree rows₀ root) (t : Tree) (records : List Record) → convert-as (h .tree) role ≡ turned t records
+      → (start + length records ≡ end) × Made (h .before) (h .after) r₀ t start records rows r
+
+-- the row is the root of a tree, and there is room for all that conversion could record of it
+pub record Room (rows : List ℕ) (root words used : ℕ) : Type 0 where
+  pub rooted : Subtree rows root
+  pub room : 2 * (used + potential (rooted .tree)) ≤ words
+
+-- the row was converted and its records added, or nothing was changed
+pub record RowConverted (rows₀ r₀ : List ℕ) (root : ℕ) (role : def.Role) (used : ℕ) (rows r : List ℕ) (x : Conversion) : Type 0 where
+  pub done : (h : Subtree rows₀ root) (t : Tree) (records : List Record) → convert-as (h .tree) role ≡ turned t records
+      → (x ≡ Turned (length records)) × Made (h .before) (h .after) r₀ t used records rows r
+  pub fail : (h : Subtree rows₀ root) (cause : Cause) → convert-as (h .tree) role ≡ refused cause → (x ≡ Refused cause) × (rows ≡ rows₀) × (r ≡ r₀)
