@@ -2,3 +2,4 @@
 pub mod cursor;
 pub mod heads;
 pub mod keys;
+pub mod operation;
