@@ -1,7 +1,7 @@
 -- Room: where a nonterminal is done, how many rows and records there are then, and that it gives one tree. `limits` has a line a nonterminal;
 -- `bounded`, at the end, says that each keeps its limits; `room`, that rows never exceed tokens and records never exceed tokens.
 -- Assumes nothing.
-use Prim.Native.Nat.{ℕ, zero, suc, _+_, _≤_, _<_, max}
+use Prim.Native.Nat.{ℕ, zero, suc, _+_, _-_, _≤_, _<_, max}
 use mathlib.Core.Path.{_≡_, refl, sym, ap, _∙_}
 use mathlib.Core.Bool.{Bool, true, false, not}
 use mathlib.Core.List.{List, [], _∷_, _++_}
@@ -30,7 +30,7 @@ use Rattle.grammar.specs.Binding.{binding-of, binding-element-of, binding-rest-
 use Rattle.grammar.specs.Arrow.{Policy, arrow-of, assignment-of, parenthesized-head-of, head-of, parameters-of, body-of}
 use Rattle.grammar.specs.Step.{step, read, Settles, μ}
 use Rattle.grammar.specs.Reading.{unconverteds, Whole, whole, reading}
-use Rattle.laws.specs.Good.{came, Meaning, Reads, Answers, Preserved, good-done, Stands, yields, refuses, says, follows, tries, test, token-test, chooses, notes, converts, so, inside}
+use Rattle.laws.specs.Good.{came, Meaning, Reads, Answers, Preserved, good-done, Stands, yields, refuses, says, follows, tries, test, token-test, chooses, notes, converts, so, inside, and-left}
 use Rattle.laws.specs.Owed.{owes, owes-one, owed, oweds, lent, sizes-join, oweds-join, same-size, pays, pays-lasts}
 
 -- what a nonterminal at a place is bound by: the least and the most that its end can be; the rows and the dues (records, and what rows owe) that
@@ -54,6 +54,10 @@ goes-on sheet at rows dues = record { at = at; least = at; most = max at (length
 -- any number of trees
 abbrev pub reads-any : Sheet → ℕ → ℕ → ℕ → Limits
 reads-any sheet at rows dues = record { at = at; least = at + 1; most = length (sheet .kinds); rows = rows; dues = dues; lone = false }
+
+-- any number of trees, up to the `=>`, which stands
+abbrev pub reads-head : Sheet → ℕ → Limits
+reads-head sheet at = record { at = at; least = at + 1; most = length (sheet .kinds) - 1; rows = 0; dues = 0; lone = false }
 
 -- what the row of a Sequence still costs where this token stands: its first comma pays for it
 unfoldable pub fee : ℕ → ℕ
@@ -87,7 +91,7 @@ limits sheet (binding-elements first at so-far) = reads sheet at (sizes so-far) 
 limits sheet (binding-properties first at so-far) = reads sheet at (sizes so-far + 1) (oweds so-far)
 limits sheet (binding-property at) = reads sheet at 1 0
 limits sheet (binding-rest at) = reads sheet at 0 0
-limits sheet (head at) = reads-any sheet at 0 0
+limits sheet (head at) = reads-head sheet at
 limits sheet (parameters at so-far) = reads-any sheet at (sizes so-far) (oweds so-far)
 limits sheet (body kind first at so-far) = reads sheet at (sizes so-far) (owes kind + oweds so-far)
 
@@ -180,10 +184,6 @@ target role at left z =
       dues = simp (oweds-cons, oweds-nil) (omega (arith, pays left role t records e));
     })
     (λ cause e. tt)
-
-and-left : (a b : Bool) → a and b ≡ true → a ≡ true
-and-left true b e = refl
-and-left false b e = e
 
 one-at-most : (holds : Bool) (r : Record) → length (if holds then r ∷ [] else []) ≤ 1
 one-at-most true r = omega arith

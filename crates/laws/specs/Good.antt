@@ -9,7 +9,7 @@ use mathlib.Core.List.{List, [], _++_}
 use native.Mathlib.Omega.{arith}
 use lib.ListN.{length}
 use borrow.Author.Tests.{eqb-true}
-use Rattle.tokens.specs.Bool.{_is_, if_then_else_}
+use Rattle.tokens.specs.Bool.{_is_, _and_, if_then_else_}
 use Rattle.tokens.proofs.Stands.{stands}
 use Rattle.tokens.specs.declared.cause.Cause.{Cause}
 use Rattle.rows.specs.Tree.{Tree, Forest, one}
@@ -85,6 +85,15 @@ inside sheet at holds z e = go (token sheet at) refl
     go : (k : ℕ) → token sheet at ≡ k → at < length (sheet .kinds)
     go zero q = let b : holds (token sheet at) ≡ holds 0 = ap holds q in let f : true ≡ false = sym e ∙ b ∙ z in let y : _≡_ {A = ℕ} 0 1 = cc in absurd (omega arith)
     go (suc k) q = stands (sheet .kinds) q
+
+-- both halves of a joined test
+pub and-left : (a b : Bool) → a and b ≡ true → a ≡ true
+and-left true b e = refl
+and-left false b e = e
+
+pub and-right : (a b : Bool) → a and b ≡ true → b ≡ true
+and-right true b e = e
+and-right false b e = let z : _≡_ {A = ℕ} 0 1 = cc in absurd (omega arith)
 
 -- a whole reading is one that is done at the end of the list, and then come the records 8
 pub record Came {N : Type 0} (policy : Policy N) (sheet : Sheet) (job : Job) (notes : N) (trees : Forest) (records : List Record) (after : N) : Type 0 where

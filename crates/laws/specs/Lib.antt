@@ -2,3 +2,5 @@ pub mod Sheets
 pub mod Good
 pub mod Owed
 pub mod Bounds
+pub mod Rel
+pub mod Steady
