@@ -30,7 +30,7 @@ use Rattle.grammar.specs.Binding.{binding-of, binding-element-of, binding-rest-
 use Rattle.grammar.specs.Arrow.{Policy, arrow-of, assignment-of, parenthesized-head-of, head-of, parameters-of, body-of}
 use Rattle.grammar.specs.Step.{step, read, Settles, μ}
 use Rattle.grammar.specs.Reading.{unconverteds, Whole, whole, reading}
-use Rattle.laws.specs.Good.{came, Meaning, Reads, Answers, Preserved, good-done, Stands, yields, refuses, says, follows, tries, test, token-test, chooses, notes, converts, so, inside, and-left}
+use Rattle.laws.specs.Good.{came, Meaning, Reads, Answers, Preserved, good, good-done, Stands, yields, refuses, says, follows, tries, test, token-test, chooses, notes, converts, so, inside, and-left}
 use Rattle.laws.specs.Owed.{owes, owes-one, owed, oweds, lent, sizes-join, oweds-join, same-size, pays, pays-lasts}
 
 -- what a nonterminal at a place is bound by: the least and the most that its end can be; the rows and the dues (records, and what rows owe) that
@@ -141,11 +141,11 @@ unfolding first-tree
 single-one true t = refl
 single-one false t = tt
 
-fee-comma : {kind : ℕ} → kind ≡ Comma → fee kind ≡ 0
+pub fee-comma : {kind : ℕ} → kind ≡ Comma → fee kind ≡ 0
 unfolding fee
 fee-comma e = rw e
 
-fee-one : (kind : ℕ) → fee kind ≤ 1
+pub fee-one : (kind : ℕ) → fee kind ≤ 1
 unfolding fee
 fee-one kind = go (kind is Comma)
   where
@@ -218,10 +218,10 @@ lent-either : (plain : Bool) → lent (if plain then any else simple) ≡ 0
 lent-either true = refl
 lent-either false = refl
 
-abbrev Any : Job → Type 0
+abbrev pub Any : Job → Type 0
 Any job = Unit {0}
 
-abbrev Nothing : Cause → Type 0
+abbrev pub Nothing : Cause → Type 0
 Nothing cause = Unit {0}
 
 module _ {N : Type 0} (sheet : Sheet) {ask : Asks N} (h : Answers Any (λ job. Bound (limits sheet job)) Nothing ask) where
@@ -622,10 +622,13 @@ module _ {N : Type 0} (policy : Policy N) (sheet : Sheet) where
   preserved : Preserved policy sheet Any (λ job. Bound (limits sheet job)) Nothing
   preserved = record { with = λ ask h. record { with = λ job _. step-bound policy sheet h job } }
 
+  pub all-bounded : (steps : ℕ) → Answers {N = N} Any (λ job. Bound (limits sheet job)) Nothing (read policy sheet steps)
+  all-bounded steps = good policy sheet Any (λ job. Bound (limits sheet job)) Nothing preserved steps
+
   -- a nonterminal that is done keeps its limits, with any policy, from any notes, at any bound on the steps
   pub bounded-at : (steps : ℕ) (job : Job) (notes : N) {end : ℕ} {trees : Forest} {records : List Record} {after : N}
       → read policy sheet steps job notes ≡ done end trees records after → Bound (limits sheet job) end trees records
-  bounded-at steps job notes e = good-done policy sheet Any (λ job. Bound (limits sheet job)) Nothing preserved steps job tt notes e
+  bounded-at steps job notes e = good-done policy sheet Any (λ job. Bound (limits sheet job)) Nothing steps (all-bounded steps) job tt notes e
 
 -- the same of what a nonterminal comes to
 pub bounded : {N : Type 0} {policy : Policy N} {sheet : Sheet} {job : Job} {before after : N} {end : ℕ} {trees : Forest} {records : List Record}

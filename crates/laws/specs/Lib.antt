@@ -4,3 +4,4 @@ pub mod Owed
 pub mod Bounds
 pub mod Rel
 pub mod Steady
+pub mod Places

@@ -213,7 +213,7 @@ module _ {N N′ : Type 0} {Sim : N → N′ → Type 0} {Alike : Cause → Caus
         go m m′ s (refused cause) = both-fail cause cause m m′ refl refl (alike cause) s
 
 -- a token whose level is above another stands before the end
-operator-inside : (sheet : Sheet) (at floor : ℕ) → ltb floor (expression-level (token sheet at)) ≡ true → at < length (sheet .kinds)
+pub operator-inside : (sheet : Sheet) (at floor : ℕ) → ltb floor (expression-level (token sheet at)) ≡ true → at < length (sheet .kinds)
 unfolding expression-level level
 operator-inside sheet at floor e = go (token sheet at) refl (ltb-true floor _ e)
   where
@@ -222,7 +222,7 @@ operator-inside sheet at floor e = go (token sheet at) refl (ltb-true floor _ e)
     go (suc k) q l = stands (sheet .kinds) q
 
 -- the `=>` after an async name stands before the end
-async-inside : {N : Type 0} (sheet : Sheet) (ask : Asks N) (at : ℕ) → is-async-name sheet ask at ≡ true → at + 2 < length (sheet .kinds)
+pub async-inside : {N : Type 0} (sheet : Sheet) (ask : Asks N) (at : ℕ) → is-async-name sheet ask at ≡ true → at + 2 < length (sheet .kinds)
 unfolding is-async-name
 async-inside sheet ask at t =
     inside sheet (at + 2) (λ k. k is Arrow) refl
