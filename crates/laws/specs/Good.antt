@@ -8,7 +8,7 @@ use mathlib.Core.Bool.{Bool, true, false}
 use mathlib.Core.List.{List, [], _++_}
 use native.Mathlib.Omega.{arith}
 use lib.ListN.{length}
-use borrow.Author.Tests.{eqb-true}
+use borrow.Author.Tests.{eqb-true, eq-eqb}
 use Rattle.tokens.specs.Bool.{_is_, _and_, if_then_else_}
 use Rattle.tokens.proofs.Stands.{stands}
 use Rattle.tokens.specs.declared.cause.Cause.{Cause}
@@ -128,6 +128,12 @@ came {N} policy sheet job notes {trees} {records} {after} e = go (read policy sh
     go (done end ts rs m) d e = at-place end ts rs m d (end is length (sheet .kinds)) refl e
     go (fail cause m) d e = let z : _≡_ {A = ℕ} 0 1 = cc in absurd (omega arith)
     go stuck d e = let z : _≡_ {A = ℕ} 0 1 = cc in absurd (omega arith)
+
+-- and the other way round
+pub whole-from : {N : Type 0} (policy : Policy N) (sheet : Sheet) (job : Job) (notes : N) {trees : Forest} {said : List Record} {after : N}
+    → read policy sheet (μ sheet job) job notes ≡ done (length (sheet .kinds)) trees said after → reading policy sheet job notes ≡ whole trees (said ++ unconverteds trees) after
+unfolding reading at-end
+whole-from policy sheet job notes e = rw (e, eq-eqb (length (sheet .kinds)) (length (sheet .kinds)) refl)
 
 -- a whole reading that is refused: the nonterminal failed, or something stands after it
 pub data Refused {N : Type 0} (policy : Policy N) (sheet : Sheet) (job : Job) (notes : N) (cause : Cause) : Type 0 where

@@ -5,3 +5,4 @@ pub mod Bounds
 pub mod Rel
 pub mod Steady
 pub mod Places
+pub mod Abandoned

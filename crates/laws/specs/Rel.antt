@@ -122,7 +122,7 @@ module _ {N N′ : Type 0} (Sim : N → N′ → Type 0) (Alike : Cause → Caus
 
 -- THE WORDS
 module _ {N N′ : Type 0} {Sim : N → N′ → Type 0} {Alike : Cause → Cause → Type 0} where
-  after-records-rel : (records : List Record) {x : Out N} {y : Out N′} → Rel Sim Alike Whatever x y → Rel Sim Alike Whatever (after-records records x) (after-records records y)
+  pub after-records-rel : (records : List Record) {x : Out N} {y : Out N′} → Rel Sim Alike Whatever x y → Rel Sim Alike Whatever (after-records records x) (after-records records y)
   unfolding after-records
   after-records-rel records (both-done end trees more m m′ e e′ p s) = rw (e, e′) (both-done end trees (records ++ more) m m′ refl refl tt s)
   after-records-rel records (both-fail cause cause′ m m′ e e′ a s) = rw (e, e′) (both-fail cause cause′ m m′ refl refl a s)
@@ -176,18 +176,20 @@ module _ {N N′ : Type 0} {Sim : N → N′ → Type 0} {Alike : Cause → Caus
 
   -- where both take the same way
   pub both-choose : (way : N → Way) (way′ : N′ → Way) {x y z : Reading N} {x′ y′ z′ : Reading N′} → ((m : N) (m′ : N′) → Sim m m′ → way m ≡ way′ m′)
-      → Agree Sim Alike Whatever x x′ → Agree Sim Alike Whatever y y′ → Agree Sim Alike Whatever z z′
+      → ((m : N) (m′ : N′) → Sim m m′ → way m ≡ pass → Rel Sim Alike Whatever (x m) (x′ m′))
+      → ((m : N) (m′ : N′) → Sim m m′ → way m ≡ attempt → Rel Sim Alike Whatever (y m) (y′ m′))
+      → ((m : N) (m′ : N′) → Sim m m′ → way m ≡ commit → Rel Sim Alike Whatever (z m) (z′ m′))
       → Agree Sim Alike Whatever (choose way x y z) (choose way′ x′ y′ z′)
   unfolding choose by-way
-  both-choose way way′ {x} {y} {z} {x′} {y′} {z′} k a b c = record { with = λ m m′ s. go m m′ s (way m) (way′ m′) (k m m′ s) }
+  both-choose way way′ {x} {y} {z} {x′} {y′} {z′} k a b c = record { with = λ m m′ s. go m m′ s (way m) (way′ m′) (k m m′ s) refl }
     where
-      same : (m : N) (m′ : N′) → Sim m m′ → (w : Way) → Rel Sim Alike Whatever (by-way w x y z m) (by-way w x′ y′ z′ m′)
-      same m m′ s pass = a .with m m′ s
-      same m m′ s attempt = b .with m m′ s
-      same m m′ s commit = c .with m m′ s
+      same : (m : N) (m′ : N′) → Sim m m′ → (w : Way) → way m ≡ w → Rel Sim Alike Whatever (by-way w x y z m) (by-way w x′ y′ z′ m′)
+      same m m′ s pass e = a m m′ s e
+      same m m′ s attempt e = b m m′ s e
+      same m m′ s commit e = c m m′ s e
 
-      go : (m : N) (m′ : N′) → Sim m m′ → (w w′ : Way) → w ≡ w′ → Rel Sim Alike Whatever (by-way w x y z m) (by-way w′ x′ y′ z′ m′)
-      go m m′ s w w′ e = rw e (same m m′ s w′)
+      go : (m : N) (m′ : N′) → Sim m m′ → (w w′ : Way) → w ≡ w′ → way m ≡ w → Rel Sim Alike Whatever (by-way w x y z m) (by-way w′ x′ y′ z′ m′)
+      go m m′ s w w′ e q = rw e (same m m′ s w′ (q ∙ e))
 
   pub both-test : (holds : Bool) {x y : Reading N} {x′ y′ : Reading N′} → (holds ≡ true → Agree Sim Alike Whatever x x′) → (holds ≡ false → Agree Sim Alike Whatever y y′)
       → Agree Sim Alike Whatever (if holds then x else y) (if holds then x′ else y′)

@@ -48,9 +48,10 @@ module _ {N : Type 0} (policy : Policy N) (sheet : Sheet) (low : ℕ) (Inv : N �
       both-test (token sheet at is LParen or token sheet at is Async)
       (λ t. let i = opens-inside sheet at t in
       both-choose (policy .way at) (policy .way at) (λ m m′ s. ap (policy .way at) (s .same))
-      past
-      (both-try (h .with (head at) (omega arith)) (arrow-rel (λ c. refl) sheet h policy policy at r) (both-note (policy .mark at) (policy .mark at) (marked at (omega arith) i) past))
-      (both-follow (h .with (head at) (omega arith)) (arrow-rel (λ c. refl) sheet h policy policy at r)))
+      (λ m m′ s _. past .with m m′ s)
+      (λ m m′ s _. both-try (h .with (head at) (omega arith)) (arrow-rel (λ c. refl) sheet h policy policy at r)
+      (both-note (policy .mark at) (policy .mark at) (marked at (omega arith) i) past) .with m m′ s)
+      (λ m m′ s _. both-follow (h .with (head at) (omega arith)) (arrow-rel (λ c. refl) sheet h policy policy at r) .with m m′ s))
       (λ _. past)
 
   related-same : (job : Job) → low ≤ first-noted job → looked-at job ≤ length (sheet .kinds) → (m : N) → Inv m → (f f′ : ℕ) → μ sheet job ≤ f → μ sheet job ≤ f′
