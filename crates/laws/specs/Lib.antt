@@ -6,3 +6,4 @@ pub mod Rel
 pub mod Steady
 pub mod Places
 pub mod Abandoned
+pub mod Formed
