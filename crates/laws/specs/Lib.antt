@@ -7,3 +7,4 @@ pub mod Steady
 pub mod Places
 pub mod Abandoned
 pub mod Formed
+pub mod WellFormed
