@@ -8,10 +8,9 @@ use mathlib.Core.Bool.{Bool, true, false, not}
 use mathlib.Core.List.{List, [], _∷_, _++_}
 use native.Mathlib.Omega.{arith}
 use native.Mathlib.Decide.{ℕ-discrete}
-use lib.Dec.{eqb}
-use lib.ListN.{length, getD, set, replicate, length-set, length-replicate, getD-replicate, List·getD-eq-default}
+use lib.ListN.{length, getD, set, replicate, length-set, length-replicate, List·getD-eq-default}
 use lib.Seq.{getD-set-same, getD-set-other}
-use borrow.Author.Tests.{eqb-true, eqb-false, not-false, not-true, eq-eqb, ne-eqb}
+use borrow.Author.Tests.{eqb-true, not-false, eq-eqb, ne-eqb}
 use Rattle.tokens.specs.Bool.{_or_, _is_, if_then_else_}
 use Rattle.tokens.specs.Kind.{Async, LParen}
 use Rattle.tokens.specs.declared.cause.Cause.{Cause}
@@ -19,14 +18,14 @@ use Rattle.lookahead.specs.ThreeWay.{three-way}
 use Rattle.lookahead.specs.declared.Tristate.{Tristate}
 use Rattle.rows.specs.Tree.{Forest}
 use Rattle.rows.specs.Record.{Record}
-use Rattle.grammar.specs.Sheet.{Sheet, token, Out, done, fail, stuck, or-else, _>>=_, try}
+use Rattle.grammar.specs.Sheet.{Sheet, token, Out, done, fail, or-else, try}
 use Rattle.grammar.specs.Job.{Job, assignment, value, head}
-use Rattle.grammar.specs.Arrow.{Way, pass, attempt, commit, Policy, by-way, choose, noting, arrow-of, assignment-of}
-use Rattle.grammar.specs.Step.{read, place-of, μ}
-use Rattle.grammar.specs.Reading.{way-of, box, cleared, noted-places, unconverteds, Whole, whole, refused, at-end, reading}
-use Rattle.laws.specs.Good.{Came, came, whole-from, Refused, failed, followed, stopped, refused-by}
+use Rattle.grammar.specs.Arrow.{attempt, Policy, noting, arrow-of, assignment-of}
+use Rattle.grammar.specs.Step.{read, μ}
+use Rattle.grammar.specs.Reading.{way-of, box, cleared, noted-places, unconverteds, whole, refused, at-end, reading}
+use Rattle.laws.specs.Good.{Came, came, whole-from}
 use Rattle.laws.specs.Bounds.{limits, Bound}
-use Rattle.laws.specs.Rel.{looked-at, first-noted, Ready, Whatever, Rel, both-done, both-fail, Agree, Near, forget, after-records-rel, both-follow, both-choose, both-test, arrow-rel, related}
+use Rattle.laws.specs.Rel.{looked-at, Ready, Whatever, Rel, both-done, both-fail, Agree, Near, forget, after-records-rel, both-follow, both-choose, both-test, arrow-rel, related}
 use Rattle.laws.specs.Steady.{opens-inside, kept-if-done, kept-if-fail}
 
 -- the box's notes, and the places that were abandoned, the last first
@@ -181,6 +180,12 @@ same-refusal true trees records notes notes′ cause e = let z : _≡_ {A = ℕ}
 same-refusal false trees records notes notes′ cause {cause′} e = let c : cause ≡ cause′ = cc in ap refused c
 
 -- THE STATEMENTS
+-- what the reader with the log reads: the same, with the same notes, and a log in which no place stands twice
+pub record Logged (sheet : Sheet) (job : Job) (trees : Forest) (records : List Record) (notes : List ℕ) : Type 0 where
+  pub places : List ℕ
+  pub reads-too : reading (logging sheet) sheet job (record { notes = cleared; places = [] }) ≡ whole trees records (record { notes = notes; places = places })
+  pub log-once : Once notes places
+
 module _ (sheet : Sheet) (job : Job) (there : looked-at job ≤ length (sheet .kinds)) (small : length (sheet .kinds) ≤ 2048) where
   together : Rel (Alike sheet) _≡_ (Bound (limits sheet job)) (read (box sheet) sheet (μ sheet job) job cleared)
       (read (logging sheet) sheet (μ sheet job) job (record { notes = cleared; places = [] }))
@@ -188,19 +193,13 @@ module _ (sheet : Sheet) (job : Job) (there : looked-at job ≤ length (sheet .k
       related (λ c. refl) sheet 0 (box sheet) (logging sheet) (assignment-logged sheet) job (omega arith) there (μ sheet job) (μ sheet job) (omega arith) (omega arith)
       cleared (record { notes = cleared; places = [] }) (alike-start sheet small)
 
-  -- what the reader with the log reads: the same, with the same notes, and a log in which no place stands twice
-  pub record Logged (trees : Forest) (records : List Record) (notes : List ℕ) : Type 0 where
-    pub places : List ℕ
-    pub reads-too : reading (logging sheet) sheet job (record { notes = cleared; places = [] }) ≡ whole trees records (record { notes = notes; places = places })
-    pub log-once : Once notes places
-
-  pub logs-the-same : {trees : Forest} {records : List Record} {notes : List ℕ} → reading (box sheet) sheet job cleared ≡ whole trees records notes → Logged trees records notes
+  pub logs-the-same : {trees : Forest} {records : List Record} {notes : List ℕ} → reading (box sheet) sheet job cleared ≡ whole trees records notes → Logged sheet job trees records notes
   unfolding reading at-end
   logs-the-same {trees} {records} {notes} e = go together (came (box sheet) sheet job cleared e)
     where
       go : Rel (Alike sheet) _≡_ (Bound (limits sheet job)) (read (box sheet) sheet (μ sheet job) job cleared)
           (read (logging sheet) sheet (μ sheet job) job (record { notes = cleared; places = [] }))
-          → Came (box sheet) sheet job cleared trees records notes → Logged trees records notes
+          → Came (box sheet) sheet job cleared trees records notes → Logged sheet job trees records notes
       go (both-done end ts rs m log e₁ e₂ b s) c =
           let d = c .done-at-end in
           let t = c .then-unconverted in

@@ -1,24 +1,24 @@
 -- Well-formed trees, as something to build: a tree is Formed if each row has the kids that the table of shapes gives its kind. What is Formed is
 -- well-formed (`is-well-formed`), and conversion of what is Formed is Formed, with targets where the role asks for them (`converted-formed`).
 -- Assumes nothing.
-use Prim.Native.Nat.{ℕ, zero, suc, _+_, _≤_, _<_}
-use mathlib.Core.Path.{_≡_, refl, sym, ap, _∙_}
+use Prim.Native.Nat.{ℕ, suc, _+_, _≤_}
+use mathlib.Core.Path.{_≡_, refl, ap, _∙_}
 use mathlib.Core.Bool.{Bool, true, false, not}
-use mathlib.Core.List.{List, [], _∷_, _++_}
+use mathlib.Core.List.{List, [], _∷_}
 use native.Mathlib.Omega.{arith}
 use native.Mathlib.Numerals.{add-one}
-use lib.Dec.{eqb, leb, ltb, eqb·suc-zero}
+use lib.Dec.{eqb, leb, eqb·suc-zero}
 use lib.ListN.{length, getD}
-use borrow.Author.Tests.{eqb-true, eqb-false, eq-eqb, ne-eqb, lt-ltb, le-ltb, le-leb}
-use Rattle.tokens.specs.Bool.{_or_, _and_, _is_, if_then_else_, between}
+use borrow.Author.Tests.{eqb-true, eq-eqb, lt-ltb, le-ltb, le-leb}
+use Rattle.tokens.specs.Bool.{_or_, _and_, if_then_else_}
 use Rattle.laws.specs.Good.{and-left, and-right}
 use Rattle.rows.specs.Row as Row
-use Rattle.rows.specs.Tree.{Tree, Forest, node, nil, cons, one, join, count, kind-of, kids-of}
+use Rattle.rows.specs.Tree.{Tree, Forest, node, nil, cons, one, count, kind-of, kids-of}
 use Rattle.rows.specs.Shape as shape
 use Rattle.rows.specs.Record.{Record}
 use Rattle.targets.specs.Conversion.{Outcome, turned, refused, Role, any, simple, element, last-element, property, last-property, value, name, same, Change, refuse, keep, turn, elements, properties, key-and-value, name-and-initializer, is-array-or-object, last-of, ends-in-spread, as-simple, as-any, as-value, as-element, as-last-element, as-property, as-last-property, as-name, change, roles, over, both, convert-as, convert-kids}
 use Rattle.tokens.specs.declared.cause.Cause.{Cause}
-use Rattle.rows.specs.Shape.{is-listed, is-left-hand-side, is-unary, is-binary, is-logical, is-assignment, is-expression, is-binding, is-parameter, is-simple-target, is-target, Class, nothing, only, in-class, Shape, table, is-one-of, look-up, shape-of, least, fits, last-kind, all-fit, is-shaped, well-formed, all-well-formed}
+use Rattle.rows.specs.Shape.{is-listed, is-simple-target, is-target, Class, nothing, only, in-class, Shape, table, is-one-of, look-up, shape-of, least, fits, last-kind, all-fit, is-shaped, well-formed, all-well-formed}
 
 -- a tree may stand where the class is asked
 pub record In (class : Class) (t : Tree) : Type 0 where

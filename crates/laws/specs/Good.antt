@@ -20,7 +20,7 @@ use Rattle.grammar.specs.Job.{Job, Asks}
 use Rattle.grammar.specs.Update.{converted-to, converted}
 use Rattle.grammar.specs.Arrow.{Way, pass, attempt, commit, Policy, by-way, choose, noting}
 use Rattle.grammar.specs.Step.{step, read, μ}
-use Rattle.grammar.specs.Reading.{unconverteds, Whole, whole, refused as refused-whole, at-end, reading}
+use Rattle.grammar.specs.Reading.{unconverteds, whole, refused as refused-whole, at-end, reading}
 
 -- what may be said of what is done: up to where, the trees, the records
 abbrev pub Meaning : Type 1

@@ -8,3 +8,4 @@ pub mod Places
 pub mod Abandoned
 pub mod Formed
 pub mod WellFormed
+pub mod Promises

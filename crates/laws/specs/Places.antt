@@ -1,37 +1,36 @@
 -- Where things stand: the place of a refusal is that of a token, or the end; and every row of a reading lies where it was read: it begins before it
 -- ends, its mark is inside it, and its kids lie inside it one after the other.
 -- The statements, at the end: `lies-at`, `refused-inside`; of whole readings `whole-lies`, `refusal-inside`. Assumes nothing.
-use Prim.Native.Nat.{ℕ, zero, suc, _+_, _≤_, _<_}
-use mathlib.Core.Path.{_≡_, refl, sym, ap, _∙_}
+use Prim.Native.Nat.{ℕ, _+_, _≤_, _<_}
+use mathlib.Core.Path.{_≡_, refl}
 use mathlib.Core.Bool.{Bool, true, false, not}
-use mathlib.Core.List.{List, [], _∷_, _++_}
+use mathlib.Core.List.{List, []}
 use native.Mathlib.Omega.{arith}
 use lib.Dec.{eqb, ltb}
 use lib.ListN.{length}
-use borrow.Author.Tests.{eqb-true, ltb-true}
-use Rattle.tokens.specs.Bool.{_or_, _and_, _is_, if_then_else_, between}
-use Rattle.tokens.specs.Kind.{Async, Str, Number, LParen, LCurly, Comma, Colon, Dot3, Arrow, Question2, Amp2, Star2, Eq}
+use Rattle.tokens.specs.Bool.{_or_, _and_, _is_, if_then_else_}
+use Rattle.tokens.specs.Kind.{Async, Str, Number, LParen, LCurly, Comma, Colon, Dot3, Arrow, Eq}
 use Rattle.tokens.specs.Token.{is-name, is-word, is-literal}
 use Rattle.tokens.specs.Cause.{number, place}
 use Rattle.tokens.specs.declared.cause.Cause.{Cause}
 use Rattle.operators.specs.Precedence.{expression-level}
 use Rattle.rows.specs.Row as Row
-use Rattle.rows.specs.Tree.{Tree, Forest, node, nil, cons, one, join, count, kind-of, mark-of}
+use Rattle.rows.specs.Tree.{Tree, Forest, node, nil, cons, one, join, count, kind-of}
 use Rattle.rows.specs.Record.{Record}
-use Rattle.targets.specs.Conversion.{Outcome, turned, refused, Role, any, simple, element, last-element, property as property-role, last-property, value as value-role, name, same, Change, refuse, keep, turn, is-array-or-object, last-of, ends-in-spread, as-simple, as-any, as-value, as-element, as-last-element, as-property, as-last-property, as-name, change, roles, over, both as both-kids, convert-as, convert-kids}
-use Rattle.grammar.specs.Sheet.{Sheet, token, break-before, Out, done, fail, Reading, Part, first-tree, tree, leaf, yield}
+use Rattle.targets.specs.Conversion.{Outcome, turned, refused, Role, any, simple, element, last-element, property as property-role, last-property, value as value-role, name, same, Change, refuse, keep, turn, is-array-or-object, last-of, ends-in-spread, as-simple, as-any, as-value, as-element, as-last-element, as-property, as-last-property, change, roles, over, both as both-kids, convert-as, convert-kids}
+use Rattle.grammar.specs.Sheet.{Sheet, token, break-before, done, fail, Part, first-tree, tree, leaf}
 use Rattle.grammar.specs.Job.{Job, expression, sequence, assignment, value, assign, conditional, binary, operators, unary, postfix, left-hand-side, links, arguments, primary, elements, properties, property, key, spread, binding, binding-element, binding-elements, binding-properties, binding-property, binding-rest, head, parameters, body, Asks}
 use Rattle.grammar.specs.Comma.{expression-of, sequence-of}
 use Rattle.grammar.specs.Assignment.{is-assignment-operator, assign-of, conditional-of, after-binary, is-async-name, value-of}
-use Rattle.grammar.specs.Binary.{operation-kind, right-floor, is-or-and, operation-records, binary-of, operators-of}
+use Rattle.grammar.specs.Binary.{operation-kind, right-floor, binary-of, operators-of}
 use Rattle.grammar.specs.Update.{is-unary-operator, is-update-operator, converted, unary-of, postfix-of}
 use Rattle.grammar.specs.LeftHandSide.{left-hand-side-of, links-of, arguments-of}
 use Rattle.grammar.specs.Primary.{parenthesized-of, primary-of, spread-of, elements-of, properties-of, shorthand-of, property-of, key-of}
 use Rattle.grammar.specs.Binding.{binding-of, binding-element-of, binding-rest-of, binding-elements-of, argument-of, binding-properties-of, binding-shorthand-of, binding-property-of}
 use Rattle.grammar.specs.Arrow.{Policy, arrow-of, assignment-of, parenthesized-head-of, head-of, parameters-of, body-of}
-use Rattle.grammar.specs.Step.{step, read, Settles, μ}
-use Rattle.grammar.specs.Reading.{Whole, whole, refused as refused-whole, reading}
-use Rattle.laws.specs.Good.{came, Refused, failed, followed, stopped, refused-by, Meaning, Reads, Answers, Preserved, good-given, good-done, good-fail, Stands, yields, refuses, says, follows, tries, test, token-test, chooses, notes, converts, so, both, inside, and-left, and-right}
+use Rattle.grammar.specs.Step.{step, read, μ}
+use Rattle.grammar.specs.Reading.{whole, refused as refused-whole, reading}
+use Rattle.laws.specs.Good.{came, Refused, failed, followed, stopped, refused-by, Meaning, Reads, Answers, good-given, good-done, good-fail, yields, refuses, says, follows, tries, test, token-test, chooses, notes, converts, so, both, inside, and-right}
 use Rattle.laws.specs.Bounds.{Any, Nothing, limits, Bound, all-bounded, bounded-at, fee, fee-comma, fee-one}
 use Rattle.laws.specs.Rel.{async-inside, operator-inside}
 

@@ -2,22 +2,22 @@
 -- notes, at any bound on the steps that is at least μ. Five nonterminals start at a token that whoever asks has looked at: of those the same holds
 -- where a token stands. And what a policy's notes keep is kept by every reading.
 -- The statements: `settles`, `one-outcome`, `kept`. Assumes nothing.
-use Prim.Native.Nat.{ℕ, zero, suc, _+_, _-_, _*_, _≤_, _<_}
+use Prim.Native.Nat.{ℕ, suc, _≤_, _<_}
 use mathlib.Core.Path.{_≡_, refl, sym, ap, _∙_}
-use mathlib.Core.Bool.{Bool, true, false}
+use mathlib.Core.Bool.{true}
 use mathlib.Core.List.{List}
 use native.Mathlib.Omega.{arith}
 use lib.ListN.{length}
-use Rattle.tokens.specs.Bool.{_or_, _is_, if_then_else_}
+use Rattle.tokens.specs.Bool.{_or_, _is_}
 use Rattle.tokens.specs.Kind.{Async, LParen}
 use Rattle.tokens.specs.declared.cause.Cause.{Cause}
 use Rattle.rows.specs.Tree.{Forest}
 use Rattle.rows.specs.Record.{Record}
-use Rattle.grammar.specs.Sheet.{Sheet, token, Out, done, fail, stuck, Part}
+use Rattle.grammar.specs.Sheet.{Sheet, token, Out, done, fail}
 use Rattle.grammar.specs.Job.{Job, assignment, value, head}
 use Rattle.grammar.specs.Arrow.{Policy, assignment-of}
-use Rattle.grammar.specs.Step.{read, place-of, μ, Settles}
-use Rattle.laws.specs.Good.{Meaning, inside}
+use Rattle.grammar.specs.Step.{read, μ, Settles}
+use Rattle.laws.specs.Good.{inside}
 use Rattle.laws.specs.Bounds.{limits, Bound}
 use Rattle.laws.specs.Rel.{looked-at, first-noted, Ready, Whatever, Rel, both-done, both-fail, Agree, Near, forget, both-follow, both-try, both-note, both-choose, both-test, arrow-rel, related}
 

@@ -1,41 +1,40 @@
 -- The trees of a reading are well-formed: every row has the kids that the table of shapes gives its kind. Each nonterminal gives trees of a class of
 -- its own, as the grammar has them; so the reading of a whole list is an Expression, and that of a pattern a Binding with or without an initializer.
 -- The statements, at the end: `whole-is-well-formed`, `pattern-is-well-formed`, `formed-at`. Assumes nothing.
-use Prim.Native.Nat.{ℕ, zero, suc, _+_, _-_, _≤_, _<_}
-use mathlib.Core.Path.{_≡_, refl, sym, ap, _∙_}
+use Prim.Native.Nat.{ℕ, suc, _+_, _-_, _≤_, _<_}
+use mathlib.Core.Path.{_≡_, refl}
 use mathlib.Core.Bool.{Bool, true, false, not}
-use mathlib.Core.List.{List, [], _∷_, _++_}
+use mathlib.Core.List.{List, [], _∷_}
 use native.Mathlib.Omega.{arith}
 use native.Mathlib.Decide.{ℕ-discrete}
 use lib.Dec.{eqb, leb, ltb}
-use lib.ListN.{length, drop}
-use borrow.Author.Tests.{eqb-true, eqb-false, eq-eqb, ne-eqb, ltb-true, ltb-false, leb-true, not-true}
+use lib.ListN.{drop}
+use borrow.Author.Tests.{eqb-true, eqb-false, ne-eqb, ltb-true, ltb-false, leb-true, not-true}
 use Rattle.tokens.specs.Bool.{_or_, _and_, _is_, if_then_else_, between}
 use Rattle.tokens.specs.Kind.{Async, As, Satisfies, Str, Number, LParen, LCurly, Comma, Colon, Dot3, Arrow, Question2, Pipe2, Amp2, Star2, Eq}
 use Rattle.tokens.specs.Token.{is-name, is-word, is-literal}
-use Rattle.tokens.specs.declared.cause.Cause.{Cause}
 use Rattle.operators.specs.Precedence.{tiers, among, level-from, level, expression-level}
 use Rattle.rows.specs.Row as Row
 use Rattle.rows.specs.Shape as shape
-use Rattle.rows.specs.Shape.{is-listed, is-left-hand-side, is-unary, is-binary, is-logical, is-assignment, is-expression, is-binding, is-parameter, is-simple-target, is-target, Class, nothing, only, in-class, Shape, exactly, any-after, any-closed, table, is-one-of, look-up, shape-of, last-kind, well-formed, all-well-formed}
+use Rattle.rows.specs.Shape.{is-listed, is-left-hand-side, is-unary, is-binary, is-logical, is-assignment, is-expression, is-binding, is-parameter, is-simple-target, is-target, Class, nothing, only, in-class, exactly, any-closed, table, is-one-of, look-up, shape-of, last-kind, well-formed}
 use Rattle.rows.specs.Tree.{Tree, Forest, node, nil, cons, one, join, count, kind-of, kids-of}
 use Rattle.rows.specs.Record.{Record}
-use Rattle.targets.specs.Conversion.{Role, any, simple, turned, convert-as}
-use Rattle.grammar.specs.Sheet.{Sheet, token, break-before, Out, done, fail, Reading, Part, first-tree, tree, leaf, yield}
+use Rattle.targets.specs.Conversion.{Role, any, simple}
+use Rattle.grammar.specs.Sheet.{Sheet, token, break-before, done, Part, first-tree, tree, leaf}
 use Rattle.grammar.specs.Job.{Job, expression, sequence, assignment, value, assign, conditional, binary, operators, unary, postfix, left-hand-side, links, arguments, primary, elements, properties, property, key, spread, binding, binding-element, binding-elements, binding-properties, binding-property, binding-rest, head, parameters, body, Asks}
 use Rattle.grammar.specs.Comma.{expression-of, sequence-of}
 use Rattle.grammar.specs.Assignment.{is-assignment-operator, assign-of, conditional-of, after-binary, is-async-name, value-of}
-use Rattle.grammar.specs.Binary.{operation-kind, right-floor, is-or-and, operation-records, binary-of, operators-of}
+use Rattle.grammar.specs.Binary.{operation-kind, right-floor, binary-of, operators-of}
 use Rattle.grammar.specs.Update.{is-unary-operator, is-update-operator, converted, unary-of, postfix-of}
 use Rattle.grammar.specs.LeftHandSide.{left-hand-side-of, links-of, arguments-of}
 use Rattle.grammar.specs.Primary.{parenthesized-of, primary-of, spread-of, elements-of, properties-of, shorthand-of, property-of, key-of}
 use Rattle.grammar.specs.Binding.{binding-of, binding-element-of, binding-rest-of, binding-elements-of, argument-of, binding-properties-of, binding-shorthand-of, binding-property-of}
 use Rattle.grammar.specs.Arrow.{Policy, arrow-of, assignment-of, parenthesized-head-of, head-of, parameters-of, body-of}
 use Rattle.grammar.specs.Step.{step, read, μ}
-use Rattle.grammar.specs.Reading.{Whole, whole, reading}
-use Rattle.laws.specs.Good.{came, Meaning, Reads, Answers, Preserved, good, good-done, Stands, yields, refuses, says, follows, tries, test, token-test, chooses, notes, converts, so, and-left, and-right}
+use Rattle.grammar.specs.Reading.{whole, reading}
+use Rattle.laws.specs.Good.{came, Meaning, Reads, Answers, Preserved, good, good-done, yields, refuses, says, follows, tries, test, token-test, chooses, notes, converts, so, and-left, and-right}
 use Rattle.laws.specs.Bounds.{Nothing, fee, fee-comma, fee-one}
-use Rattle.laws.specs.Formed.{In, Ending, no-ending, one-ending, Middle, one-more, one-closing, no-more, Kids, in-front, then-rest, Formed, row-formed, AllFormed, all-nil, all-cons, is-well-formed, are-well-formed, Converted, converted-formed}
+use Rattle.laws.specs.Formed.{In, no-ending, one-ending, Middle, one-more, one-closing, no-more, Kids, in-front, then-rest, Formed, row-formed, AllFormed, all-nil, all-cons, is-well-formed, Converted, converted-formed}
 
 -- a tree that is Formed, and may stand where the class is asked
 pub record Well (class : Class) (t : Tree) : Type 0 where
@@ -176,11 +175,6 @@ formed-join : {ts us : Forest} → AllFormed ts → AllFormed us → AllFormed (
 unfolding join
 formed-join all-nil u = u
 formed-join (all-cons f a) u = all-cons f (formed-join a u)
-
-join-nil : (ts : Forest) → join ts nil ≡ ts
-unfolding join
-join-nil nil = refl
-join-nil (cons t ts) = ap (cons t) (join-nil ts)
 
 all-middle : {class closing : Class} {ts : Forest} → All (Well class) ts → Middle class closing [] ts
 all-middle no-tree = no-more no-ending
@@ -926,6 +920,16 @@ step-well policy sheet h (parameters at so-far) fit = parameters-well sheet h at
 step-well policy sheet h (body kind first at so-far) fit = body-well sheet h kind first at so-far fit
 
 -- THE STATEMENTS
+-- one well-formed tree, of a class
+pub record OneTree (class : Class) (trees : Forest) : Type 0 where
+  pub root : Tree
+  pub is-root : trees ≡ one root
+  pub root-well-formed : well-formed root ≡ true
+  pub root-in-class : In class root
+
+one-tree : {class : Class} {trees : Forest} → Sole (Well class) trees → OneTree class trees
+one-tree (sole {t} w) = record { root = t; is-root = refl; root-well-formed = is-well-formed (w .formed); root-in-class = w .fits }
+
 module _ {N : Type 0} (policy : Policy N) (sheet : Sheet) where
   preserved : Preserved policy sheet (Fit sheet) (Is sheet) Nothing
   preserved = record { with = λ ask h. record { with = λ job fit. step-well policy sheet h job fit } }
@@ -934,16 +938,6 @@ module _ {N : Type 0} (policy : Policy N) (sheet : Sheet) where
   pub formed-at : (steps : ℕ) (job : Job) → Fit sheet job → (notes : N) {end : ℕ} {trees : Forest} {records : List Record} {after : N}
       → read policy sheet steps job notes ≡ done end trees records after → Gives sheet job end trees
   formed-at steps job fit notes e = good-done policy sheet (Fit sheet) (Is sheet) Nothing steps (good policy sheet (Fit sheet) (Is sheet) Nothing preserved steps) job fit notes e
-
-  -- one well-formed tree, of a class
-  pub record OneTree (class : Class) (trees : Forest) : Type 0 where
-    pub root : Tree
-    pub is-root : trees ≡ one root
-    pub root-well-formed : well-formed root ≡ true
-    pub root-in-class : In class root
-
-  one-tree : {class : Class} {trees : Forest} → Sole (Well class) trees → OneTree class trees
-  one-tree (sole {t} w) = record { root = t; is-root = refl; root-well-formed = is-well-formed (w .formed); root-in-class = w .fits }
 
   -- a list that is read as a whole is one well-formed Expression
   pub whole-is-well-formed : (notes : N) {trees : Forest} {records : List Record} {after : N} → reading policy sheet (expression 0) notes ≡ whole trees records after
