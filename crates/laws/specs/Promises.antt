@@ -10,10 +10,10 @@ use Rattle.tokens.specs.declared.cause.Cause.{Cause}
 use Rattle.rows.specs.Shape as shape
 use Rattle.rows.specs.Tree.{Forest, sizes}
 use Rattle.rows.specs.Record.{Record}
-use Rattle.grammar.specs.Sheet.{Sheet, Out}
+use Rattle.grammar.specs.Sheet.{Sheet, Out, stuck}
 use Rattle.grammar.specs.Job.{Job, expression, binding-element}
 use Rattle.grammar.specs.Arrow.{Policy}
-use Rattle.grammar.specs.Step.{Settles}
+use Rattle.grammar.specs.Step.{read, μ, Settles}
 use Rattle.grammar.specs.Reading.{whole, refused, box, cleared, box-reading, box-pattern}
 use Rattle.laws.specs.Bounds as Bounds
 use Rattle.laws.specs.Rel.{looked-at}
@@ -35,6 +35,12 @@ EverySettles = (N : Type 0) (policy : Policy N) (sheet : Sheet) (job : Job) (not
 abbrev pub OneOutcome : Type 1
 OneOutcome =
     (N : Type 0) (policy : Policy N) (sheet : Sheet) (job : Job) (notes : N) (out out′ : Out N) → Settles policy sheet job notes out → Settles policy sheet job notes out′ → out ≡ out′
+
+-- it never sticks, however many steps it may take from μ on
+abbrev pub NeverStuck : Type 1
+NeverStuck =
+    (N : Type 0) (policy : Policy N) (sheet : Sheet) (job : Job) (notes : N) (steps : ℕ) → looked-at job ≤ length (sheet .kinds) → μ sheet job ≤ steps
+    → read policy sheet steps job notes ≡ stuck → ⊥
 
 -- OF THE BOX'S READER
 -- what is said of the reading of a list as a whole, as one Expression and as one pattern
@@ -82,6 +88,9 @@ AbandonedOnce =
 -- ALL OF THEM
 pub every-settles : EverySettles
 every-settles N policy sheet job notes there = Steady.settles policy sheet job there notes
+
+pub never-stuck : NeverStuck
+never-stuck N policy sheet job notes steps there enough e = Steady.never-stuck policy sheet job there notes steps enough e
 
 pub one-outcome : OneOutcome
 one-outcome N policy sheet job notes out out′ s s′ = Steady.one-outcome s s′

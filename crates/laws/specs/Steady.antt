@@ -1,7 +1,7 @@
 -- A reading never sticks, and how many steps it may take does not matter: each nonterminal comes to exactly one outcome, with any policy, from any
 -- notes, at any bound on the steps that is at least μ. Five nonterminals start at a token that whoever asks has looked at: of those the same holds
 -- where a token stands. And what a policy's notes keep is kept by every reading.
--- The statements: `settles`, `one-outcome`, `kept`. Assumes nothing.
+-- The statements, at the end: `settles`, `never-stuck`, `steps-do-not-matter`, `one-outcome`; and `kept`. Assumes nothing.
 use Prim.Native.Nat.{ℕ, suc, _≤_, _<_}
 use mathlib.Core.Path.{_≡_, refl, sym, ap, _∙_}
 use mathlib.Core.Bool.{true}
@@ -13,7 +13,7 @@ use Rattle.tokens.specs.Kind.{Async, LParen}
 use Rattle.tokens.specs.declared.cause.Cause.{Cause}
 use Rattle.rows.specs.Tree.{Forest}
 use Rattle.rows.specs.Record.{Record}
-use Rattle.grammar.specs.Sheet.{Sheet, token, Out, done, fail}
+use Rattle.grammar.specs.Sheet.{Sheet, token, Out, done, fail, stuck}
 use Rattle.grammar.specs.Job.{Job, assignment, value, head}
 use Rattle.grammar.specs.Arrow.{Policy, assignment-of}
 use Rattle.grammar.specs.Step.{read, μ, Settles}
@@ -113,6 +113,14 @@ module _ {N : Type 0} (policy : Policy N) (sheet : Sheet) where
       go : {x y : Out N} → Rel (Same policy sheet 0 (λ m. Unit {0}) (λ at m l i k. tt)) _≡_ (Bound (limits sheet job)) x y → Settles policy sheet job notes x → Comes policy sheet job notes
       go (both-done end trees records m m′ e e′ b s) t = comes-done end trees records m (rw e at t)
       go (both-fail cause cause′ m m′ e e′ c s) t = comes-fail cause m (rw e at t)
+
+  -- it never sticks
+  pub never-stuck : (job : Job) → looked-at job ≤ length (sheet .kinds) → (notes : N) (steps : ℕ) → μ sheet job ≤ steps → read policy sheet steps job notes ≡ stuck → ⊥
+  never-stuck job i notes steps le e = go (steady job i notes steps steps le le)
+    where
+      go : {y : Out N} → Rel (Same policy sheet 0 (λ m. Unit {0}) (λ at m l i k. tt)) _≡_ (Bound (limits sheet job)) (read policy sheet steps job notes) y → ⊥
+      go (both-done end trees records m m′ e₁ e₂ b s) = let z : _≡_ {A = ℕ} 0 1 = cc in omega arith
+      go (both-fail cause cause′ m m′ e₁ e₂ c s) = let z : _≡_ {A = ℕ} 0 1 = cc in omega arith
 
 -- and to nothing else
 pub one-outcome : {N : Type 0} {policy : Policy N} {sheet : Sheet} {job : Job} {notes : N} {out out′ : Out N}
