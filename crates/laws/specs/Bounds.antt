@@ -1,14 +1,14 @@
 -- Room: where a nonterminal is done, how many rows and records there are then, and that it gives one tree. `limits` has a line a nonterminal;
 -- `bounded`, at the end, says that each keeps its limits; `room`, that rows never exceed tokens and records never exceed tokens.
 -- Assumes nothing.
-use Prim.Native.Nat.{ℕ, zero, suc, _+_, _≤_, _<_, max}
+use Prim.Native.Nat.{ℕ, _+_, _-_, _≤_, max}
 use mathlib.Core.Path.{_≡_, refl, sym, ap, _∙_}
 use mathlib.Core.Bool.{Bool, true, false, not}
 use mathlib.Core.List.{List, [], _∷_, _++_}
 use native.Mathlib.Omega.{arith}
-use lib.Dec.{eqb, ltb}
+use lib.Dec.{ltb}
 use lib.ListN.{length, length-append}
-use borrow.Author.Tests.{eqb-true, ltb-true}
+use borrow.Author.Tests.{eqb-true}
 use Rattle.tokens.specs.Bool.{_or_, _and_, _is_, if_then_else_, between}
 use Rattle.tokens.specs.Kind.{Async, Str, Number, LParen, LCurly, Comma, Colon, Dot3, Arrow, Question2, Amp2, Star2, Eq}
 use Rattle.tokens.specs.Token.{is-name, is-word, is-literal}
@@ -18,7 +18,7 @@ use Rattle.rows.specs.Row as Row
 use Rattle.rows.specs.Tree.{Tree, Forest, node, nil, cons, one, join, size, sizes, kind-of, mark-of}
 use Rattle.rows.specs.Record.{Record, break-before-arrow, rest-initializer}
 use Rattle.targets.specs.Conversion.{Role, any, simple}
-use Rattle.grammar.specs.Sheet.{Sheet, token, break-before, Out, done, Reading, Part, first-tree, tree, leaf, yield}
+use Rattle.grammar.specs.Sheet.{Sheet, token, break-before, done, Part, first-tree, tree, leaf}
 use Rattle.grammar.specs.Job.{Job, expression, sequence, assignment, value, assign, conditional, binary, operators, unary, postfix, left-hand-side, links, arguments, primary, elements, properties, property, key, spread, binding, binding-element, binding-elements, binding-properties, binding-property, binding-rest, head, parameters, body, Asks}
 use Rattle.grammar.specs.Comma.{expression-of, sequence-of}
 use Rattle.grammar.specs.Assignment.{is-assignment-operator, assign-of, conditional-of, after-binary, is-async-name, value-of}
@@ -29,8 +29,8 @@ use Rattle.grammar.specs.Primary.{parenthesized-of, primary-of, spread-of, elem
 use Rattle.grammar.specs.Binding.{binding-of, binding-element-of, binding-rest-of, binding-elements-of, argument-of, binding-properties-of, binding-shorthand-of, binding-property-of}
 use Rattle.grammar.specs.Arrow.{Policy, arrow-of, assignment-of, parenthesized-head-of, head-of, parameters-of, body-of}
 use Rattle.grammar.specs.Step.{step, read, Settles, μ}
-use Rattle.grammar.specs.Reading.{unconverteds, Whole, whole, reading}
-use Rattle.laws.specs.Good.{came, Meaning, Reads, Answers, Preserved, good-done, Stands, yields, refuses, says, follows, tries, test, token-test, chooses, notes, converts, so, inside}
+use Rattle.grammar.specs.Reading.{unconverteds, whole, reading}
+use Rattle.laws.specs.Good.{came, Reads, Answers, Preserved, good, good-done, yields, refuses, says, follows, tries, test, token-test, chooses, notes, converts, so, inside, and-left}
 use Rattle.laws.specs.Owed.{owes, owes-one, owed, oweds, lent, sizes-join, oweds-join, same-size, pays, pays-lasts}
 
 -- what a nonterminal at a place is bound by: the least and the most that its end can be; the rows and the dues (records, and what rows owe) that
@@ -54,6 +54,10 @@ goes-on sheet at rows dues = record { at = at; least = at; most = max at (length
 -- any number of trees
 abbrev pub reads-any : Sheet → ℕ → ℕ → ℕ → Limits
 reads-any sheet at rows dues = record { at = at; least = at + 1; most = length (sheet .kinds); rows = rows; dues = dues; lone = false }
+
+-- any number of trees, up to the `=>`, which stands
+abbrev pub reads-head : Sheet → ℕ → Limits
+reads-head sheet at = record { at = at; least = at + 1; most = length (sheet .kinds) - 1; rows = 0; dues = 0; lone = false }
 
 -- what the row of a Sequence still costs where this token stands: its first comma pays for it
 unfoldable pub fee : ℕ → ℕ
@@ -87,7 +91,7 @@ limits sheet (binding-elements first at so-far) = reads sheet at (sizes so-far) 
 limits sheet (binding-properties first at so-far) = reads sheet at (sizes so-far + 1) (oweds so-far)
 limits sheet (binding-property at) = reads sheet at 1 0
 limits sheet (binding-rest at) = reads sheet at 0 0
-limits sheet (head at) = reads-any sheet at 0 0
+limits sheet (head at) = reads-head sheet at
 limits sheet (parameters at so-far) = reads-any sheet at (sizes so-far) (oweds so-far)
 limits sheet (body kind first at so-far) = reads sheet at (sizes so-far) (owes kind + oweds so-far)
 
@@ -137,11 +141,11 @@ unfolding first-tree
 single-one true t = refl
 single-one false t = tt
 
-fee-comma : {kind : ℕ} → kind ≡ Comma → fee kind ≡ 0
+pub fee-comma : {kind : ℕ} → kind ≡ Comma → fee kind ≡ 0
 unfolding fee
 fee-comma e = rw e
 
-fee-one : (kind : ℕ) → fee kind ≤ 1
+pub fee-one : (kind : ℕ) → fee kind ≤ 1
 unfolding fee
 fee-one kind = go (kind is Comma)
   where
@@ -181,10 +185,6 @@ target role at left z =
     })
     (λ cause e. tt)
 
-and-left : (a b : Bool) → a and b ≡ true → a ≡ true
-and-left true b e = refl
-and-left false b e = e
-
 one-at-most : (holds : Bool) (r : Record) → length (if holds then r ∷ [] else []) ≤ 1
 one-at-most true r = omega arith
 one-at-most false r = omega arith
@@ -218,10 +218,10 @@ lent-either : (plain : Bool) → lent (if plain then any else simple) ≡ 0
 lent-either true = refl
 lent-either false = refl
 
-abbrev Any : Job → Type 0
+abbrev pub Any : Job → Type 0
 Any job = Unit {0}
 
-abbrev Nothing : Cause → Type 0
+abbrev pub Nothing : Cause → Type 0
 Nothing cause = Unit {0}
 
 module _ {N : Type 0} (sheet : Sheet) {ask : Asks N} (h : Answers Any (λ job. Bound (limits sheet job)) Nothing ask) where
@@ -622,10 +622,13 @@ module _ {N : Type 0} (policy : Policy N) (sheet : Sheet) where
   preserved : Preserved policy sheet Any (λ job. Bound (limits sheet job)) Nothing
   preserved = record { with = λ ask h. record { with = λ job _. step-bound policy sheet h job } }
 
+  pub all-bounded : (steps : ℕ) → Answers {N = N} Any (λ job. Bound (limits sheet job)) Nothing (read policy sheet steps)
+  all-bounded steps = good policy sheet Any (λ job. Bound (limits sheet job)) Nothing preserved steps
+
   -- a nonterminal that is done keeps its limits, with any policy, from any notes, at any bound on the steps
   pub bounded-at : (steps : ℕ) (job : Job) (notes : N) {end : ℕ} {trees : Forest} {records : List Record} {after : N}
       → read policy sheet steps job notes ≡ done end trees records after → Bound (limits sheet job) end trees records
-  bounded-at steps job notes e = good-done policy sheet Any (λ job. Bound (limits sheet job)) Nothing preserved steps job tt notes e
+  bounded-at steps job notes e = good-done policy sheet Any (λ job. Bound (limits sheet job)) Nothing steps (all-bounded steps) job tt notes e
 
 -- the same of what a nonterminal comes to
 pub bounded : {N : Type 0} {policy : Policy N} {sheet : Sheet} {job : Job} {before after : N} {end : ℕ} {trees : Forest} {records : List Record}

@@ -8,8 +8,8 @@ use mathlib.Core.Bool.{Bool, true, false}
 use mathlib.Core.List.{List, [], _++_}
 use native.Mathlib.Omega.{arith}
 use lib.ListN.{length}
-use borrow.Author.Tests.{eqb-true}
-use Rattle.tokens.specs.Bool.{_is_, if_then_else_}
+use borrow.Author.Tests.{eqb-true, eq-eqb}
+use Rattle.tokens.specs.Bool.{_is_, _and_, if_then_else_}
 use Rattle.tokens.proofs.Stands.{stands}
 use Rattle.tokens.specs.declared.cause.Cause.{Cause}
 use Rattle.rows.specs.Tree.{Tree, Forest, one}
@@ -20,7 +20,7 @@ use Rattle.grammar.specs.Job.{Job, Asks}
 use Rattle.grammar.specs.Update.{converted-to, converted}
 use Rattle.grammar.specs.Arrow.{Way, pass, attempt, commit, Policy, by-way, choose, noting}
 use Rattle.grammar.specs.Step.{step, read, μ}
-use Rattle.grammar.specs.Reading.{unconverteds, Whole, whole, refused as refused-whole, at-end, reading}
+use Rattle.grammar.specs.Reading.{unconverteds, whole, refused as refused-whole, at-end, reading}
 
 -- what may be said of what is done: up to where, the trees, the records
 abbrev pub Meaning : Type 1
@@ -52,15 +52,23 @@ module _ {N : Type 0} (policy : Policy N) (sheet : Sheet) (Fit : Job → Type 0)
   pub record Preserved : Type 0 where
     pub with : (ask : Asks N) → Answers Fit Good Bad ask → Answers Fit Good Bad (step policy sheet ask)
 
+  -- the same where something else is known of every answer already
+  pub good-given : (Given : Job → Meaning) → ((steps : ℕ) → Answers {N = N} (λ job. Unit {0}) Given (λ cause. Unit {0}) (read policy sheet steps))
+      → ((ask : Asks N) → Answers (λ job. Unit {0}) Given (λ cause. Unit {0}) ask → Answers Fit Good Bad ask → Answers Fit Good Bad (step policy sheet ask))
+      → (steps : ℕ) → Answers Fit Good Bad (read policy sheet steps)
+  unfolding read
+  good-given Given g p zero = record { with = λ job fit. record { with = λ notes. ends-stuck refl } }
+  good-given Given g p (suc steps) = record { with = λ job fit. record { with = λ notes. p _ (g steps) (good-given Given g p steps) .with job fit .with notes } }
+
   pub good : Preserved → (steps : ℕ) → Answers Fit Good Bad (read policy sheet steps)
   unfolding read
   good p zero = record { with = λ job fit. record { with = λ notes. ends-stuck refl } }
   good p (suc steps) = record { with = λ job fit. record { with = λ notes. p .with _ (good p steps) .with job fit .with notes } }
 
   -- the same of what it comes to
-  pub good-done : Preserved → (steps : ℕ) (job : Job) → Fit job → (notes : N) {end : ℕ} {trees : Forest} {records : List Record} {after : N}
+  pub good-done : (steps : ℕ) → Answers Fit Good Bad (read policy sheet steps) → (job : Job) → Fit job → (notes : N) {end : ℕ} {trees : Forest} {records : List Record} {after : N}
       → read policy sheet steps job notes ≡ done end trees records after → Good job end trees records
-  good-done p steps job fit notes {end} {trees} {records} e = go (good p steps .with job fit .with notes)
+  good-done steps a job fit notes {end} {trees} {records} e = go (a .with job fit .with notes)
     where
       go : Ends (Good job) Bad (read policy sheet steps job notes) → Good job end trees records
       go (ends-done q ts rs _ e′ g) =
@@ -69,9 +77,9 @@ module _ {N : Type 0} (policy : Policy N) (sheet : Sheet) (Fit : Job → Type 0)
       go (ends-fail cause _ e′ b) = let z : _≡_ {A = ℕ} 0 1 = cc in absurd (omega arith)
       go (ends-stuck e′) = let z : _≡_ {A = ℕ} 0 1 = cc in absurd (omega arith)
 
-  pub good-fail : Preserved → (steps : ℕ) (job : Job) → Fit job → (notes : N) {cause : Cause} {after : N}
+  pub good-fail : (steps : ℕ) → Answers Fit Good Bad (read policy sheet steps) → (job : Job) → Fit job → (notes : N) {cause : Cause} {after : N}
       → read policy sheet steps job notes ≡ fail cause after → Bad cause
-  good-fail p steps job fit notes {cause} e = go (good p steps .with job fit .with notes)
+  good-fail steps a job fit notes {cause} e = go (a .with job fit .with notes)
     where
       go : Ends (Good job) Bad (read policy sheet steps job notes) → Bad cause
       go (ends-done q ts rs _ e′ g) = let z : _≡_ {A = ℕ} 0 1 = cc in absurd (omega arith)
@@ -85,6 +93,15 @@ inside sheet at holds z e = go (token sheet at) refl
     go : (k : ℕ) → token sheet at ≡ k → at < length (sheet .kinds)
     go zero q = let b : holds (token sheet at) ≡ holds 0 = ap holds q in let f : true ≡ false = sym e ∙ b ∙ z in let y : _≡_ {A = ℕ} 0 1 = cc in absurd (omega arith)
     go (suc k) q = stands (sheet .kinds) q
+
+-- both halves of a joined test
+pub and-left : (a b : Bool) → a and b ≡ true → a ≡ true
+and-left true b e = refl
+and-left false b e = e
+
+pub and-right : (a b : Bool) → a and b ≡ true → b ≡ true
+and-right true b e = e
+and-right false b e = let z : _≡_ {A = ℕ} 0 1 = cc in absurd (omega arith)
 
 -- a whole reading is one that is done at the end of the list, and then come the records 8
 pub record Came {N : Type 0} (policy : Policy N) (sheet : Sheet) (job : Job) (notes : N) (trees : Forest) (records : List Record) (after : N) : Type 0 where
@@ -111,6 +128,34 @@ came {N} policy sheet job notes {trees} {records} {after} e = go (read policy sh
     go (done end ts rs m) d e = at-place end ts rs m d (end is length (sheet .kinds)) refl e
     go (fail cause m) d e = let z : _≡_ {A = ℕ} 0 1 = cc in absurd (omega arith)
     go stuck d e = let z : _≡_ {A = ℕ} 0 1 = cc in absurd (omega arith)
+
+-- and the other way round
+pub whole-from : {N : Type 0} (policy : Policy N) (sheet : Sheet) (job : Job) (notes : N) {trees : Forest} {said : List Record} {after : N}
+    → read policy sheet (μ sheet job) job notes ≡ done (length (sheet .kinds)) trees said after → reading policy sheet job notes ≡ whole trees (said ++ unconverteds trees) after
+unfolding reading at-end
+whole-from policy sheet job notes e = rw (e, eq-eqb (length (sheet .kinds)) (length (sheet .kinds)) refl)
+
+-- a whole reading that is refused: the nonterminal failed, or something stands after it
+pub data Refused {N : Type 0} (policy : Policy N) (sheet : Sheet) (job : Job) (notes : N) (cause : Cause) : Type 0 where
+  failed : (after : N) → read policy sheet (μ sheet job) job notes ≡ fail cause after → Refused policy sheet job notes cause
+  followed : (end : ℕ) (trees : Forest) (records : List Record) (after : N) → read policy sheet (μ sheet job) job notes ≡ done end trees records after
+      → cause ≡ Cause.Unexpected end → Refused policy sheet job notes cause
+  stopped : read policy sheet (μ sheet job) job notes ≡ stuck → cause ≡ Cause.Unexpected 0 → Refused policy sheet job notes cause
+
+pub refused-by : {N : Type 0} (policy : Policy N) (sheet : Sheet) (job : Job) (notes : N) {cause : Cause} → reading policy sheet job notes ≡ refused-whole cause
+    → Refused policy sheet job notes cause
+unfolding reading at-end
+refused-by {N} policy sheet job notes {cause} e = go (read policy sheet (μ sheet job) job notes) refl e
+  where
+    at-place : (end : ℕ) (ts : Forest) (rs : List Record) (m : N) → read policy sheet (μ sheet job) job notes ≡ done end ts rs m → (b : Bool)
+        → (if b then whole ts (rs ++ unconverteds ts) m else refused-whole (Cause.Unexpected end)) ≡ refused-whole cause → Refused policy sheet job notes cause
+    at-place end ts rs m d true e = let z : _≡_ {A = ℕ} 0 1 = cc in absurd (omega arith)
+    at-place end ts rs m d false e = let a : cause ≡ Cause.Unexpected end = cc in followed end ts rs m d a
+
+    go : (out : Out N) → read policy sheet (μ sheet job) job notes ≡ out → at-end (length (sheet .kinds)) out ≡ refused-whole cause → Refused policy sheet job notes cause
+    go (done end ts rs m) d e = at-place end ts rs m d (end is length (sheet .kinds)) e
+    go (fail c m) d e = let a : c ≡ cause = cc in failed m (rw a at d)
+    go stuck d e = let a : cause ≡ Cause.Unexpected 0 = cc in stopped d a
 
 -- THE WORDS: one for each word that the productions are written in
 module _ {N : Type 0} {F : Cause → Type 0} where
@@ -208,3 +253,21 @@ module _ {N : Type 0} {F : Cause → Type 0} where
       go (ends-done end trees records notes e q) = ends-done end trees records notes e (h end trees records q)
       go (ends-fail cause notes e f) = ends-fail cause notes e f
       go (ends-stuck e) = ends-stuck e
+
+-- what is known in two ways is known together
+pub both : {N : Type 0} {F G : Cause → Type 0} {P Q : Meaning} {reading : Reading N} → Reads P F reading → Reads Q G reading
+    → Reads (λ end trees records. P end trees records × Q end trees records) G reading
+both {N} {F} {G} {P} {Q} r s = record { with = λ notes. go (r .with notes) (s .with notes) }
+  where
+    go : {out : Out N} → Ends P F out → Ends Q G out → Ends (λ end trees records. P end trees records × Q end trees records) G out
+    go (ends-done end trees records notes e p) (ends-done end′ trees′ records′ notes′ e′ q) =
+        let a : end′ ≡ end = cc in let b : trees′ ≡ trees = cc in let c : records′ ≡ records = cc in
+        ends-done end trees records notes e (p, rw (a, b, c) at q)
+    go (ends-done end trees records notes e p) (ends-fail cause notes′ e′ f) = ends-fail cause notes′ e′ f
+    go (ends-done end trees records notes e p) (ends-stuck e′) = ends-stuck e′
+    go (ends-fail cause notes e f) (ends-done end trees records notes′ e′ q) = let z : _≡_ {A = ℕ} 0 1 = cc in absurd (omega arith)
+    go (ends-fail cause notes e f) (ends-fail cause′ notes′ e′ g) = ends-fail cause′ notes′ e′ g
+    go (ends-fail cause notes e f) (ends-stuck e′) = ends-stuck e′
+    go (ends-stuck e) (ends-done end trees records notes′ e′ q) = ends-stuck e
+    go (ends-stuck e) (ends-fail cause′ notes′ e′ g) = ends-stuck e
+    go (ends-stuck e) (ends-stuck e′) = ends-stuck e

@@ -2,19 +2,19 @@
 -- a literal of kind 6 or 8 one (record 4), a CompoundAssign one (record 5), a ShorthandInit one (record 8).
 -- Conversion keeps the number of rows (`same-size`), and pays its records out of what the tree owes (`pays`); so does the last pass (`pays-lasts`).
 -- Assumes nothing.
-use Prim.Native.Nat.{ℕ, zero, suc, _+_, _≤_}
-use mathlib.Core.Path.{_≡_, refl, sym, ap, _∙_}
+use Prim.Native.Nat.{ℕ, suc, _+_, _≤_}
+use mathlib.Core.Path.{_≡_, refl}
 use mathlib.Core.Bool.{Bool, true, false, not}
-use mathlib.Core.List.{List, [], _∷_, _++_}
+use mathlib.Core.List.{List, [], _∷_}
 use native.Mathlib.Omega.{arith}
 use native.Mathlib.Numerals.{add-one}
 use lib.Dec.{eqb, eqb·suc-zero}
 use lib.ListN.{length, length-append}
 use borrow.Author.Tests.{eqb-true}
-use Rattle.tokens.specs.Bool.{_or_, _and_, _is_, if_then_else_, between}
+use Rattle.tokens.specs.Bool.{_or_, _and_, _is_, if_then_else_}
 use Rattle.tokens.specs.declared.cause.Cause.{Cause}
 use Rattle.rows.specs.Row as Row
-use Rattle.rows.specs.Tree.{Tree, Forest, node, nil, cons, one, join, count, size, sizes, kind-of, first-of}
+use Rattle.rows.specs.Tree.{Tree, Forest, node, nil, cons, join, count, size, sizes, kind-of, first-of}
 use Rattle.rows.specs.Record.{Record, rest-argument, shorthand-initializer}
 use Rattle.targets.specs.Conversion.{Outcome, turned, refused, Role, any, simple, element, last-element, property, last-property, value, name, same, Change, refuse, keep, turn, is-array-or-object, is-reference, last-of, ends-in-spread, inner-kind, array-argument, object-argument, as-simple, as-any, as-value, as-element, as-last-element, as-property, as-last-property, as-name, change, roles, over, both, convert-as, convert-kids}
 use Rattle.grammar.specs.Reading.{unconverted, unconverteds}
