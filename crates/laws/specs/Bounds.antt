@@ -131,7 +131,7 @@ unfolding size
 size-node kind mark first end kids = refl
 
 pub owed-node : (kind mark first end : ℕ) (kids : Forest) → owed (node kind mark first end kids) ≡ owes kind + oweds kids
-unfolding owed
+unfolding owed owes
 owed-node kind mark first end kids = refl
 
 ruleset weights = (length-append, sizes-join, oweds-join, sizes-nil, oweds-nil, sizes-cons, oweds-cons, size-node, owed-node)

@@ -302,7 +302,7 @@ module _ {N : Type 0} (sheet : Sheet) {ask : Asks N} (g : Answers Any (λ job. B
   value-lies : (at : ℕ) → at ≤ length (sheet .kinds) → Reads (Is (value at)) (Inside sheet) (value-of sheet ask at)
   unfolding value-of after-binary is-assignment-operator
   value-lies at i =
-      test (is-async-name sheet ask at)
+      test (is-async-name sheet at)
       (λ t. let j = async-inside sheet ask at t in last (body Row.AsyncArrow at (at + 2) (one (leaf Row.BindingName (at + 1)))) (j, lie-leaf (at + 1) (omega arith) (omega arith)))
       (λ _. follows (asked (binary 0 at) i)
       (λ left rs b. test (kind-of (tree left) is Row.Identifier and token sheet (left .end) is Arrow)

@@ -224,7 +224,7 @@ operator-inside sheet at floor e = go (token sheet at) refl (ltb-true floor _ e)
     go (suc k) q l = stands (sheet .kinds) q
 
 -- the `=>` after an async name stands before the end
-pub async-inside : {N : Type 0} (sheet : Sheet) (ask : Asks N) (at : ℕ) → is-async-name sheet ask at ≡ true → at + 2 < length (sheet .kinds)
+pub async-inside : {N : Type 0} (sheet : Sheet) (ask : Asks N) (at : ℕ) → is-async-name sheet at ≡ true → at + 2 < length (sheet .kinds)
 unfolding is-async-name
 async-inside sheet ask at t =
     inside sheet (at + 2) (λ k. k is Arrow) refl
@@ -261,7 +261,7 @@ module _ {N N′ : Type 0} {Sim : N → N′ → Type 0} {Alike : Cause → Caus
   value-rel : (at : ℕ) → Ready sheet low (suc n) (value at) → Agree Sim Alike Whatever (value-of sheet ask at) (value-of sheet ask′ at)
   unfolding value-of is-async-name after-binary is-assignment-operator
   value-rel at r =
-      both-test (is-async-name sheet ask at)
+      both-test (is-async-name sheet at)
       (λ t. last (body Row.AsyncArrow at (at + 2) (one (leaf Row.BindingName (at + 1))))
       (omega (arith, async-inside sheet ask at t)))
       (λ _. both-follow (asked (binary 0 at) (omega arith))

@@ -536,7 +536,7 @@ module _ {N : Type 0} (sheet : Sheet) {ask : Asks N} (h : Answers (Fit sheet) (I
   value-well : (at : ℕ) → Reads (Is sheet (value at)) Nothing (value-of sheet ask at)
   unfolding value-of after-binary
   value-well at =
-      test (is-async-name sheet ask at)
+      test (is-async-name sheet at)
       (λ t. asked (body Row.AsyncArrow at (at + 2) (one (leaf Row.BindingName (at + 1)))) (is-async refl, parameter-leaf (at + 1)))
       (λ _. follows (asked (binary 0 at) tt)
       (λ left rs b. test (kind-of (tree left) is Row.Identifier and token sheet (left .end) is Arrow)

@@ -1,12 +1,12 @@
 -- What the proofs of several functions use.
 mod Notes
 mod Near
-mod Potentials
+pub mod Potentials
 mod Flat
 mod Looking
 mod Records
 mod Judging
-mod Shapes
+pub mod Shapes
 mod Turning
 mod Converting
 mod Entering
