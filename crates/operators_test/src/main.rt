@@ -100,7 +100,10 @@ fn print_line(k: u8) {
     print(b", unary ", unary(operators::map_unary_operator(k)));
     print(b", logical ", logical(operators::map_logical_operator(k)));
     print(b", update ", update(operators::map_update_operator(k)));
-    print(b", assignment ", assignment(operators::map_assignment_operator(k)));
+    print(
+        b", assignment ",
+        assignment(operators::map_assignment_operator(k)),
+    );
     io::write_all(1, b"\n");
 }
 

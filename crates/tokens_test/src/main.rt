@@ -106,7 +106,10 @@ fn print_checked(label: &[u8], checked: Checked) {
 fn print_checks(label: &[u8], kinds: &[u8], flags: &[u8]) {
     io::write_all(1, label);
     print_checked(b": length", tokens::check::check_length(kinds));
-    print_checked(b", flag length", tokens::check::check_flag_length(kinds, flags));
+    print_checked(
+        b", flag length",
+        tokens::check::check_flag_length(kinds, flags),
+    );
     print_checked(b", flags", tokens::check::check_flags(flags));
     print_checked(b", kinds", tokens::check::check_kinds(kinds));
     print_checked(b", nesting", tokens::check::check_nesting(kinds));
@@ -161,8 +164,16 @@ fn brackets() {
     kinds[64] = 23;
     kinds[65] = 19;
     kinds[66] = 1;
-    print_checks(b"64 open, two closed, a name, two open", &kinds[..69], &flags[..69]);
-    print_checks(b"64 open, two closed, a name, three open", &kinds[..70], &flags[..70]);
+    print_checks(
+        b"64 open, two closed, a name, two open",
+        &kinds[..69],
+        &flags[..69],
+    );
+    print_checks(
+        b"64 open, two closed, a name, three open",
+        &kinds[..70],
+        &flags[..70],
+    );
     kinds[0] = 19;
     kinds[1] = 21;
     kinds[2] = 23;
