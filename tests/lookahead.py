@@ -1,10 +1,13 @@
 #!/usr/bin/env python3
-"""Prints what the program lookahead_test must print (crates/lookahead_test/stdout).
+"""Prints what the program lookahead_test must print (crates/lookahead_test/stdout); with --input, what it reads
+(crates/lookahead_test/stdin).
 
 `worker` follows is_parenthesized_arrow_function_expression_worker of 000 (arrow.rs) statement by statement, over a cursor as there, with
 what document 01 adds: past the end the kind is 0, and any start but `(`, `<` and Async is False. `entry` runs the checks of document
 01's table that the three-way entry names. Nothing here was taken from the Rattle code.
 """
+import sys
+
 from kinds import KIND, kinds as of
 
 LARGEST = 2 ** 64 - 1
@@ -116,66 +119,92 @@ PREFIXES = [
 ]
 
 
-def lines(prefix):
-    for number, (lead, lead_flags, at) in enumerate(STARTS):
-        for is_jsx in (False, True):
-            for is_ts in (False, True):
-                letters = ''
-                for k in range(79):
-                    kinds = of(lead) + of(prefix) + ([k] if k else [])
-                    flags = (lead_flags + [0] * 8)[:len(kinds)]
-                    letters += '-' if checks(kinds, flags, at) else worker(kinds, flags, is_ts, is_jsx, at)
-                label = 'start %d%s%s:' % (number, ' ts' * is_ts, ' jsx' * is_jsx)
-                print(label + ''.join(' %d' % k for k in of(prefix)) + ' | ' + letters)
 
 
-def raw(label, kinds, flags, at):
-    print('%s at %d: %s' % (label, at, worker(kinds, flags, False, False, at)))
+class Row:
+    """A list with a place, as the program reads it: at most eight kinds and eight flags."""
+
+    def __init__(self, kinds, flags, at, is_ts=False, is_jsx=False, sweep=False):
+        self.kinds, self.flags, self.at, self.is_ts, self.is_jsx, self.sweep = kinds, flags, at, is_ts, is_jsx, sweep
+
+    def bytes(self):
+        place = 255 if self.at == LARGEST else self.at
+        head = [len(self.kinds), len(self.flags), place, self.is_ts, self.is_jsx, self.sweep]
+        return bytes(head + (self.kinds + [0] * 8)[:8] + (self.flags + [0] * 8)[:8])
+
+    def answer(self, kinds, flags):
+        return worker(kinds, flags, self.is_ts, self.is_jsx, self.at)
+
+    def line(self):
+        text = 'kinds%s, flags%s, at %d' % (''.join(' %d' % k for k in self.kinds), ''.join(' %d' % f for f in self.flags), self.at)
+        text += ', ts' * self.is_ts + ', jsx' * self.is_jsx + ': '
+        if not self.sweep:
+            refused = checks(self.kinds, self.flags, self.at)
+            told = self.answer(self.kinds, self.flags)
+            return text + ('refused %d %d' % refused if refused else told) + ', unchecked ' + told
+        for k in range(79):
+            kinds, flags = self.kinds + [k] * (k > 0), self.flags + [0] * (k > 0)
+            text += '-' if checks(kinds, flags, self.at) else self.answer(kinds, flags)
+        return text
 
 
-def entry(label, kinds, flags, at):
+def sweeps():
+    """Each prefix after each start, with the flags on and off: at the end of the list, and before each kind."""
+    for prefix in PREFIXES:
+        for lead, lead_flags, at in STARTS:
+            kinds = of(lead) + of(prefix)
+            flags = (lead_flags + [0] * 8)[:len(kinds)]
+            for is_jsx in (False, True):
+                for is_ts in (False, True):
+                    yield Row(kinds, flags, at, is_ts, is_jsx, True)
+
+
+def lists():
+    call = of('Async ( Ident )')
+    group = of('( Ident )')
+    # every byte after `(`, also those that are no kinds
+    for k in range(256):
+        yield Row([18, k, 19], [0, 0, 0], 0)
+    # places inside and outside; flags that are missing, and bytes that are no flags
+    for at in (0, 1, 2, 3, 4, LARGEST):
+        yield Row(call, [0, 0, 0, 0], at)
+        yield Row(call, [], at)
+    for flags in ([1, 0, 0, 0], [0, 1, 0, 0], [0, 2, 0, 0], [0, 255, 0, 0], [0, 0, 1, 0]):
+        yield Row(call, flags, 0)
+    # one check broken: 1, 2, 5, 6, 14
+    yield Row([], [], 0)
+    yield Row(group, [0, 0], 0)
+    yield Row(group, [0, 0, 0, 0], 0)
+    yield Row(group, [0, 2, 3], 0)
+    yield Row([18, 1, 0], [0, 0, 0], 0)
+    yield Row([18, 79, 0], [0, 0, 0], 0)
+    yield Row(group, [0, 0, 0], 3)
+    # two checks broken: the lower number answers
+    yield Row([], [0], 0)
+    yield Row([], [2], 0)
+    yield Row([], [], 7)
+    yield Row([18, 1], [0, 2, 0], 0)
+    yield Row([18, 0], [0], 0)
+    yield Row([18, 1], [0], 2)
+    yield Row([0, 1, 19], [0, 0, 2], 0)
+    yield Row([18, 79, 19], [0, 255, 0], 0)
+    yield Row(group, [0, 2, 0], 3)
+    yield Row([18, 1, 79], [0, 0, 0], 3)
+
+
+def long(kinds, flags, at):
     refused = checks(kinds, flags, at)
-    print('%s: %s' % (label, 'refused %d %d' % refused if refused else 'told ' + worker(kinds, flags, False, False, at)))
+    print('tokens %d, at %d: %s' % (len(kinds), at, 'refused %d %d' % refused if refused else worker(kinds, flags, False, False, at)))
 
 
-for prefix in PREFIXES:
-    lines(prefix)
-
-for k in range(256):
-    raw('byte %d' % k, [18, k, 19], [], 0)
-
-call = of('Async ( Ident )')
-for at in (0, 1, 2, 3, 4, LARGEST):
-    raw('no flags', call, [], at)
-raw('flag 1 at the Async', call, [1, 0, 0, 0], 0)
-raw('flag 1 after it', call, [0, 1, 0, 0], 0)
-raw('flag 2 after it', call, [0, 2, 0, 0], 0)
-raw('flag 1 two after it', call, [0, 0, 1, 0], 0)
-raw('no tokens', [], [1, 1], 0)
-raw('no tokens', [], [1, 1], LARGEST)
-
-group = of('( Ident )')
-entry('fine', group, [0, 1, 0], 0)
-entry('fine, at the last token', group, [0, 1, 0], 2)
-entry('1', [], [], 0)
-entry('2, a flag too few', group, [0, 0], 0)
-entry('2, a flag too many', group, [0, 0, 0, 0], 0)
-entry('5', group, [0, 2, 3], 0)
-entry('6, kind 0', [18, 1, 0], [0, 0, 0], 0)
-entry('6, kind 79', [18, 79, 0], [0, 0, 0], 0)
-entry('14', group, [0, 0, 0], 3)
-entry('14, the largest place', group, [0, 0, 0], LARGEST)
-entry('1 and 2', [], [0], 0)
-entry('1 and 5', [], [2], 0)
-entry('1 and 14', [], [], 7)
-entry('2 and 5', [18, 1], [0, 2, 0], 0)
-entry('2 and 6', [18, 0], [0], 0)
-entry('2 and 14', [18, 1], [0], 2)
-entry('5 and 6, the kind first', [0, 1, 19], [0, 0, 2], 0)
-entry('5 and 6, at one place', [18, 79, 19], [0, 255, 0], 0)
-entry('5 and 14', group, [0, 2, 0], 3)
-entry('6 and 14', [18, 1, 79], [0, 0, 0], 3)
-entry('2048 tokens', [18] * 2048, [0] * 2048, 2047)
-entry('2049 tokens', [18] * 2049, [0] * 2049, 0)
-entry('2049 tokens of kind 0', [0] * 2049, [0] * 2049, 0)
-entry('65 open', [18] * 65, [0] * 65, 64)
+rows = list(sweeps()) + list(lists())
+if sys.argv[1:] == ['--input']:
+    sys.stdout.buffer.write(b''.join(row.bytes() for row in rows))
+    sys.exit()
+for row in rows:
+    print(row.line())
+# 65 open brackets are no matter; 2,048 and 2,049 tokens, the last list of kind 0
+long([18] * 65, [0] * 65, 64)
+long([18] * 2048, [0] * 2048, 2047)
+long([18] * 2049, [0] * 2049, 2047)
+long([0] * 2049, [0] * 2049, 2047)

@@ -4,14 +4,24 @@
 set -euo pipefail
 cd "$(dirname "${BASH_SOURCE[0]}")/.."
 
-python3 -B tests/names.py
-for crate in tokens operators lookahead; do
-    if ! python3 -B "tests/$crate.py" | cmp - "crates/${crate}_test/stdout"; then
-        echo "crates/${crate}_test/stdout is not what tests/$crate.py prints"
+# A file of a program must be what a script prints.
+made() { # FILE SCRIPT WORDS..
+    local file=$1
+    shift
+    if python3 -B "$@" | cmp - "$file"; then
+        echo "$file: as $* prints it"
+    else
+        echo "$file: not as $* prints it"
         echo "0 passed, 1 failed"
         exit 1
     fi
-    echo "tests/$crate.py: crates/${crate}_test/stdout is what it prints"
-done
+}
+
+python3 -B tests/names.py
+made crates/tokens_test/stdin tests/tokens.py --input
+made crates/tokens_test/stdout tests/tokens.py
+made crates/operators_test/stdout tests/operators.py
+made crates/lookahead_test/stdin tests/lookahead.py --input
+made crates/lookahead_test/stdout tests/lookahead.py
 
 exec rt ci </dev/null

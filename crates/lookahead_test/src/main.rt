@@ -1,17 +1,64 @@
-// What the three-way answer is, printed: on every branch of the worker, with both flags on and off, at the end of the list, with and
-// without breaks after Async; and the entry's checks. F is False, T True, M Maybe, and - a refusal.
-// `stdout` is what tests/lookahead.py prints, which was written from document 01 and 000 and not from this program.
+// What the three-way answer is, printed: F is False, T True, M Maybe, and - a refusal. `stdin` has the lists: on every branch of the worker,
+// with both flags on and off, at the end of the list, with and without breaks after Async, and lists that break the entry's checks.
+// tests/lookahead.py makes `stdin` and `stdout`; it was written from document 01 and 000 and not from this program.
 use lookahead::ThreeWay;
 use lookahead::Tristate;
 use tokens::kind;
 
-fn print(label: &[u8], n: usize) {
-    io::write_all(1, label);
-    io::print_decimal(1, n as u64);
+// A row of 22 bytes describes a list: how many kinds and flags it has, the place (255: the largest), whether TypeScript and JSX are on,
+// whether every next kind is to be tried, eight kinds and eight flags.
+fn kinds_of(row: &[u8], k: u8) -> [u8; 9] {
+    let mut kinds = [
+        tokens::kind_at(row, 6),
+        tokens::kind_at(row, 7),
+        tokens::kind_at(row, 8),
+        tokens::kind_at(row, 9),
+        tokens::kind_at(row, 10),
+        tokens::kind_at(row, 11),
+        tokens::kind_at(row, 12),
+        tokens::kind_at(row, 13),
+        0,
+    ];
+    let last = wide(tokens::kind_at(row, 0));
+    if last < 9 {
+        kinds[last] = k;
+    }
+    kinds
+}
+
+fn flags_of(row: &[u8]) -> [u8; 9] {
+    [
+        tokens::kind_at(row, 14),
+        tokens::kind_at(row, 15),
+        tokens::kind_at(row, 16),
+        tokens::kind_at(row, 17),
+        tokens::kind_at(row, 18),
+        tokens::kind_at(row, 19),
+        tokens::kind_at(row, 20),
+        tokens::kind_at(row, 21),
+        0,
+    ]
+}
+
+fn place_of(row: &[u8]) -> usize {
+    let place = tokens::kind_at(row, 2);
+    if place == 255 {
+        18446744073709551615
+    } else {
+        wide(place)
+    }
 }
 
 fn wide(k: u8) -> usize {
     k as usize
+}
+
+// The first n of a list, or all of it.
+fn part(list: &[u8], n: usize) -> &[u8] {
+    if list.len() < n {
+        return list;
+    }
+    &list[..n]
 }
 
 fn letter(answer: Tristate) -> u8 {
@@ -22,109 +69,50 @@ fn letter(answer: Tristate) -> u8 {
     }
 }
 
-// The entry's answer as a letter.
-fn entry_letter(kinds: &[u8], flags: &[u8], is_ts: bool, is_jsx: bool, at: usize) -> u8 {
-    match lookahead::three_way(kinds, flags, is_ts, is_jsx, at) {
-        ThreeWay::Told(answer) => letter(answer),
+// How long a list of n tokens is with the kind k after its last one, where k is not 0.
+fn length(n: u8, k: u8) -> usize {
+    if k == 0 { n as usize } else { n as usize + 1 }
+}
+
+// The entry's answer for a row's list, with the kind k after its last one where k is not 0.
+fn answer(row: &[u8], k: u8) -> ThreeWay {
+    let kinds = kinds_of(row, k);
+    let flags = flags_of(row);
+    lookahead::three_way(
+        part(&kinds, length(tokens::kind_at(row, 0), k)),
+        part(&flags, length(tokens::kind_at(row, 1), k)),
+        tokens::kind_at(row, 3) == 1,
+        tokens::kind_at(row, 4) == 1,
+        place_of(row),
+    )
+}
+
+// The answer without the checks.
+fn raw_letter(row: &[u8]) -> u8 {
+    let kinds = kinds_of(row, 0);
+    let flags = flags_of(row);
+    letter(lookahead::is_parenthesized_arrow_function_expression(
+        part(&kinds, length(tokens::kind_at(row, 0), 0)),
+        part(&flags, length(tokens::kind_at(row, 1), 0)),
+        tokens::kind_at(row, 3) == 1,
+        tokens::kind_at(row, 4) == 1,
+        place_of(row),
+    ))
+}
+
+fn answer_letter(row: &[u8], k: u8) -> u8 {
+    match answer(row, k) {
+        ThreeWay::Told(told) => letter(told),
         ThreeWay::Refused(_) => b'-',
     }
 }
 
-// How a list starts: at its first token, bare (0), after an Async (1) or after an Async and a break (2); or behind `a =` and a break,
-// bare (3) or after an Async (4).
-fn place(start: u8) -> usize {
-    if start < 3 { 0 } else { 2 }
-}
-
-// Where the tokens after the Async stand.
-fn first(start: u8) -> usize {
-    match start {
-        0 => 0,
-        1 | 2 => 1,
-        3 => 2,
-        _ => 3,
-    }
-}
-
-// Puts a kind `more` places after `from`, where there is room.
-fn put(list: &mut [u8; 8], from: usize, more: usize, k: u8) {
-    if from < 8 {
-        if more < 8 - from {
-            list[from + more] = k;
-        }
-    }
-}
-
-// The kinds of a list that starts so, goes on with the tokens of `prefix`, at most four, and then with the kind k, and zeros after that.
-fn kinds_of(prefix: &[u8], start: u8, k: u8) -> [u8; 8] {
-    let mut kinds = [0u8; 8];
-    let at = place(start);
-    let from = first(start);
-    put(&mut kinds, 0, 0, kind::IDENT);
-    put(&mut kinds, 1, 0, kind::EQ);
-    put(&mut kinds, at, 0, kind::ASYNC);
-    put(&mut kinds, from, 0, tokens::kind_at(prefix, 0));
-    put(&mut kinds, from, 1, tokens::kind_at(prefix, 1));
-    put(&mut kinds, from, 2, tokens::kind_at(prefix, 2));
-    put(&mut kinds, from, 3, tokens::kind_at(prefix, 3));
-    put(&mut kinds, from, prefix.len(), k);
-    kinds
-}
-
-// The flags of such a list.
-fn flags_of(start: u8) -> [u8; 8] {
-    match start {
-        0 | 1 => [0, 0, 0, 0, 0, 0, 0, 0],
-        2 => [0, 1, 0, 0, 0, 0, 0, 0],
-        _ => [0, 0, 1, 0, 0, 0, 0, 0],
-    }
-}
-
-// How many tokens it has: it ends before the last kind where that is 0.
-fn length_of(prefix: &[u8], start: u8, k: u8) -> usize {
-    let more = prefix.len();
-    let from = first(start);
-    if 4 < more {
-        return 0;
-    }
-    if 3 < from {
-        return 0;
-    }
-    if k == 0 { from + more } else { from + more + 1 }
-}
-
-// The answer for the first n tokens of a list.
-fn answer_of(kinds: &[u8], flags: &[u8], n: usize, is_ts: bool, is_jsx: bool, at: usize) -> u8 {
-    if kinds.len() < n {
-        return b'?';
-    }
-    if flags.len() < n {
-        return b'?';
-    }
-    entry_letter(&kinds[..n], &flags[..n], is_ts, is_jsx, at)
-}
-
-fn answer(prefix: &[u8], start: u8, is_ts: bool, is_jsx: bool, k: u8) -> u8 {
-    let kinds = kinds_of(prefix, start, k);
-    let flags = flags_of(start);
-    let n = length_of(prefix, start, k);
-    answer_of(&kinds, &flags, n, is_ts, is_jsx, place(start))
-}
-
-fn print_kinds(kinds: &[u8]) {
-    let mut i = 0;
-    while i < kinds.len() {
-        print(b" ", wide(kinds[i]));
-        i += 1;
-    }
-}
-
-// The answers at the end of the list, and then for each next kind from 1 to 78.
-fn answers(prefix: &[u8], start: u8, is_ts: bool, is_jsx: bool) -> [u8; 79] {
+// The answers at the end of the list, and for each next kind from 1 to 78.
+fn letters(row: &[u8]) -> [u8; 79] {
     let mut line = [0u8; 79];
     let mut k: u8 = 0;
     while k < 79 {
-        let told = answer(prefix, start, is_ts, is_jsx, k);
+        let told = answer_letter(row, k);
         let i = k as usize;
         line[i] = told;
         k += 1;
@@ -132,214 +120,97 @@ fn answers(prefix: &[u8], start: u8, is_ts: bool, is_jsx: bool) -> [u8; 79] {
     line
 }
 
-fn print_line(prefix: &[u8], start: u8, is_ts: bool, is_jsx: bool) {
-    print(b"start ", wide(start));
-    if is_ts {
-        io::write_all(1, b" ts");
-    }
-    if is_jsx {
-        io::write_all(1, b" jsx");
-    }
-    io::write_all(1, b":");
-    print_kinds(prefix);
-    io::write_all(1, b" | ");
-    io::write_all(1, &answers(prefix, start, is_ts, is_jsx));
-    io::write_all(1, b"\n");
-}
-
-fn print_lines(prefix: &[u8]) {
-    let mut start: u8 = 0;
-    while start < 5 {
-        print_line(prefix, start, false, false);
-        print_line(prefix, start, true, false);
-        print_line(prefix, start, false, true);
-        print_line(prefix, start, true, true);
-        start += 1;
-    }
-}
-
-// The function itself takes any bytes and any place: its answer at a place of a list, with both flags off.
-fn print_raw(label: &[u8], kinds: &[u8], flags: &[u8], at: usize) {
-    let told = letter(lookahead::is_parenthesized_arrow_function_expression(
-        kinds,
-        flags,
-        false,
-        false,
-        at,
-    ));
+fn print(label: &[u8], n: usize) {
     io::write_all(1, label);
-    print(b" at ", at);
-    io::write_all(1, b": ");
-    io::write_all(1, &[told]);
-    io::write_all(1, b"\n");
+    io::print_decimal(1, n as u64);
 }
 
-// `(`, a byte as the next kind, and `)`.
-fn print_byte(k: u8) {
-    print(b"byte ", wide(k));
-    print_raw(b"", &[kind::L_PAREN, k, kind::R_PAREN], b"", 0);
-}
-
-fn print_bytes() {
-    let mut k: u8 = 0;
-    while k < 255 {
-        print_byte(k);
-        k += 1;
-    }
-    print_byte(255);
-}
-
-// Places inside and outside of `async ( a )`, flags that are missing, and flags that are no flags.
-fn print_places() {
-    let kinds = [kind::ASYNC, kind::L_PAREN, kind::IDENT, kind::R_PAREN];
-    print_raw(b"no flags", &kinds, b"", 0);
-    print_raw(b"no flags", &kinds, b"", 1);
-    print_raw(b"no flags", &kinds, b"", 2);
-    print_raw(b"no flags", &kinds, b"", 3);
-    print_raw(b"no flags", &kinds, b"", 4);
-    print_raw(b"no flags", &kinds, b"", 18446744073709551615);
-    print_raw(b"flag 1 at the Async", &kinds, b"\x01\x00\x00\x00", 0);
-    print_raw(b"flag 1 after it", &kinds, b"\x00\x01\x00\x00", 0);
-    print_raw(b"flag 2 after it", &kinds, b"\x00\x02\x00\x00", 0);
-    print_raw(b"flag 1 two after it", &kinds, b"\x00\x00\x01\x00", 0);
-    print_raw(b"no tokens", b"", b"\x01\x01", 0);
-    print_raw(b"no tokens", b"", b"\x01\x01", 18446744073709551615);
-}
-
-// The entry's answer in full.
-fn print_entry(label: &[u8], kinds: &[u8], flags: &[u8], at: usize) {
-    io::write_all(1, label);
-    match lookahead::three_way(kinds, flags, false, false, at) {
+fn print_answer(answer: ThreeWay) {
+    match answer {
         ThreeWay::Told(told) => {
-            io::write_all(1, b": told ");
             io::write_all(1, &[letter(told)]);
         }
         ThreeWay::Refused(cause) => {
-            print(b": refused ", tokens::cause::number_of(cause) as usize);
+            print(b"refused ", tokens::cause::number_of(cause) as usize);
             print(b" ", tokens::cause::place_of(cause));
         }
+    }
+}
+
+// `n` bytes of a row from a place on.
+fn print_bytes(row: &[u8], from: usize, n: u8) {
+    let mut left = n;
+    let mut at = from;
+    while 0 < left {
+        if at < row.len() {
+            print(b" ", wide(row[at]));
+            at += 1;
+        }
+        left -= 1;
+    }
+}
+
+fn print_row(row: &[u8]) {
+    io::write_all(1, b"kinds");
+    print_bytes(row, 6, tokens::kind_at(row, 0));
+    io::write_all(1, b", flags");
+    print_bytes(row, 14, tokens::kind_at(row, 1));
+    print(b", at ", place_of(row));
+    if tokens::kind_at(row, 3) == 1 {
+        io::write_all(1, b", ts");
+    }
+    if tokens::kind_at(row, 4) == 1 {
+        io::write_all(1, b", jsx");
+    }
+    io::write_all(1, b": ");
+}
+
+fn print_answers(row: &[u8]) {
+    if tokens::kind_at(row, 5) == 1 {
+        io::write_all(1, &letters(row));
+    } else {
+        print_answer(answer(row, 0));
+        io::write_all(1, b", unchecked ");
+        io::write_all(1, &[raw_letter(row)]);
     }
     io::write_all(1, b"\n");
 }
 
-// Lists that break one of the checks 1, 2, 5, 6, 14, and lists that break two of them: the one of the lower number answers.
-fn print_checks() {
-    print_entry(b"fine", b"\x12\x01\x13", b"\x00\x01\x00", 0);
-    print_entry(
-        b"fine, at the last token",
-        b"\x12\x01\x13",
-        b"\x00\x01\x00",
-        2,
-    );
-    print_entry(b"1", b"", b"", 0);
-    print_entry(b"2, a flag too few", b"\x12\x01\x13", b"\x00\x00", 0);
-    print_entry(
-        b"2, a flag too many",
-        b"\x12\x01\x13",
-        b"\x00\x00\x00\x00",
-        0,
-    );
-    print_entry(b"5", b"\x12\x01\x13", b"\x00\x02\x03", 0);
-    print_entry(b"6, kind 0", b"\x12\x01\x00", b"\x00\x00\x00", 0);
-    print_entry(b"6, kind 79", b"\x12\x4f\x00", b"\x00\x00\x00", 0);
-    print_entry(b"14", b"\x12\x01\x13", b"\x00\x00\x00", 3);
-    print_entry(
-        b"14, the largest place",
-        b"\x12\x01\x13",
-        b"\x00\x00\x00",
-        18446744073709551615,
-    );
-    print_entry(b"1 and 2", b"", b"\x00", 0);
-    print_entry(b"1 and 5", b"", b"\x02", 0);
-    print_entry(b"1 and 14", b"", b"", 7);
-    print_entry(b"2 and 5", b"\x12\x01", b"\x00\x02\x00", 0);
-    print_entry(b"2 and 6", b"\x12\x00", b"\x00", 0);
-    print_entry(b"2 and 14", b"\x12\x01", b"\x00", 2);
-    print_entry(
-        b"5 and 6, the kind first",
-        b"\x00\x01\x13",
-        b"\x00\x00\x02",
-        0,
-    );
-    print_entry(
-        b"5 and 6, at one place",
-        b"\x12\x4f\x13",
-        b"\x00\xff\x00",
-        0,
-    );
-    print_entry(b"5 and 14", b"\x12\x01\x13", b"\x00\x02\x00", 3);
-    print_entry(b"6 and 14", b"\x12\x01\x4f", b"\x00\x00\x00", 3);
+// The rows that `stdin` has, some at a time.
+fn print_rows(rows: &[u8]) {
+    let mut at = 0;
+    while at < rows.len() {
+        if rows.len() - at < 22 {
+            return;
+        }
+        let end = at + 22;
+        print_row(&rows[at..end]);
+        print_answers(&rows[at..end]);
+        at = end;
+    }
 }
 
-// 2,048 and 2,049 tokens, which break 1 together with 6; and 65 open brackets, which are no matter here.
+fn print_long(kinds: &[u8], flags: &[u8], at: usize) {
+    print(b"tokens ", kinds.len());
+    print(b", at ", at);
+    io::write_all(1, b": ");
+    print_answer(lookahead::three_way(kinds, flags, false, false, at));
+    io::write_all(1, b"\n");
+}
+
+// 2,048 and 2,049 tokens, the last of kind 0; and 65 open brackets, which are no matter here.
 fn print_limits() {
     let kinds = [kind::L_PAREN; 2049];
     let flags = [0u8; 2049];
-    let zeros = [0u8; 2049];
-    print_entry(b"2048 tokens", &kinds[..2048], &flags[..2048], 2047);
-    print_entry(b"2049 tokens", &kinds, &flags, 0);
-    print_entry(b"2049 tokens of kind 0", &zeros, &flags, 0);
-    print_entry(b"65 open", &kinds[..65], &flags[..65], 64);
-}
-
-fn after_paren() {
-    print_lines(b"");
-    print_lines(b"\x12");
-    print_lines(b"\x12\x13");
-    print_lines(b"\x12\x14");
-    print_lines(b"\x12\x16");
-    print_lines(b"\x12\x1c");
-    print_lines(b"\x12\x01");
-    print_lines(b"\x12\x02");
-    print_lines(b"\x12\x03");
-    print_lines(b"\x12\x04");
-    print_lines(b"\x12\x05");
-    print_lines(b"\x12\x06");
-    print_lines(b"\x12\x07");
-    print_lines(b"\x12\x08");
-    print_lines(b"\x12\x0d");
-    print_lines(b"\x12\x0e");
-    print_lines(b"\x12\x0f");
-    print_lines(b"\x12\x11");
-    print_lines(b"\x12\x12");
-    print_lines(b"\x12\x35");
-}
-
-fn after_two() {
-    print_lines(b"\x12\x01\x1a");
-    print_lines(b"\x12\x02\x1a");
-    print_lines(b"\x12\x05\x1a");
-    print_lines(b"\x12\x06\x1a");
-    print_lines(b"\x12\x07\x1a");
-    print_lines(b"\x12\x0b\x1a");
-    print_lines(b"\x12\x0f\x1a");
-    print_lines(b"\x12\x05\x03");
-    print_lines(b"\x12\x1c\x01");
-    print_lines(b"\x12\x13\x19");
-}
-
-fn after_angle() {
-    print_lines(b"\x30");
-    print_lines(b"\x30\x01");
-    print_lines(b"\x30\x06");
-    print_lines(b"\x30\x07");
-    print_lines(b"\x30\x0e");
-    print_lines(b"\x30\x01\x10");
-    print_lines(b"\x30\x02\x10");
-    print_lines(b"\x30\x06\x01");
-    print_lines(b"\x30\x06\x06");
-    print_lines(b"\x30\x06\x10");
-    print_lines(b"\x30\x06\x01\x10");
-    print_lines(b"\x30\x06\x12\x10");
+    print_long(&kinds[..65], &flags[..65], 64);
+    print_long(&kinds[..2048], &flags[..2048], 2047);
+    print_long(&kinds, &flags, 2047);
+    print_long(&flags, &flags, 2047);
 }
 
 fn main() {
-    after_paren();
-    after_two();
-    after_angle();
-    print_lines(b"\x02\x12");
-    print_bytes();
-    print_places();
-    print_checks();
+    let mut rows = io::large_buffer();
+    let n = io::read_full(0, &mut rows);
+    print_rows(&rows[..n]);
     print_limits();
 }

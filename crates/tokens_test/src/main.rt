@@ -1,5 +1,5 @@
-// What `tokens` answers, printed: the classes of all 256 bytes, what stands at a place, the causes, and the checks at their limits.
-// `stdout` is what tests/tokens.py prints, which was written from document 01 and not from this program.
+// What `tokens` answers, printed: the classes of all 256 bytes, what stands at a place, the causes, and the checks of the lists that
+// `stdin` describes. tests/tokens.py makes `stdin` and `stdout`; it was written from document 01 and not from this program.
 use tokens::cause::Cause;
 use tokens::check::Checked;
 
@@ -16,19 +16,23 @@ fn wide(k: u8) -> usize {
     k as usize
 }
 
-fn told(test: bool) -> usize {
-    if test { 1 } else { 0 }
+fn told(test: bool) -> u8 {
+    if test { b'1' } else { b'0' }
 }
 
-// The classes of a byte.
+// The classes of a byte: name, word, literal, and the three-way answer's name and modifier.
 fn print_classes(k: u8) {
     print(b"byte ", wide(k));
-    print(b": name ", told(tokens::is_name(k)));
-    print(b", word ", told(tokens::is_word(k)));
-    print(b", literal ", told(tokens::is_literal(k)));
-    print(b", three-way name ", told(tokens::is_binding_identifier(k)));
-    print(b", three-way modifier ", told(tokens::is_modifier_kind(k)));
-    end_line();
+    io::write_all(1, b": ");
+    let classes = [
+        told(tokens::is_name(k)),
+        told(tokens::is_word(k)),
+        told(tokens::is_literal(k)),
+        told(tokens::is_binding_identifier(k)),
+        told(tokens::is_modifier_kind(k)),
+        b'\n',
+    ];
+    io::write_all(1, &classes);
 }
 
 fn all_classes() {
@@ -40,52 +44,123 @@ fn all_classes() {
     print_classes(255);
 }
 
-// A range, and the bytes at its ends.
+// A range, and whether 0, 7, 8, 13, 14, 255 are in it.
 fn print_range(low: u8, high: u8) {
     print(b"range ", wide(low));
     print(b" to ", wide(high));
-    print(b": 0 ", told(tokens::between(low, high, 0)));
-    print(b", 7 ", told(tokens::between(low, high, 7)));
-    print(b", 8 ", told(tokens::between(low, high, 8)));
-    print(b", 13 ", told(tokens::between(low, high, 13)));
-    print(b", 14 ", told(tokens::between(low, high, 14)));
-    print(b", 255 ", told(tokens::between(low, high, 255)));
-    end_line();
+    io::write_all(1, b": ");
+    let inside = [
+        told(tokens::between(low, high, 0)),
+        told(tokens::between(low, high, 7)),
+        told(tokens::between(low, high, 8)),
+        told(tokens::between(low, high, 13)),
+        told(tokens::between(low, high, 14)),
+        told(tokens::between(low, high, 255)),
+        b'\n',
+    ];
+    io::write_all(1, &inside);
 }
 
-// What stands at a place, and `more` places after it.
-fn print_place(bytes: &[u8], at: usize, more: usize) {
+// What stands at a place of the list 7 1 9, and `more` places after it, as a kind and as a flag.
+fn print_place(at: usize, more: usize) {
+    let bytes = b"\x07\x01\x09";
     print(b"place ", at);
-    print(b": kind ", wide(tokens::kind_at(bytes, at)));
-    print(b", flag ", wide(tokens::flag_at(bytes, at)));
-    print(b"; and ", more);
-    print(b" more: kind ", wide(tokens::kind_after(bytes, at, more)));
-    print(b", flag ", wide(tokens::flag_after(bytes, at, more)));
+    print(b" and ", more);
+    print(b" more: ", wide(tokens::kind_at(bytes, at)));
+    print(b" ", wide(tokens::flag_at(bytes, at)));
+    print(b" ", wide(tokens::kind_after(bytes, at, more)));
+    print(b" ", wide(tokens::flag_after(bytes, at, more)));
     end_line();
 }
 
-// A cause: its number and its place.
+fn all_places() {
+    let largest: usize = 18446744073709551615;
+    print_place(0, 0);
+    print_place(0, 2);
+    print_place(1, 1);
+    print_place(2, 1);
+    print_place(3, 0);
+    print_place(1, largest);
+    print_place(largest, 1);
+    print_place(largest, largest);
+}
+
+// A cause of each number, with the place 100 more.
+fn cause_of(number: usize) -> Cause {
+    match number {
+        1 => Cause::Length(101),
+        2 => Cause::FlagLength(102),
+        3 => Cause::RowRoom(103),
+        4 => Cause::RecordRoom(104),
+        5 => Cause::Flag(105),
+        6 => Cause::Kind(106),
+        7 => Cause::Nesting(107),
+        8 => Cause::Unexpected(108),
+        9 => Cause::Target(109),
+        10 => Cause::Spread(110),
+        11 => Cause::RestName(111),
+        12 => Cause::RestLast(112),
+        13 => Cause::Tree(113),
+        _ => Cause::Outside(114),
+    }
+}
+
 fn print_cause(cause: Cause) {
-    print(b"cause ", tokens::cause::number_of(cause) as usize);
+    print(b" ", tokens::cause::number_of(cause) as usize);
     print(b" ", tokens::cause::place_of(cause));
-    end_line();
 }
 
 fn all_causes() {
-    print_cause(Cause::Length(101));
-    print_cause(Cause::FlagLength(102));
-    print_cause(Cause::RowRoom(103));
-    print_cause(Cause::RecordRoom(104));
-    print_cause(Cause::Flag(105));
-    print_cause(Cause::Kind(106));
-    print_cause(Cause::Nesting(107));
-    print_cause(Cause::Unexpected(108));
-    print_cause(Cause::Target(109));
-    print_cause(Cause::Spread(110));
-    print_cause(Cause::RestName(111));
-    print_cause(Cause::RestLast(112));
-    print_cause(Cause::Tree(113));
-    print_cause(Cause::Outside(114));
+    let mut number = 1;
+    while number < 15 {
+        io::write_all(1, b"cause");
+        print_cause(cause_of(number));
+        end_line();
+        number += 1;
+    }
+}
+
+// A row of 28 bytes describes a list: four runs of kinds and three of flags, each a count and a byte, as numbers of two bytes.
+fn number_of_two(low: u8, high: u8) -> u16 {
+    (low as u16) + (high as u16) * 256
+}
+
+fn number(row: &[u8], column: usize) -> u16 {
+    if 13 < column {
+        return 0;
+    }
+    number_of_two(
+        tokens::kind_at(row, column * 2),
+        tokens::kind_after(row, column * 2, 1),
+    )
+}
+
+fn byte(row: &[u8], column: usize) -> u8 {
+    let n = number(row, column);
+    if n < 256 { n as u8 } else { 0 }
+}
+
+// Puts a run into a list, as far as there is room, and tells the place after it.
+fn put_run(list: &mut [u8; 2049], from: usize, count: u16, k: u8) -> usize {
+    let mut at = from;
+    let mut left = count;
+    while 0 < left {
+        if 2048 < at {
+            return at;
+        }
+        list[at] = k;
+        at += 1;
+        left -= 1;
+    }
+    at
+}
+
+fn print_run(count: u16, k: u8) {
+    if count == 0 {
+        return;
+    }
+    print(b" ", count as usize);
+    print(b"*", wide(k));
 }
 
 // What a check finds.
@@ -96,15 +171,14 @@ fn print_checked(label: &[u8], checked: Checked) {
             io::write_all(1, b" fine");
         }
         Checked::Refused(cause) => {
-            print(b" refused ", tokens::cause::number_of(cause) as usize);
-            print(b" ", tokens::cause::place_of(cause));
+            io::write_all(1, b" refused");
+            print_cause(cause);
         }
     }
 }
 
 // All checks of a list, each by itself.
-fn print_checks(label: &[u8], kinds: &[u8], flags: &[u8]) {
-    io::write_all(1, label);
+fn print_checks(kinds: &[u8], flags: &[u8]) {
     print_checked(b": length", tokens::check::check_length(kinds));
     print_checked(
         b", flag length",
@@ -116,72 +190,73 @@ fn print_checks(label: &[u8], kinds: &[u8], flags: &[u8]) {
     end_line();
 }
 
-// Lengths: 0, 1, 2,048 and 2,049 tokens, and flag lists of other lengths.
-fn lengths() {
-    let kinds = [1u8; 2049];
-    let flags = [0u8; 2049];
-    print_checks(b"no tokens", &kinds[..0], &flags[..0]);
-    print_checks(b"no tokens, 1 flag", &kinds[..0], &flags[..1]);
-    print_checks(b"1 token", &kinds[..1], &flags[..1]);
-    print_checks(b"1 token, no flags", &kinds[..1], &flags[..0]);
-    print_checks(b"1 token, 2 flags", &kinds[..1], &flags[..2]);
-    print_checks(b"2048 tokens", &kinds[..2048], &flags[..2048]);
-    print_checks(b"2048 tokens, 2047 flags", &kinds[..2048], &flags[..2047]);
-    print_checks(b"2048 tokens, 2049 flags", &kinds[..2048], &flags);
-    print_checks(b"2049 tokens", &kinds, &flags);
+fn print_parts(kinds: &[u8], tokens: usize, flags: &[u8], breaks: usize) {
+    if kinds.len() < tokens {
+        return;
+    }
+    if flags.len() < breaks {
+        return;
+    }
+    print_checks(&kinds[..tokens], &flags[..breaks]);
 }
 
-// Flags and kinds: the limits of each, the first of several, and the last place of a full list.
-fn contents() {
-    print_checks(b"flags 0 1 0", b"\x01\x01\x01", b"\x00\x01\x00");
-    print_checks(b"flags 1 2 3", b"\x01\x01\x01", b"\x01\x02\x03");
-    print_checks(b"flags 0 0 255", b"\x01\x01\x01", b"\x00\x00\xff");
-    print_checks(b"kinds 1 78 1", b"\x01\x4e\x01", b"\x00\x00\x00");
-    print_checks(b"kinds 1 79 0", b"\x01\x4f\x00", b"\x00\x00\x00");
-    print_checks(b"kinds 1 1 0", b"\x01\x01\x00", b"\x00\x00\x00");
-    print_checks(b"kinds 255 79 0", b"\xff\x4f\x00", b"\x00\x00\x00");
-    let mut kinds = [78u8; 2048];
-    let mut flags = [1u8; 2048];
-    print_checks(b"2048 tokens of kind 78 with flag 1", &kinds, &flags);
-    kinds[2047] = 79;
-    flags[2047] = 2;
-    print_checks(b"the last of kind 79 with flag 2", &kinds, &flags);
+fn kinds_of(row: &[u8]) -> [u8; 2049] {
+    let mut list = [0u8; 2049];
+    let second = put_run(&mut list, 0, number(row, 0), byte(row, 1));
+    let third = put_run(&mut list, second, number(row, 2), byte(row, 3));
+    let fourth = put_run(&mut list, third, number(row, 4), byte(row, 5));
+    put_run(&mut list, fourth, number(row, 6), byte(row, 7));
+    list
 }
 
-// Brackets: 64 and 65 open, of each kind; closing tokens, also before any is open.
-fn brackets() {
-    let flags = [0u8; 140];
-    let mut kinds = [18u8; 140];
-    print_checks(b"64 open", &kinds[..64], &flags[..64]);
-    print_checks(b"65 open", &kinds[..65], &flags[..65]);
-    kinds[64] = 21;
-    print_checks(b"64 open, one closed, one open", &kinds[..66], &flags[..66]);
-    print_checks(b"64 open, one closed, two open", &kinds[..67], &flags[..67]);
-    kinds[64] = 20;
-    print_checks(b"64 and a bracket", &kinds[..65], &flags[..65]);
-    kinds[64] = 22;
-    print_checks(b"64 and a brace", &kinds[..65], &flags[..65]);
-    kinds[64] = 23;
-    kinds[65] = 19;
-    kinds[66] = 1;
-    print_checks(
-        b"64 open, two closed, a name, two open",
-        &kinds[..69],
-        &flags[..69],
+fn flags_of(row: &[u8]) -> [u8; 2049] {
+    let mut list = [0u8; 2049];
+    let second = put_run(&mut list, 0, number(row, 8), byte(row, 9));
+    let third = put_run(&mut list, second, number(row, 10), byte(row, 11));
+    put_run(&mut list, third, number(row, 12), byte(row, 13));
+    list
+}
+
+fn sum(a: u16, b: u16, c: u16, d: u16) -> usize {
+    a as usize + b as usize + c as usize + d as usize
+}
+
+fn print_list(row: &[u8]) {
+    let kinds = kinds_of(row);
+    let flags = flags_of(row);
+    let tokens = sum(
+        number(row, 0),
+        number(row, 2),
+        number(row, 4),
+        number(row, 6),
     );
-    print_checks(
-        b"64 open, two closed, a name, three open",
-        &kinds[..70],
-        &flags[..70],
-    );
-    kinds[0] = 19;
-    kinds[1] = 21;
-    kinds[2] = 23;
-    kinds[64] = 18;
-    kinds[65] = 20;
-    kinds[66] = 22;
-    print_checks(b"three closed, 64 open", &kinds[..67], &flags[..67]);
-    print_checks(b"three closed, 65 open", &kinds[..68], &flags[..68]);
+    let breaks = sum(number(row, 8), number(row, 10), number(row, 12), 0);
+    print_parts(&kinds, tokens, &flags, breaks);
+}
+
+fn print_row(row: &[u8]) {
+    io::write_all(1, b"kinds");
+    print_run(number(row, 0), byte(row, 1));
+    print_run(number(row, 2), byte(row, 3));
+    print_run(number(row, 4), byte(row, 5));
+    print_run(number(row, 6), byte(row, 7));
+    io::write_all(1, b", flags");
+    print_run(number(row, 8), byte(row, 9));
+    print_run(number(row, 10), byte(row, 11));
+    print_run(number(row, 12), byte(row, 13));
+    print_list(row);
+}
+
+fn all_lists(rows: &[u8]) {
+    let mut at = 0;
+    while at < rows.len() {
+        if rows.len() - at < 28 {
+            return;
+        }
+        let end = at + 28;
+        print_row(&rows[at..end]);
+        at = end;
+    }
 }
 
 fn main() {
@@ -190,17 +265,9 @@ fn main() {
     print_range(0, 255);
     print_range(13, 8);
     print_range(8, 8);
-    print_place(b"\x07\x01\x09", 0, 0);
-    print_place(b"\x07\x01\x09", 0, 2);
-    print_place(b"\x07\x01\x09", 1, 1);
-    print_place(b"\x07\x01\x09", 2, 1);
-    print_place(b"\x07\x01\x09", 3, 0);
-    print_place(b"\x07\x01\x09", 1, 18446744073709551615);
-    print_place(b"\x07\x01\x09", 18446744073709551615, 1);
-    print_place(b"\x07\x01\x09", 18446744073709551615, 18446744073709551615);
-    print_place(b"", 0, 0);
+    all_places();
     all_causes();
-    lengths();
-    contents();
-    brackets();
+    let mut rows = io::buffer();
+    let n = io::read_full(0, &mut rows);
+    all_lists(&rows[..n]);
 }

@@ -1,22 +1,23 @@
--- `lookahead_test::answers` is safe and ends: the kinds that are left get fewer.
--- Made from answers/answers.ans by tools/fill.py. Assumes nothing.
+-- `lookahead_test::letters` is safe and ends: the kinds that are left get fewer.
+-- Made from answers/letters.ans by tools/fill.py. Assumes nothing.
 use Prim.Native.Nat.{_≤_, _-_}
 use native.Mathlib.Omega.{arith}
+use lib.ListN.{length}
 use borrow.Author.Needs.{needs}
-use Rattle.lookahead_test.proofs.answers.Statement.{statement}
-use Rattle.lookahead_test.proofs.answers.Tie as tie
+use Rattle.lookahead_test.proofs.letters.Statement.{statement}
+use Rattle.lookahead_test.proofs.letters.Tie as tie
 
 abbrev Inv-loop : tie.InvT-loop
-Inv-loop prefix start is-ts is-jsx line₀ k₀ line k = k ≤ 79
+Inv-loop row line₀ k₀ line k = k ≤ 79
 
 abbrev μ-loop : tie.MeasureT-loop
-μ-loop prefix start is-ts is-jsx line₀ k₀ line k = 79 - k
+μ-loop row line₀ k₀ line k = 79 - k
 
 loop-holds : tie.Need-loop-holds Inv-loop μ-loop
 loop-holds c = search needs
 
-answer-requires : tie.Need-answer-requires Inv-loop μ-loop
-answer-requires c κs = search needs
+answer-letter-requires : tie.Need-answer-letter-requires Inv-loop μ-loop
+answer-letter-requires c κs = search needs
 
 cast-i : tie.Need-cast-i Inv-loop μ-loop
 cast-i c = omega (arith, c .before .before .loop .inv)
@@ -36,5 +37,5 @@ loop-again c = search needs
 returns : tie.Need-returns Inv-loop μ-loop
 returns c = search needs
 
-pub answers-spec : {M : Type 1} → statement M
-answers-spec = tie.close (tie.spec Inv-loop μ-loop loop-holds answer-requires cast-i array-write-line add-k loop-less loop-again returns)
+pub letters-spec : {M : Type 1} → statement M
+letters-spec = tie.close (tie.spec Inv-loop μ-loop loop-holds answer-letter-requires cast-i array-write-line add-k loop-less loop-again returns)
