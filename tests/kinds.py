@@ -8,7 +8,8 @@ Ident Async As Satisfies Modifier Const This Null True False Str Number RegExp A
 """.split()
 
 KIND = {name: number for number, name in enumerate(ORDER, 1)}
-assert len(KIND) == 78
+LAST = len(KIND)
+assert LAST == 78
 
 
 def kinds(text):

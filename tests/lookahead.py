@@ -8,7 +8,7 @@ what document 01 adds: past the end the kind is 0, and any start but `(`, `<` an
 """
 import sys
 
-from kinds import KIND, kinds as of
+from kinds import KIND, LAST, kinds as of
 
 LARGEST = 2 ** 64 - 1
 NAMES = {1, 2, 3, 4, 5, 14, 15}
@@ -89,7 +89,7 @@ def checks(kinds, flags, at):
         if flag not in (0, 1):
             return (5, place)
     for place, kind in enumerate(kinds):
-        if kind == 0 or kind > 78:
+        if kind == 0 or kind > LAST:
             return (6, place)
     if at >= len(kinds):
         return (14, 0)
@@ -142,7 +142,7 @@ class Row:
             refused = checks(self.kinds, self.flags, self.at)
             told = self.answer(self.kinds, self.flags)
             return text + ('refused %d %d' % refused if refused else told) + ', unchecked ' + told
-        for k in range(79):
+        for k in range(LAST + 1):
             kinds, flags = self.kinds + [k] * (k > 0), self.flags + [0] * (k > 0)
             text += '-' if checks(kinds, flags, self.at) else self.answer(kinds, flags)
         return text

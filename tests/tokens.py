@@ -7,6 +7,8 @@ table of "Answers the box can show". Nothing here was taken from the Rattle code
 import struct
 import sys
 
+from kinds import LAST
+
 LARGEST = 2 ** 64 - 1
 
 
@@ -43,7 +45,7 @@ def bad_flag(kinds, flags):
 
 
 def bad_kind(kinds, flags):
-    return next(((6, place) for place, kind in enumerate(kinds) if kind == 0 or kind > 78), None)
+    return next(((6, place) for place, kind in enumerate(kinds) if kind == 0 or kind > LAST), None)
 
 
 def nesting(kinds, flags):

@@ -1,21 +1,19 @@
 -- What each three-way answer says about the next tokens, with both flags off: the facts that later proofs use.
 -- Beside the definition: nothing here changes what the answer is.
 -- Assumes nothing.
-use Prim.Native.Nat.{ℕ, _+_, _≤_, _<_}
+use Prim.Native.Nat.{ℕ, _+_, _≤_}
 use mathlib.Core.Path.{_≡_, refl, subst, sym, _∙_}
 use mathlib.Core.Bool.{Bool, true, false, not}
 use mathlib.Core.List.{List}
-use mathlib.Core.Logic.{_⊎_, inl, inr, ⊎-elim}
 use native.Mathlib.Omega.{arith}
 use native.Mathlib.Decide.{ℕ-discrete}
-use lib.Dec.{leb, eqb}
-use lib.ListN.{getD}
+use lib.Dec.{leb}
 use borrow.Author.Tests.{eqb-true, eqb-false, leb-true, not-true, not-false, eq-eqb, ne-eqb, le-leb, lt-leb}
 use Rattle.tokens.specs.Bool.{_or_, _and_, _is_, if_then_else_, between}
 use Rattle.tokens.specs.Kind.{Ident, Async, As, Modifier, Const, This, Null, Await, Yield, LParen, RParen, LBrack, LCurly, Comma, Colon, Question, Dot3, Arrow, LAngle, In, Eq}
 use Rattle.tokens.specs.Token.{kind-at, flag-at, is-literal, is-binding-identifier, is-modifier-kind}
 use Rattle.lookahead.specs.declared.Tristate.{Tristate}
-use Rattle.lookahead.specs.ThreeWay.{three-way, after-open, after-paren, after-angle, no-parameters, rest-parameter, modified-name, after-name, first-parameter, names-type, type-parameter}
+use Rattle.lookahead.specs.ThreeWay.{three-way, after-open, after-paren, after-angle, no-parameters, rest-parameter, modified-name, after-name, first-parameter, names-type}
 
 -- the opening token stands at p: at the place itself, or right after an Async there, with no break between them
 pub data Opening (kinds flags : List ℕ) (at p : ℕ) : Type 0 where
