@@ -2,4 +2,5 @@ pub mod Rules
 pub mod Ways
 pub mod Ends
 pub mod Makes
+pub mod Converts
 pub mod Steps

@@ -2,3 +2,4 @@
 -- gave, and what the contract asks.
 pub mod Assign
 pub mod Choice
+pub mod Operation

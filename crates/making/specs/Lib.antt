@@ -1,3 +1,4 @@
 pub mod Post
 pub mod Heads
 pub mod Keys
+pub mod Operation
