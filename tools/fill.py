@@ -169,7 +169,7 @@ def fill(function):
         facts = ', '.join(['arith'] + facts)
         asks = ' κs' if re.search(r'-requires(-\d+)?$', need) else ''
         opened, term = '', 'search needs'
-        if re.match(r'(add|sub|mul|cast)-', need) or 'slice-read' in need or 'slice-write' in need or 'array-read' in need or 'array-write' in need or need.endswith('-less') or need.startswith('same-length') or (cycle and asks and not any('-%s-' % leaf in '-' + need for leaf in ('kind-at', 'kind-after', 'flag-at', 'flag-after', 'is-name', 'is-word', 'is-literal'))):
+        if re.match(r'(add|sub|mul|cast)-', need) or 'slice-read' in need or 'slice-write' in need or 'array-read' in need or 'array-write' in need or re.search(r'-less(-\d+)?$', need) or need.startswith('same-length') or (cycle and asks and not any('-%s-' % leaf in '-' + need for leaf in ('kind-at', 'kind-after', 'flag-at', 'flag-after', 'is-name', 'is-word', 'is-literal'))):
             term = 'omega (%s)' % facts if facts != 'arith' else 'omega arith'
         if need in answers:
             done.add(need)

@@ -37,8 +37,6 @@ pub fn comma(
     requires { ⌜ Room (now kinds) (now rows) (now records) c ⌝ }
     ensures { λ x. ⌜ Met (now (kinds .entry)) (now (flags .entry)) (now (rows .entry)) (now (records .entry)) (now (notes .entry)) (now (rows .exit)) (now (records .exit)) (now (notes .exit)) (Job.expression (c .at)) (c .rows) (c .records) x ⌝ }
 {
-    let first = c.at;
-    let from = c.rows;
     let got = assign(kinds, flags, rows, records, notes, c);
     let Step::Done(part) = got else {
         return got;
@@ -49,8 +47,11 @@ pub fn comma(
     }
     let mut here = part;
     let mut kids = 1;
-    let mut at = mark;
-    while tokens::kind_at(kinds, at) == kind::COMMA {
+    loop {
+        let at = here.at;
+        if tokens::kind_at(kinds, at) != kind::COMMA {
+            return Step::Done(over(rows, here, row::SEQUENCE, mark, c.at, at, kids, c.rows));
+        }
         let next = Cursor {
             at: at + 1,
             rows: here.rows,
@@ -61,10 +62,8 @@ pub fn comma(
             return more;
         };
         here = d;
-        at = d.at;
         kids += 1;
     }
-    Step::Done(over(rows, here, row::SEQUENCE, mark, first, at, kids, from))
 }
 
 // 13.15 AssignmentExpression: where a head could open, it is passed, tried or read for good.
@@ -539,10 +538,10 @@ pub fn args(
         records: c.records,
     };
     let mut kids = 1;
-    let end = loop {
+    loop {
         let at = here.at;
         if tokens::kind_at(kinds, at) == kind::R_PAREN {
-            break at + 1;
+            return Step::Done(over(rows, here, row::CALL, first, first, at + 1, kids, from));
         }
         let got = item(kinds, flags, rows, records, notes, here);
         let Step::Done(d) = got else {
@@ -551,19 +550,18 @@ pub fn args(
         kids += 1;
         let close = d.at;
         let next = tokens::kind_at(kinds, close);
+        if next == kind::R_PAREN {
+            return Step::Done(over(rows, d, row::CALL, first, first, close + 1, kids, from));
+        }
+        if next != kind::COMMA {
+            return Step::Fail(Cause::Unexpected(close));
+        }
         here = Cursor {
             at: close + 1,
             rows: d.rows,
             records: d.records,
         };
-        if next == kind::R_PAREN {
-            break close + 1;
-        }
-        if next != kind::COMMA {
-            return Step::Fail(Cause::Unexpected(close));
-        }
-    };
-    Step::Done(over(rows, here, row::CALL, first, first, end, kids, from))
+    }
 }
 
 // An Expression between the bracket at the place and its closing token.
@@ -702,11 +700,11 @@ pub fn array(
     };
     let mut kids = 0;
     let mut kind = row::ARRAY;
-    let end = loop {
+    loop {
         let at = here.at;
         let k = tokens::kind_at(kinds, at);
         if k == kind::R_BRACK {
-            break at + 1;
+            return Step::Done(over(rows, here, kind, first, first, at + 1, kids, c.rows));
         }
         kind = row::ARRAY;
         kids += 1;
@@ -719,23 +717,22 @@ pub fn array(
             return got;
         };
         let close = d.at;
+        let next = tokens::kind_at(kinds, close);
+        if next == kind::R_BRACK {
+            return Step::Done(over(rows, d, row::ARRAY, first, first, close + 1, kids, c.rows));
+        }
+        if next != kind::COMMA {
+            return Step::Fail(Cause::Unexpected(close));
+        }
         here = Cursor {
             at: close + 1,
             rows: d.rows,
             records: d.records,
         };
-        let next = tokens::kind_at(kinds, close);
-        if next == kind::R_BRACK {
-            break close + 1;
-        }
-        if next != kind::COMMA {
-            return Step::Fail(Cause::Unexpected(close));
-        }
         if k == kind::DOT3 {
             kind = row::ARRAY_REST_COMMA;
         }
-    };
-    Step::Done(over(rows, here, kind, first, first, end, kids, c.rows))
+    }
 }
 
 // 13.2.5 ObjectLiteral: properties up to the `}`.
@@ -759,11 +756,11 @@ pub fn object(
     };
     let mut kids = 0;
     let mut kind = row::OBJECT;
-    let end = loop {
+    loop {
         let at = here.at;
         let k = tokens::kind_at(kinds, at);
         if k == kind::R_CURLY {
-            break at + 1;
+            return Step::Done(over(rows, here, kind, first, first, at + 1, kids, c.rows));
         }
         kind = row::OBJECT;
         kids += 1;
@@ -772,23 +769,22 @@ pub fn object(
             return got;
         };
         let close = d.at;
+        let next = tokens::kind_at(kinds, close);
+        if next == kind::R_CURLY {
+            return Step::Done(over(rows, d, row::OBJECT, first, first, close + 1, kids, c.rows));
+        }
+        if next != kind::COMMA {
+            return Step::Fail(Cause::Unexpected(close));
+        }
         here = Cursor {
             at: close + 1,
             rows: d.rows,
             records: d.records,
         };
-        let next = tokens::kind_at(kinds, close);
-        if next == kind::R_CURLY {
-            break close + 1;
-        }
-        if next != kind::COMMA {
-            return Step::Fail(Cause::Unexpected(close));
-        }
         if k == kind::DOT3 {
             kind = row::OBJECT_REST_COMMA;
         }
-    };
-    Step::Done(over(rows, here, kind, first, first, end, kids, c.rows))
+    }
 }
 
 // A part of an object literal: a spread or a property.
