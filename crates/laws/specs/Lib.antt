@@ -2,3 +2,10 @@ pub mod Sheets
 pub mod Good
 pub mod Owed
 pub mod Bounds
+pub mod Rel
+pub mod Steady
+pub mod Places
+pub mod Abandoned
+pub mod Formed
+pub mod WellFormed
+pub mod Promises

@@ -11,7 +11,7 @@ use lib.ListN.{length, length-append}
 use borrow.Author.Tests.{eqb-true}
 use Rattle.tokens.specs.Bool.{_is_, if_then_else_}
 use Rattle.rows.specs.Row as Row
-use Rattle.rows.specs.Tree.{Tree, Forest, node, nil, cons, join, size, sizes}
+use Rattle.rows.specs.Tree.{Tree, Forest, node, nil, cons, join, size}
 use Rattle.rows.specs.Record.{Record, shorthand-initializer}
 use Rattle.targets.specs.Conversion.{turned, Role, convert-as}
 use Rattle.targets.specs.Potential.{may-record}

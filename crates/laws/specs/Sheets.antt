@@ -26,8 +26,7 @@ use Rattle.grammar.specs.Entry.{check-row-room, check-record-room, checks, padd
 use Rattle.rows.specs.Tree.{row}
 use Rattle.tokens.specs.declared.cause.Answer.{Answer}
 use Rattle.tokens.specs.declared.cause.Cause.{Cause}
-use Rattle.grammar.specs.Sheet.{Sheet}
-use Rattle.grammar.specs.Entry.{Given, read-entry}
+use Rattle.grammar.specs.Entry.{read-entry}
 
 -- a sheet with no line breaks, and what the reader answers: the answer, the rows, the records
 pub record Case : Type 0 where

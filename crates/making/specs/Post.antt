@@ -1,7 +1,7 @@
 -- What the contracts of the reader say: the room that it asks, what a part of a reading comes to, and what it leaves in the lent buffers.
 -- ks and fs are the kinds and flags; r, s and m the words of the rows, of the records, and the notes.
 -- Assumes nothing: these are definitions.
-use Prim.Native.Nat.{ℕ, _+_, _-_, _*_, _≤_, _<_}
+use Prim.Native.Nat.{ℕ, _+_, _-_, _*_, _^_, _≤_, _<_}
 use mathlib.Core.Path.{_≡_}
 use mathlib.Core.List.{List}
 use lib.ListN.{length, getD}
@@ -142,11 +142,11 @@ pub record TopRoom (words : ℕ) (c : Cursor) (mark first end kids from : ℕ) :
   pub kids-small : kids ≤ 2048
   pub from-before : from ≤ c .rows
 
--- in so many words the next record has room, and its place is small
+-- in so many words the next record has room, and its place fits
 pub record SayRoom (words : ℕ) (c : Cursor) (place : ℕ) : Type 0 where
   pub room : 2 * c .records + 2 ≤ words
   pub small : c .records ≤ 2048
-  pub place-small : place ≤ 2048
+  pub place-fits : place < 2 ^ 32
 
 -- what was read last stands from the row `from` on and began at `first`; an operator or a bracket stands after it, and its records have room
 pub record Operand (ks r : List ℕ) (c : Cursor) (first from : ℕ) : Type 0 where

@@ -10,3 +10,4 @@ pub mod Shapes
 pub mod Walks
 pub mod Whole
 pub mod Once
+pub mod Changed

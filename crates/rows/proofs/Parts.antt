@@ -1,15 +1,15 @@
 -- Laws of parts: the rows of a forest among words, joined and taken apart, and the words of a root's row.
 -- Assumes nothing.
-use Prim.Native.Nat.{ℕ, zero, suc, _+_, _-_, _*_, _≤_, _<_}
+use Prim.Native.Nat.{ℕ, _+_, _*_, _≤_}
 use mathlib.Core.Path.{_≡_, refl, sym, ap, _∙_}
-use mathlib.Core.List.{List, [], _∷_, _++_, append-nil, append-assoc}
+use mathlib.Core.List.{List, [], _∷_, _++_, append-nil}
 use native.Mathlib.Omega.{arith}
-use lib.ListN.{length, take, drop, getD, length-append, length-take, length-drop}
+use lib.ListN.{length, take, drop, getD, length-drop}
 use native.Mathlib.Nat.{not-suc-le-zero, le-of-suc-le-suc}
-use lib.Seq.{take-add, drop-drop, take-at, drop-at, getD-drop, getD-take, getD-append-add, take-take, length-take-le, take-length, drop-length}
-use Rattle.rows.specs.Tree.{Tree, Forest, node, nil, cons, one, join, count, size, sizes, row, flat, flats, kind-of, kids-of}
-use Rattle.rows.specs.Part.{Part, Rooted}
-use Rattle.rows.proofs.Rows.{sizes-join, flats-join, join-nil}
+use lib.Seq.{take-add, drop-drop, take-at, drop-at, getD-drop, length-take-le, take-length}
+use Rattle.rows.specs.Tree.{Tree, Forest, node, nil, one, join, count, size, sizes, row, flat, flats}
+use Rattle.rows.specs.Part.{Part}
+use Rattle.rows.proofs.Rows.{sizes-join, flats-join}
 use Rattle.rows.proofs.Flat.{length-flat, length-flats}
 
 pub part-none : (w : List ℕ) (n : ℕ) → 6 * n ≤ length w → Part w n n nil
@@ -70,7 +70,7 @@ module _ (ts us : Forest) {w : List ℕ} {a c : ℕ} (h : Part w a c (join ts us
       }
 
 -- the words of the row n
-pub row-at : List ℕ → ℕ → List ℕ
+unfoldable pub row-at : List ℕ → ℕ → List ℕ
 row-at w n = row (getD w (6 * n + 0) 0) (getD w (6 * n + 1) 0) (getD w (6 * n + 2) 0) (getD w (6 * n + 3) 0) (getD w (6 * n + 4) 0) (getD w (6 * n + 5) 0)
 
 six : (l : List ℕ) → 6 ≤ length l → take 6 l ≡ row (getD l 0 0) (getD l 1 0) (getD l 2 0) (getD l 3 0) (getD l 4 0) (getD l 5 0)

@@ -7,7 +7,7 @@ use native.Mathlib.Omega.{arith}
 use native.Mathlib.Nat.{add-assoc}
 use lib.ListN.{length, take, drop, set, length-set}
 use lib.Seq.{take-suc-set, drop-set-lt, take-take, take-append-le, length-take-le}
-use Rattle.rows.specs.Tree.{Tree, Forest, node, nil, cons, one, join, count, size, sizes, row, flat, flats}
+use Rattle.rows.specs.Tree.{Forest, node, nil, cons, one, join, count, size, sizes, row, flat, flats}
 use Rattle.rows.specs.Post.{Pushed, Grown, Kept}
 
 -- six stores in a row

@@ -6,10 +6,10 @@ use mathlib.Core.Bool.{Bool, true, false}
 use mathlib.Core.List.{List, map}
 use native.Mathlib.Omega.{arith}
 use native.Mathlib.Nat.{zero-add}
-use lib.Dec.{eqb, leb, ltb}
+use lib.Dec.{eqb, leb}
 use lib.ListN.{length, getD}
 use borrow.Author.Tests.{lt-ltb, le-ltb, le-leb, lt-leb, leb-true, eq-eqb, ne-eqb}
-use Rattle.tokens.specs.Bool.{_or_, _and_, if_then_else_}
+use Rattle.tokens.specs.Bool.{_or_, _and_}
 use Rattle.rows.specs.Mask.{has, mask, cells, Cell}
 use Rattle.rows.specs.Shape.{Shape, nothing, may-be, least, shape-of, table, look-up, is-one-of}
 use Rattle.rows.proofs.Masks.{has-mask, numbers, at-place}

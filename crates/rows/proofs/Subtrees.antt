@@ -1,13 +1,13 @@
 -- Laws of subtrees: the subtree that a row roots is the part of the words that ends there, it is the only one, and it is well-formed
 -- where the whole tree is.
 -- Assumes nothing.
-use Prim.Native.Nat.{ℕ, _+_, _-_, _*_, _≤_, _<_}
+use Prim.Native.Nat.{ℕ, _+_, _-_, _*_, _<_}
 use mathlib.Core.Path.{_≡_, refl, sym, ap, _∙_}
 use mathlib.Core.Bool.{true}
 use mathlib.Core.List.{List, append-nil}
 use native.Mathlib.Omega.{arith}
 use native.Mathlib.Nat.{zero-add}
-use lib.ListN.{length, take, drop, getD}
+use lib.ListN.{take, drop, getD}
 use Rattle.rows.specs.Tree.{Tree, Forest, node, nil, cons, one, join, count, size, sizes, flat, flats, kind-of, kids-of}
 use Rattle.rows.specs.Shape.{well-formed, all-well-formed, is-shaped}
 use Rattle.rows.specs.Part.{Part, Rooted, subtree, subtree-among}

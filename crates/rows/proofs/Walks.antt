@@ -1,6 +1,6 @@
 -- Laws of the check of a tree: the kids of a row, found from the last to the first, are those of the one tree that it can root.
 -- Assumes nothing.
-use Prim.Native.Nat.{ℕ, zero, suc, _+_, _-_, _*_, _≤_, _<_}
+use Prim.Native.Nat.{ℕ, _+_, _-_, _*_, _≤_, _<_}
 use mathlib.Core.Path.{_≡_, refl, sym, ap, _∙_, subst}
 use mathlib.Core.Bool.{Bool, true, false}
 use mathlib.Core.List.{List}
@@ -14,10 +14,10 @@ use Rattle.tokens.specs.Bool.{_and_}
 use Rattle.rows.specs.Tree.{Tree, Forest, node, nil, cons, one, join, count, size, sizes, row, kind-of, kids-of}
 use Rattle.rows.specs.Shape.{well-formed, all-well-formed, is-shaped, is-listed, all-fit, fits, last-kind, least, shape-of}
 use Rattle.rows.specs.Part.{Part, Rooted}
-use Rattle.rows.specs.Stands.{Decides, Stands, Before, KidsStand, LastKind, KidFits}
+use Rattle.rows.specs.Stands.{Decides, Stands, KidsStand, LastKind, KidFits}
 use Rattle.rows.proofs.Rows.{sizes-join, count-join, join-nil, join-assoc}
 use Rattle.rows.proofs.Flat.{some-row}
-use Rattle.rows.proofs.Parts.{part-none, part-join, part-left, part-right, part-kids, part-root, part-node, row-of-words}
+use Rattle.rows.proofs.Parts.{part-none, part-join, part-left, part-right, part-kids, part-node, row-of-words}
 use Rattle.rows.proofs.Subtrees.{part-at, rooted, rooted-once, root-kind, root-kids, root-size}
 use Rattle.rows.proofs.Tests.{and-left, and-right, and-both}
 

@@ -2,19 +2,18 @@
 -- Assumes nothing.
 use Prim.Native.Nat.{ℕ, _+_, _-_, _*_, _/_, _%_, _≤_, _<_}
 use mathlib.Core.Path.{_≡_, refl, sym, ap, _∙_, subst}
-use mathlib.Core.Bool.{Bool, true, false}
 use mathlib.Core.List.{List, [], append-nil}
 use native.Mathlib.Omega.{arith}
 use lib.Dec.{eqb}
 use lib.ListN.{length, take, drop, getD}
 use lib.Seq.{take-length}
 use borrow.Author.Tests.{eqb-true, eqb-false}
-use Rattle.rows.specs.Tree.{Tree, one, size, sizes, flat, flats}
+use Rattle.rows.specs.Tree.{Tree, size, sizes, flat, flats}
 use Rattle.rows.specs.Words.{WellFormed}
-use Rattle.rows.specs.Part.{Part, Rooted, subtree}
-use Rattle.rows.specs.Stands.{Decides, Stands, Before}
-use Rattle.rows.specs.Handed.{Inside, Handed, chosen, own, empty}
-use Rattle.rows.proofs.Flat.{length-flat, some-row, well-formed-once}
+use Rattle.rows.specs.Part.{Rooted, subtree}
+use Rattle.rows.specs.Stands.{Decides, Stands}
+use Rattle.rows.specs.Handed.{Handed, own, empty}
+use Rattle.rows.proofs.Flat.{length-flat, some-row}
 use Rattle.rows.proofs.Parts.{part-whole}
 use Rattle.rows.proofs.Walks.{root-small}
 use Rattle.rows.proofs.Subtrees.{rooted, root-size, subtree-of, subtree-words, subtree-well-formed}

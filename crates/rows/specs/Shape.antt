@@ -129,6 +129,10 @@ any-after front kinds = record { front = front; many = kinds; closing = nothing;
 abbrev pub any-closed : (ℕ → Bool) → (ℕ → Bool) → Shape
 any-closed kinds closing = record { front = []; many = kinds; closing = closing; ending = [] }
 
+-- any number of kids of these kinds, then at most one closing kid, then these at the end
+abbrev pub any-before : (ℕ → Bool) → (ℕ → Bool) → List (ℕ → Bool) → Shape
+any-before kinds closing ending = record { front = []; many = kinds; closing = closing; ending = ending }
+
 -- a line of the table: kinds, and the kids of a row of each of them
 pub data Line : Type 0 where
   line : List ℕ → Shape → Line
@@ -138,9 +142,9 @@ unfoldable pub table : List Line
 table =
     line (Paren ∷ []) (exactly (is-expression ∷ []))
     ∷ line (Array ∷ []) (any is-element)
-    ∷ line (ArrayRestComma ∷ []) (record { front = []; many = is-element; closing = nothing; ending = only Spread ∷ [] })
+    ∷ line (ArrayRestComma ∷ []) (any-before is-element nothing (only Spread ∷ []))
     ∷ line (Object ∷ []) (any is-property)
-    ∷ line (ObjectRestComma ∷ []) (record { front = []; many = is-property; closing = nothing; ending = only Spread ∷ [] })
+    ∷ line (ObjectRestComma ∷ []) (any-before is-property nothing (only Spread ∷ []))
     ∷ line (Spread ∷ ComputedKey ∷ []) (exactly (is-assignment ∷ []))
     ∷ line (Shorthand ∷ []) (exactly (only Identifier ∷ []))
     ∷ line (ShorthandInit ∷ []) (exactly (only Identifier ∷ is-assignment ∷ []))
@@ -156,7 +160,7 @@ table =
     ∷ line (Assign ∷ []) (exactly (is-target ∷ is-assignment ∷ []))
     ∷ line (CompoundAssign ∷ []) (exactly (is-simple-target ∷ is-assignment ∷ []))
     ∷ line (Sequence ∷ []) (any-after (is-assignment ∷ is-assignment ∷ []) is-assignment)
-    ∷ line (Arrow ∷ AsyncArrow ∷ []) (record { front = []; many = is-parameter; closing = only BindingRest; ending = is-body ∷ [] })
+    ∷ line (Arrow ∷ AsyncArrow ∷ []) (any-before is-parameter (only BindingRest) (is-body ∷ []))
     ∷ line (BindingArray ∷ []) (any-closed is-binding-element (only BindingRest))
     ∷ line (BindingObject ∷ []) (any-closed is-binding-property (only BindingRest))
     ∷ line (BindingRest ∷ []) (exactly (is-parameter ∷ []))
@@ -183,6 +187,7 @@ unfoldable pub look-up : List Line → ℕ → Shape
 look-up [] kind = exactly []
 look-up (line kinds shape ∷ lines) kind = if is-one-of kinds kind then shape else look-up lines kind
 
+-- the kids that a row of this kind has
 unfoldable pub shape-of : ℕ → Shape
 shape-of kind = look-up table kind
 

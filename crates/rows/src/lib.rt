@@ -6,8 +6,8 @@ ghost use Rattle.rows.specs.Handed.{Handed};
 ghost use Rattle.rows.specs.Post.{RowFits, Pushed, RecordFits, PushedRecord, Word, RowInside, KindSet, Cleared};
 
 pub mod row;
-pub mod shape;
-pub mod walk;
+mod shape;
+mod walk;
 
 // Writes a row as the row n.
 pub fn push_row(
@@ -61,8 +61,8 @@ pub fn set_kind(rows: &mut [u32], n: usize, kind: u32)
     requires { ⌜ RowInside (length (now rows)) n ⌝ }
     ensures { λ _. ⌜ KindSet (now (rows .entry)) n kind (now (rows .exit)) ⌝ }
 {
-    let i = 6 * n;
-    rows[i] = kind;
+    let at = 6 * n;
+    rows[at] = kind;
 }
 
 // Makes every word from a place on 0.

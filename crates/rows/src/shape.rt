@@ -82,6 +82,7 @@ const ONLY_TARGET_NAME: u64 = 0x100_0000_0000;
 
 const ONLY_TARGET_REST: u64 = 0x1000_0000_0000;
 
+// no kids
 const LEAF: [u64; 8] = [0, 0, 0, 0, 0, 0, 0, 0];
 
 // For each kind: how many kids stand in front and the kinds of three of them, the kinds of any number more, those of one closing kid,

@@ -3,6 +3,7 @@
 ghost use mathlib.Core.Path.{_≡_};
 ghost use lib.ListN.{length};
 
+// Standard output.
 const STDOUT: i32 = 1;
 
 // A line of the output.
@@ -194,6 +195,7 @@ fn unary(tree: &mut [u32]) {
     }
 }
 
+// The two trees, at each of their rows and outside.
 fn whole() {
     let tree = assigned();
     show(&tree, 0);
@@ -267,6 +269,7 @@ fn shapes() {
     fork(1, 1, 27, 10);
 }
 
+// The longest tree, one row more, and one word less.
 fn longest() {
     let mut tree = [0u32; 12294];
     unary(&mut tree);

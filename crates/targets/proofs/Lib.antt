@@ -10,3 +10,6 @@ pub mod Shapes
 mod Turning
 mod Converting
 mod Entering
+mod Once
+mod Relabelling
+mod EntryRule

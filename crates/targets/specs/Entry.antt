@@ -46,14 +46,16 @@ module _ (words records : List ℕ) (row : ℕ) where
         records = record-words new ++ replicate (length records - 2 * length new) 0;
       }
 
-  -- the checks 1, 13, 14 and 4, in this order; then conversion to any target
+  -- the checks 14 and 4 on a tree, then the conversion of its row to any target
+  abbrev pub Within : Tree → Result → Type 0
+  Within tree =
+      Check (row < size tree) (unchanged (Outside 0))
+      (λ _. Check (2 * size (subtree tree row) ≤ length records) (unchanged (RecordRoom 0))
+      (λ _ x. x ≡ done (subtree tree row) (convert (subtree tree row))))
+
+  -- the checks 1 and 13 before them
   abbrev pub Entry : Result → Type 0
-  Entry =
-      Check (Sized words) (unchanged (Length 0))
-      (λ _. Check (WellFormed words) (unchanged (NoTree 0))
-      (λ tree. Check (row < size (tree .tree)) (unchanged (Outside 0))
-      (λ _. Check (2 * size (subtree (tree .tree) row) ≤ length records) (unchanged (RecordRoom 0))
-      (λ _ x. x ≡ done (subtree (tree .tree) row) (convert (subtree (tree .tree) row))))))
+  Entry = Check (Sized words) (unchanged (Length 0)) (λ _. Check (WellFormed words) (unchanged (NoTree 0)) (λ whole. Within (whole .tree)))
 
 -- what the contract says
 pub record Answered (words records : List ℕ) (row : ℕ) (answer : Answer) (words′ records′ : List ℕ) : Type 0 where

@@ -1,6 +1,7 @@
 pub mod Conversion
 pub mod TargetRule
 pub mod RuleHolds
+pub mod Relabelled
 pub mod Examples
 pub mod Meaning
 pub mod Potential

@@ -62,13 +62,13 @@ args-starts {c = c} room o =
       fits = omega (arith, room, o);
       fits-records = omega (arith, room);
       over-callee = λ left g.
-        record {
-          so-far = one left;
-          said = [];
-          counted = refl;
-          made = made-at (stands-made c g) refl refl;
-          rest = λ out h. comes-to h (sym (after-none out));
-        };
+          record {
+            so-far = one left;
+            said = [];
+            counted = refl;
+            made = made-at (stands-made c g) refl refl;
+            rest = λ out h. comes-to h (sym (after-none out));
+          };
     }
 
 module _ {ks fs r₀ s₀ m₀ : List ℕ} {first from : ℕ} {start : Cursor} {r₁ s₁ m₁ : List ℕ} {here : Cursor} {kids y : ℕ}
@@ -78,8 +78,8 @@ module _ {ks fs r₀ s₀ m₀ : List ℕ} {first from : ℕ} {start : Cursor} {
   args-ends t top =
       record {
         over-one = λ left g.
-          let v = w .over-callee left g in
-          is-topped top (comes-to (v .rest _ (arguments-end (sym k ∙ t))) (after-done (v .said) _ _ _)) (v .made) (v .counted);
+            let v = w .over-callee left g in
+            is-topped top (comes-to (v .rest _ (arguments-end (sym k ∙ t))) (after-done (v .said) _ _ _)) (v .made) (v .counted);
       }
 
   module _ {r s m : List ℕ} {x : Step} (nb : y ≡ RParen → ⊥)
@@ -90,12 +90,12 @@ module _ {ks fs r₀ s₀ m₀ : List ℕ} {first from : ℕ} {start : Cursor} {
     args-fails e =
         record {
           over-one = λ left g.
-            let v = w .over-callee left g in
-            let f = h .fail-at _ e in
-            is-fail e record {
-              comes = v .rest _ (arguments-fail (λ q. nb (k ∙ q)) (f .comes));
-              unmade = unmade-after (w .fits) (w .fits-records) (v .made) (f .unmade);
-            };
+              let v = w .over-callee left g in
+              let f = h .fail-at _ e in
+              is-fail e record {
+                comes = v .rest _ (arguments-fail (λ q. nb (k ∙ q)) (f .comes));
+                unmade = unmade-after (w .fits) (w .fits-records) (v .made) (f .unmade);
+              };
         }
 
     module _ {d : Cursor} {z : ℕ} (e : x ≡ Step.Done d) (k′ : z ≡ getD ks (d .at) 0) where
@@ -105,12 +105,12 @@ module _ {ks fs r₀ s₀ m₀ : List ℕ} {first from : ℕ} {start : Cursor} {
       args-opens nb′ nc′ =
           record {
             over-one = λ left g.
-              let v = w .over-callee left g in
-              let a = h .done-to _ e in
-              is-fail refl record {
-                comes = v .rest _ (arguments-open (λ q. nb (k ∙ q)) (a .comes) (λ q. nc′ (k′ ∙ q)) (λ q. nb′ (k′ ∙ q)));
-                unmade = unmade-past (w .fits) (w .fits-records) (made-then (v .made) (a .made));
-              };
+                let v = w .over-callee left g in
+                let a = h .done-to _ e in
+                is-fail refl record {
+                  comes = v .rest _ (arguments-open (λ q. nb (k ∙ q)) (a .comes) (λ q. nc′ (k′ ∙ q)) (λ q. nb′ (k′ ∙ q)));
+                  unmade = unmade-past (w .fits) (w .fits-records) (made-then (v .made) (a .made));
+                };
           }
 
       pub args-closes : {r′ : List ℕ} {u : Cursor} → z ≡ RParen → Topped r d Row.Call first first (d .at + 1) (kids + 1) from r′ u
@@ -119,11 +119,11 @@ module _ {ks fs r₀ s₀ m₀ : List ℕ} {first from : ℕ} {start : Cursor} {
       args-closes t top =
           record {
             over-one = λ left g.
-              let v = w .over-callee left g in
-              let a = h .done-to _ e in
-              let p = item-went (here .at) (getD ks (here .at) 0 is Dot3) a in
-              is-topped top (v .rest _ (arguments-last (λ q. nb (k ∙ q)) (a .comes) (sym k′ ∙ t))) (made-then (v .made) (a .made))
-              (omega (arith, v .counted, p .counted, count-join (v .so-far) (a .trees)));
+                let v = w .over-callee left g in
+                let a = h .done-to _ e in
+                let p = item-went (here .at) (getD ks (here .at) 0 is Dot3) a in
+                is-topped top (v .rest _ (arguments-last (λ q. nb (k ∙ q)) (a .comes) (sym k′ ∙ t))) (made-then (v .made) (a .made))
+                (omega (arith, v .counted, p .counted, count-join (v .so-far) (a .trees)));
           }
 
       pub args-turns : z ≡ Comma → length r ≡ length r₁ → length s ≡ length s₁
@@ -144,14 +144,14 @@ module _ {ks fs r₀ s₀ m₀ : List ℕ} {first from : ℕ} {start : Cursor} {
             fits = w .fits;
             fits-records = w .fits-records;
             over-callee = λ left g.
-              let v = w .over-callee left g in
-              record {
-                so-far = join (v .so-far) (a .trees);
-                said = v .said ++ a .records;
-                counted = omega (arith, v .counted, p .counted, count-join (v .so-far) (a .trees));
-                made = made-at (made-then (v .made) (a .made)) refl refl;
-                rest = λ out f. said-then (v .said) (a .records) out (v .rest _ (arguments-more (λ q. nb (k ∙ q)) (a .comes) (sym k′ ∙ t) f));
-              };
+                let v = w .over-callee left g in
+                record {
+                  so-far = join (v .so-far) (a .trees);
+                  said = v .said ++ a .records;
+                  counted = omega (arith, v .counted, p .counted, count-join (v .so-far) (a .trees));
+                  made = made-at (made-then (v .made) (a .made)) refl refl;
+                  rest = λ out f. said-then (v .said) (a .records) out (v .rest _ (arguments-more (λ q. nb (k ∙ q)) (a .comes) (sym k′ ∙ t) f));
+                };
           }
 
 -- how far the next argument moves the cursor

@@ -97,9 +97,9 @@ module _ {ks fs r₀ s₀ m₀ : List ℕ} {c : Cursor} {r₁ s₁ m₁ : List �
         counted = omega (arith, w .counted, count-join (w .so-far) (one (leaf Row.Hole (here .at))));
         made = made-then (w .made) (made-leaf h);
         rest = λ out f.
-          said-then (w .said) [] out (comes-to
-          (w .rest _ (elements-hole (sym k ∙ t) (subst (λ (x : ℕ). Comes ks fs (elements (c .at) x Row.Array (join (w .so-far) (one (leaf Row.Hole (here .at))))) m₁ out) (p .place) f)))
-          (ap (λ (o : Out (List ℕ)). after-records (w .said) o) (sym (after-none out))));
+            said-then (w .said) [] out (comes-to
+            (w .rest _ (elements-hole (sym k ∙ t) (subst (λ (x : ℕ). Comes ks fs (elements (c .at) x Row.Array (join (w .so-far) (one (leaf Row.Hole (here .at))))) m₁ out) (p .place) f)))
+            (ap (λ (o : Out (List ℕ)). after-records (w .said) o) (sym (after-none out))));
       }
 
   module _ {r s m : List ℕ} {x : Step} (nb : y ≡ RBrack → ⊥) (nc : y ≡ Comma → ⊥)
@@ -154,8 +154,8 @@ module _ {ks fs r₀ s₀ m₀ : List ℕ} {c : Cursor} {r₁ s₁ m₁ : List �
             counted = omega (arith, w .counted, g .counted, count-join (w .so-far) (a .trees));
             made = made-at (made-then (w .made) (a .made)) refl refl;
             rest = λ out f.
-              said-then (w .said) (a .records) out (w .rest _ (elements-more (λ q. nb (k ∙ q)) (λ q. nc (k ∙ q)) (a .comes) (sym k′ ∙ t)
-              (subst (λ (v : ℕ). Comes ks fs (elements (c .at) (d .at + 1) v (join (w .so-far) (a .trees))) m out) (sym by) f)));
+                said-then (w .said) (a .records) out (w .rest _ (elements-more (λ q. nb (k ∙ q)) (λ q. nc (k ∙ q)) (a .comes) (sym k′ ∙ t)
+                (subst (λ (v : ℕ). Comes ks fs (elements (c .at) (d .at + 1) v (join (w .so-far) (a .trees))) m out) (sym by) f)));
           }
 
       pub array-turns : z ≡ Comma → (y ≡ Dot3 → ⊥) → length r ≡ length r₁ → length s ≡ length s₁

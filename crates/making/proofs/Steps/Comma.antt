@@ -122,12 +122,12 @@ comma-turns w k t h e l l′ =
       rows-long = omega (arith, w);
       records-long = omega (arith, w);
       goes = λ r₀ s₀ m₀ before.
-        let v = w .goes r₀ s₀ m₀ before in
-        record {
-          so-far = join (v .so-far) (a .trees);
-          said = v .said ++ a .records;
-          counted = omega (arith, v .counted, one-a, count-join (v .so-far) (a .trees));
-          made = made-then (v .made) (a .made);
-          rest = λ out f. said-then (v .said) (a .records) out (v .rest _ (sequence-more (sym k ∙ t) (a .comes) f));
-        };
+          let v = w .goes r₀ s₀ m₀ before in
+          record {
+            so-far = join (v .so-far) (a .trees);
+            said = v .said ++ a .records;
+            counted = omega (arith, v .counted, one-a, count-join (v .so-far) (a .trees));
+            made = made-then (v .made) (a .made);
+            rest = λ out f. said-then (v .said) (a .records) out (v .rest _ (sequence-more (sym k ∙ t) (a .comes) f));
+          };
     }

@@ -27,8 +27,15 @@ module _ {ks fs r₀ s₀ m₀ : List ℕ} {c : Cursor} {kind from : ℕ} (room 
       let a = h .done-to _ e in
       let end : d .at ≡ u .at = sym (ap (λ (q : Cursor). q .at) (top .is)) in
       let is-to : InitTo ks fs r₀ s₀ m₀ r s m (c .at) kind from (c .rows) (c .records) u =
-          record { trees = a .trees; records = a .records; comes = subst (λ (q : ℕ). Comes ks fs (assignment (c .at + 1)) m₀ (done q (a .trees) (a .records) m)) end (a .comes); rows = r₁; before = d;
-            made = a .made; topped = subst (λ (q : ℕ). Topped r₁ d kind (c .at) (c .at - 1) q 2 from r u) end top } in
+      record {
+        trees = a .trees;
+        records = a .records;
+        comes = subst (λ (q : ℕ). Comes ks fs (assignment (c .at + 1)) m₀ (done q (a .trees) (a .records) m)) end (a .comes);
+        rows = r₁;
+        before = d;
+        made = a .made;
+        topped = subst (λ (q : ℕ). Topped r₁ d kind (c .at) (c .at - 1) q 2 from r u) end top;
+      } in
       record {
         init-to = λ u′ q. subst (λ (w : Cursor). InitTo ks fs r₀ s₀ m₀ r s m (c .at) kind from (c .rows) (c .records) w) (same-done u u′ q) is-to;
         init-fail = λ p q. absurd (apart u p q);

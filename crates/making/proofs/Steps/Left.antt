@@ -182,9 +182,9 @@ module _ {ks fs r₀ s₀ m₀ : List ℕ} {at n k₀ : ℕ} {r₁ s₁ m₁ : L
         few-records = omega (arith, w .few-records, now, move, past, owe, oweds-cons (w .tree) (g .trees));
         made = made-top (made-then (w .made) (g .made)) top (omega (arith, one-g));
         rest = λ out f.
-          let f₁ = subst (λ (q : ℕ). Comes ks fs (links at q left) m out) (now .at-is) f in
-          let f₂ = subst (λ (q : ℕ). Comes ks fs (links at q (node Row.Index at at q (cons (w .tree) (g .trees)))) m out) past f₁ in
-          comes-to (w .rest _ (links-index (sym k ∙ t) (g .comes) (g .token) f₂)) (after-after (w .said) (g .records) out);
+            let f₁ = subst (λ (q : ℕ). Comes ks fs (links at q left) m out) (now .at-is) f in
+            let f₂ = subst (λ (q : ℕ). Comes ks fs (links at q (node Row.Index at at q (cons (w .tree) (g .trees)))) m out) past f₁ in
+            comes-to (w .rest _ (links-index (sym k ∙ t) (g .comes) (g .token) f₂)) (after-after (w .said) (g .records) out);
       }
 
   -- a call
@@ -236,10 +236,10 @@ module _ {ks fs r₀ s₀ m₀ : List ℕ} {at n k₀ : ℕ} {r₁ s₁ m₁ : L
         let used-records = g .made .recorded .used in
         let before = w .made .grown .used in
         let whole : Made r₀ s₀ n k₀ r s d (g .trees) (w .said ++ g .records) =
-            record {
-              grown = kept-grown (kept-past (w .wide) (w .made .grown)) (g .made .grown);
-              recorded = grown-records-join (w .made .recorded) (g .made .recorded);
-            } in
+        record {
+          grown = kept-grown (kept-past (w .wide) (w .made .grown)) (g .made .grown);
+          recorded = grown-records-join (w .made .recorded) (g .made .recorded);
+        } in
         record {
           wide = w .wide;
           deep = w .deep;
@@ -252,6 +252,6 @@ module _ {ks fs r₀ s₀ m₀ : List ℕ} {at n k₀ : ℕ} {r₁ s₁ m₁ : L
           few-records = omega (arith, w .few-records, b, owe, owed-one (w .tree), used-records);
           made = subst (λ (f : Forest). Made r₀ s₀ n k₀ r s d f (w .said ++ g .records)) alone whole;
           rest = λ out f.
-            comes-to (w .rest _ (links-call (sym k ∙ t) (subst (λ (q : Forest). Comes ks fs (arguments at (here .at + 1) (one (w .tree))) m₁ (done (d .at) q (g .records) m)) alone (g .comes)) f))
-            (after-after (w .said) (g .records) out);
+              comes-to (w .rest _ (links-call (sym k ∙ t) (subst (λ (q : Forest). Comes ks fs (arguments at (here .at + 1) (one (w .tree))) m₁ (done (d .at) q (g .records) m)) alone (g .comes)) f))
+              (after-after (w .said) (g .records) out);
         }

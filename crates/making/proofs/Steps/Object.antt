@@ -120,8 +120,8 @@ module _ {ks fs r₀ s₀ m₀ : List ℕ} {c : Cursor} {r₁ s₁ m₁ : List �
             counted = omega (arith, w .counted, g .counted, count-join (w .so-far) (a .trees));
             made = made-at (made-then (w .made) (a .made)) refl refl;
             rest = λ out f.
-              said-then (w .said) (a .records) out (w .rest _ (properties-more (λ q. nb (k ∙ q)) (a .comes) (sym k′ ∙ t)
-              (subst (λ (v : ℕ). Comes ks fs (properties (c .at) (d .at + 1) v (join (w .so-far) (a .trees))) m out) (sym by) f)));
+                said-then (w .said) (a .records) out (w .rest _ (properties-more (λ q. nb (k ∙ q)) (a .comes) (sym k′ ∙ t)
+                (subst (λ (v : ℕ). Comes ks fs (properties (c .at) (d .at + 1) v (join (w .so-far) (a .trees))) m out) (sym by) f)));
           }
 
       pub object-turns : z ≡ Comma → (y ≡ Dot3 → ⊥) → length r ≡ length r₁ → length s ≡ length s₁

@@ -1,6 +1,5 @@
 -- `rows::subtree` meets its contract: the part that ends with the row, of a well-formed tree.
 -- Assumes nothing.
-use mathlib.Core.Path.{_∙_, sym}
 use native.Mathlib.Omega.{arith}
 use borrow.Author.Needs.{needs}
 use borrow.Author.Tests.{not-true, not-false}
@@ -45,7 +44,9 @@ add-low : tie.Need-add-low
 add-low c = search needs
 
 sub-low : tie.Need-sub-low
-sub-low c = omega (arith, size-small (c .before .before .before .well-formed .ensures .holds (not-false _ (c .before .before .if1 .left))) (c .before .if2 .left) (c .row-word .ensures .is))
+sub-low c =
+    let well-formed = c .before .before .before .well-formed in
+    omega (arith, size-small (well-formed .ensures .holds (not-false _ (c .before .before .if1 .left))) (c .before .if2 .left) (c .row-word .ensures .is))
 
 mul-low : tie.Need-mul-low
 mul-low c = search needs
@@ -69,7 +70,10 @@ part-result-end-3 : tie.Need-part-result-end-3
 part-result-end-3 c = search needs
 
 returns-3 : tie.Need-returns-3
-returns-3 c = handed (c .before .before .before .before .well-formed .ensures .holds (not-false _ (c .before .before .before .if1 .left))) (c .before .before .if2 .left) (c .before .row-word .ensures .is)
+returns-3 c =
+    let well-formed = c .before .before .before .before .well-formed in
+    let if1 = c .before .before .before .if1 in
+    handed (well-formed .ensures .holds (not-false _ (if1 .left))) (c .before .before .if2 .left) (c .before .row-word .ensures .is)
 
 pub subtree-spec : {M : Type 1} → statement M
 subtree-spec = tie.close (tie.spec well-formed-requires sub-result part-result-start part-result-end returns sub-result-2 part-result-start-2 part-result-end-2 returns-2 row-word-requires cast-size add-low sub-low mul-low add-high mul-high mul-result sub-result-3 part-result-start-3 part-result-end-3 returns-3)

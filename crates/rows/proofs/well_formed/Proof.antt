@@ -1,7 +1,6 @@
 -- `rows::well_formed` meets its contract: every row stands, and the last is as large as all.
 -- Assumes nothing.
 use Prim.Native.Nat.{ℕ, _-_, _≤_, _<_}
-use mathlib.Core.Path.{_∙_, sym}
 use native.Mathlib.Omega.{arith}
 use borrow.Author.Count.{below-more}
 use borrow.Author.Needs.{needs}
@@ -43,7 +42,9 @@ loop-less : tie.Need-loop-less Inv-loop μ-loop
 loop-less c = search needs
 
 loop-again : tie.Need-loop-again Inv-loop μ-loop
-loop-again c = (search needs, below-more _ _ (c .before .before .before .loop .inv .1) (c .before .row-stands .ensures .holds (not-false _ (c .if4 .left))))
+loop-again c =
+    let loop = c .before .before .before .loop in
+    (search needs, below-more _ _ (loop .inv .1) (c .before .row-stands .ensures .holds (not-false _ (c .if4 .left))))
 
 sub-row-word : tie.Need-sub-row-word Inv-loop μ-loop
 sub-row-word c = search needs
@@ -55,7 +56,11 @@ cast-result : tie.Need-cast-result Inv-loop μ-loop
 cast-result c = search needs
 
 returns-5 : tie.Need-returns-5 Inv-loop μ-loop
-returns-5 c = last-says (c .before .before .before .before .before .if1 .left) (c .before .before .before .before .if2 .left) (c .before .before .before .if3 .left) (c .row-word .ensures .is) (λ m l. c .before .before .loop .inv .1 m (omega (arith, c .before .loop-test .left)))
+returns-5 c =
+    let if1 = c .before .before .before .before .before .if1 in
+    let if2 = c .before .before .before .before .if2 in
+    let if3 = c .before .before .before .if3 in
+    last-says (if1 .left) (if2 .left) (if3 .left) (c .row-word .ensures .is) (λ m l. c .before .before .loop .inv .1 m (omega (arith, c .before .loop-test .left)))
 
 pub well-formed-spec : {M : Type 1} → statement M
 well-formed-spec = tie.close (tie.spec Inv-loop μ-loop returns returns-2 returns-3 loop-holds row-stands-requires returns-4 add-n loop-less loop-again sub-row-word row-word-requires cast-result returns-5)

@@ -1,6 +1,6 @@
 -- `rows::shape::may_end` meets its contract.
 -- Assumes nothing.
-use mathlib.Core.Path.{_∙_, sym, refl}
+use mathlib.Core.Path.{_∙_}
 use borrow.Author.Needs.{needs}
 use borrow.Author.Tests.{ne-eqb}
 use Rattle.rows.specs.Mask.{bits, mask}
@@ -14,14 +14,20 @@ holds-requires c κs = search needs
 
 returns : tie.Need-returns
 unfolding may-end bits mask is-parameter is-binding
-returns c = c .holds .ensures ∙ has-mask is-parameter (c .before .before .before .args .last) (c .before .before .before .pre) ∙ (rw (c .before .before .if1 .taken, c .before .if2 .taken))
+returns c =
+    let args = c .before .before .before .args in
+    let pre = c .before .before .before .pre in
+    c .holds .ensures ∙ has-mask is-parameter (args .last) (pre) ∙ (rw (c .before .before .if1 .taken, c .before .if2 .taken))
 
 holds-requires-2 : tie.Need-holds-requires-2
 holds-requires-2 c κs = search needs
 
 returns-2 : tie.Need-returns-2
 unfolding may-end bits mask is-assignment is-logical is-binary is-unary is-left-hand-side
-returns-2 c = c .holds2 .ensures ∙ has-mask is-assignment (c .before .before .before .args .last) (c .before .before .before .pre) ∙ (rw (c .before .before .if1 .taken, ne-eqb _ _ (c .before .if2 .left)))
+returns-2 c =
+    let args = c .before .before .before .args in
+    let pre = c .before .before .before .pre in
+    c .holds2 .ensures ∙ has-mask is-assignment (args .last) (pre) ∙ (rw (c .before .before .if1 .taken, ne-eqb _ _ (c .before .if2 .left)))
 
 returns-3 : tie.Need-returns-3
 unfolding may-end

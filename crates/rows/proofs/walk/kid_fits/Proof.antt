@@ -1,7 +1,5 @@
 -- `rows::walk::kid_fits` meets its contract.
 -- Assumes nothing.
-use mathlib.Core.Path.{_∙_, sym, ap}
-use native.Mathlib.Omega.{arith}
 use borrow.Author.Needs.{needs}
 use Rattle.rows.proofs.Walks.{kid-low, last-kid-low, kid-fits}
 use Rattle.rows.proofs.walk.kid_fits.Statement.{statement}
@@ -14,7 +12,9 @@ last-kind-requires : tie.Need-last-kind-requires
 last-kind-requires c κs = search needs
 
 fits-requires : tie.Need-fits-requires
-fits-requires c κs = (c .before .before .before .pre .1, kid-low (c .before .row-word .ensures .is) (c .before .before .before .pre .0), last-kid-low (c .last-kind .ensures) (c .before .before .before .pre .0))
+fits-requires c κs =
+    let pre = c .before .before .before .pre in
+    (pre .1, kid-low (c .before .row-word .ensures .is) (pre .0), last-kid-low (c .last-kind .ensures) (pre .0))
 
 returns : tie.Need-returns
 returns c = kid-fits (c .before .before .row-word .ensures .is) (c .before .last-kind .ensures) (c .fits2 .ensures)

@@ -1,7 +1,6 @@
 -- `rows::walk::kids_stand` meets its contract: the loop finds the kids from the last to the first.
 -- Assumes nothing.
 use Prim.Native.Nat.{_-_}
-use mathlib.Core.Path.{_∙_, sym}
 use native.Mathlib.Omega.{arith}
 use borrow.Author.Needs.{needs}
 use borrow.Author.Tests.{not-true, not-false}
@@ -34,7 +33,12 @@ sub-if2 : tie.Need-sub-if2 Inv-loop μ-loop
 sub-if2 c = search needs
 
 returns-2 : tie.Need-returns-2 Inv-loop μ-loop
-returns-2 c = never (too-large (c .before .before .before .before .loop .inv) (c .before .before .before .loop-test .taken) (c .before .before .before .before .before .before .pre .0 .stand (c .before .before .before .before .loop .top - 1) (omega (arith, c .before .before .if1 .left, c .before .before .before .before .loop .inv .top-row))) (kid-size (c .before .row-word .ensures .is) (c .before .before .before .before .before .before .pre .0 .stand (c .before .before .before .before .loop .top - 1) (omega (arith, c .before .before .if1 .left, c .before .before .before .before .loop .inv .top-row)))) (c .if2 .taken))
+returns-2 c =
+    let pre = c .before .before .before .before .before .before .pre in
+    let loop = c .before .before .before .before .loop in
+    let loop-test = c .before .before .before .loop-test in
+    let stand = (pre .0 .stand (loop .top - 1) (omega (arith, c .before .before .if1 .left, loop .inv .top-row))) in
+    never (too-large (loop .inv) (loop-test .taken) stand (kid-size (c .before .row-word .ensures .is) stand) (c .if2 .taken))
 
 sub-kid-fits : tie.Need-sub-kid-fits Inv-loop μ-loop
 sub-kid-fits c = search needs
@@ -46,10 +50,20 @@ sub-kid-fits-3 : tie.Need-sub-kid-fits-3 Inv-loop μ-loop
 sub-kid-fits-3 c = search needs
 
 kid-fits-requires : tie.Need-kid-fits-requires Inv-loop μ-loop
-kid-fits-requires c κs = ((c .before .before .before .before .before .before .pre .0 .stand (c .before .before .before .before .loop .top - 1) (omega (arith, c .before .before .if1 .left, c .before .before .before .before .loop .inv .top-row))), c .before .before .before .before .before .before .pre .1 .0)
+kid-fits-requires c κs =
+    let pre = c .before .before .before .before .before .before .pre in
+    let loop = c .before .before .before .before .loop in
+    ((pre .0 .stand (loop .top - 1) (omega (arith, c .before .before .if1 .left, loop .inv .top-row))), pre .1 .0)
 
 returns-3 : tie.Need-returns-3 Inv-loop μ-loop
-returns-3 c = never (misplaced (c .before .before .before .before .before .before .loop .inv) (c .before .before .before .before .before .loop-test .taken) (c .before .before .before .before .before .before .before .before .pre .0 .stand (c .before .before .before .before .before .before .loop .top - 1) (omega (arith, c .before .before .before .before .if1 .left, c .before .before .before .before .before .before .loop .inv .top-row))) (kid-size (c .before .before .before .row-word .ensures .is) (c .before .before .before .before .before .before .before .before .pre .0 .stand (c .before .before .before .before .before .before .loop .top - 1) (omega (arith, c .before .before .before .before .if1 .left, c .before .before .before .before .before .before .loop .inv .top-row)))) (told (c .before .kid-fits .ensures) (not-true _ (c .if3 .taken)) (c .before .before .before .before .before .before .before .before .pre .0 .stand (c .before .before .before .before .before .before .loop .top - 1) (omega (arith, c .before .before .before .before .if1 .left, c .before .before .before .before .before .before .loop .inv .top-row)))))
+returns-3 c =
+    let pre = c .before .before .before .before .before .before .before .before .pre in
+    let loop = c .before .before .before .before .before .before .loop in
+    let if1 = c .before .before .before .before .if1 in
+    let loop-test = c .before .before .before .before .before .loop-test in
+    let row-word = c .before .before .before .row-word in
+    let stand = (pre .0 .stand (loop .top - 1) (omega (arith, if1 .left, loop .inv .top-row))) in
+    never (misplaced (loop .inv) (loop-test .taken) stand (kid-size (row-word .ensures .is) stand) (told (c .before .kid-fits .ensures) (not-true _ (c .if3 .taken)) stand))
 
 sub-top : tie.Need-sub-top Inv-loop μ-loop
 sub-top c = omega (arith, c .before .before .if2 .left)
@@ -61,7 +75,14 @@ loop-less : tie.Need-loop-less Inv-loop μ-loop
 loop-less c = search needs
 
 loop-again : tie.Need-loop-again Inv-loop μ-loop
-loop-again c = walk-more (c .before .before .before .before .before .before .loop .inv) (c .before .before .before .before .before .loop-test .taken) (c .before .before .before .before .before .before .before .before .pre .0 .stand (c .before .before .before .before .before .before .loop .top - 1) (omega (arith, c .before .before .before .before .if1 .left, c .before .before .before .before .before .before .loop .inv .top-row))) (kid-size (c .before .before .before .row-word .ensures .is) (c .before .before .before .before .before .before .before .before .pre .0 .stand (c .before .before .before .before .before .before .loop .top - 1) (omega (arith, c .before .before .before .before .if1 .left, c .before .before .before .before .before .before .loop .inv .top-row)))) (c .before .before .before .before .if1 .left) (c .before .before .if2 .left) (told (c .before .kid-fits .ensures) (not-false _ (c .if3 .left)) (c .before .before .before .before .before .before .before .before .pre .0 .stand (c .before .before .before .before .before .before .loop .top - 1) (omega (arith, c .before .before .before .before .if1 .left, c .before .before .before .before .before .before .loop .inv .top-row))))
+loop-again c =
+    let pre = c .before .before .before .before .before .before .before .before .pre in
+    let loop = c .before .before .before .before .before .before .loop in
+    let if1 = c .before .before .before .before .if1 in
+    let loop-test = c .before .before .before .before .before .loop-test in
+    let row-word = c .before .before .before .row-word in
+    let stand = (pre .0 .stand (loop .top - 1) (omega (arith, if1 .left, loop .inv .top-row))) in
+    walk-more (loop .inv) (loop-test .taken) stand (kid-size (row-word .ensures .is) stand) (if1 .left) (c .before .before .if2 .left) (told (c .before .kid-fits .ensures) (not-false _ (c .if3 .left)) stand)
 
 returns-4 : tie.Need-returns-4 Inv-loop μ-loop
 returns-4 c = walk-end (c .before .loop .inv) (c .loop-test .left)
