@@ -12,11 +12,11 @@ use Rattle.rows.specs.Record.{Record, record-words}
 use Rattle.rows.specs.Post.{Grown, GrownRecords}
 use Rattle.rows.proofs.Flat.{length-flat}
 use Rattle.rows.proofs.Records.{length-record-words}
-use Rattle.targets.specs.Conversion.{Role, Outcome, turned, refused, convert-as}
+use Rattle.targets.specs.Conversion.{Role, simple, Outcome, turned, refused, convert-as}
 use Rattle.targets.specs.Potential.{potential}
 use Rattle.targets.specs.Post as Targets
 use Rattle.targets.specs.declared.Conversion.{Conversion}
-use Rattle.laws.specs.Owed.{same-size}
+use Rattle.laws.specs.Owed.{same-size, pays}
 use Rattle.making.specs.Post.{cursor, Made}
 use Rattle.making.specs.declared.cursor.Cursor.{Cursor}
 
@@ -92,7 +92,6 @@ module _ {r₀ s₀ r s : List ℕ} {from n root k : ℕ} {role : Role} {x : Con
       }
 
   cases : {count : ℕ} → x ≡ Conversion.Turned count → (o : Outcome Tree) → convert-as left role ≡ o → Turned r₀ s₀ from n k left role count r s
-  unfolding rooted
   cases {count} q (turned t records) c =
       let m = h .done (rooted g e room) t records c in
       let a : count ≡ length records = same-count _ _ (sym q ∙ m .0) in
@@ -103,7 +102,6 @@ module _ {r₀ s₀ r s : List ℕ} {from n root k : ℕ} {role : Role} {x : Con
   is-turned q = cases q (convert-as left role) refl
 
   cases′ : {cause : Cause} → x ≡ Conversion.Refused cause → (o : Outcome Tree) → convert-as left role ≡ o → Unturned r₀ s₀ left role cause r s
-  unfolding rooted
   cases′ {cause} q (turned t records) c = absurd (apart _ cause (sym (h .done (rooted g e room) t records c .0) ∙ q))
   cases′ {cause} q (refused other) c =
       let m = h .fail (rooted g e room) other c in
@@ -112,3 +110,7 @@ module _ {r₀ s₀ r s : List ℕ} {from n root k : ℕ} {role : Role} {x : Con
 
   pub is-refused : {cause : Cause} → x ≡ Conversion.Refused cause → Unturned r₀ s₀ left role cause r s
   is-refused q = cases′ q (convert-as left role) refl
+
+-- the records of a conversion are no more than what the tree owed
+pub turned-few : {r₀ s₀ r s : List ℕ} {from n k count : ℕ} {left : Tree} → (t : Turned r₀ s₀ from n k left simple count r s) → count + potential (t .target) ≤ potential left
+turned-few {left = left} t = let p = pays left simple (t .target) (t .records) (t .converts) in let c = t .counted in omega (arith, p, c)

@@ -21,6 +21,7 @@ pub mod Listing
 pub mod Object
 pub mod Operation
 pub mod Params
+pub mod Prefixes
 pub mod Primary
 pub mod Property
 pub mod Rest
@@ -28,3 +29,4 @@ pub mod Root
 pub mod Shape
 pub mod Shared
 pub mod Spread
+pub mod Unary

@@ -54,11 +54,13 @@ pub record Finished (ks r₀ s₀ : List ℕ) (d : Cursor) (at first left from :
   pub made : (fs : List ℕ) (a b : Tree) → Grown r₀ from r₀ left (one a) → Grown r₀ left r₀ (d .rows) (one b)
       → Made r₀ s₀ from (d .records) r s u (one (node (operation-kind (getD ks at 0)) at first (d .at) (cons a (one b)))) (operation-records (sheet-of ks fs) at a b)
 
--- an operand stands from `from` up to the cursor; there is room for a row over it and for the records of its conversion
-pub record OperandFits (r s : List ℕ) (d : Cursor) (from : ℕ) : Type 0 where
-  pub room : 6 * d .rows + 6 ≤ length r
-  pub rows-small : d .rows ≤ 2048
-  pub place-small : d .at < 2048
+-- an operand stands from `from` up to the cursor; there is room for a row for each token, and for the records of its conversion
+pub record OperandFits (ks r s : List ℕ) (d : Cursor) (from : ℕ) : Type 0 where
+  pub short : length ks ≤ 2048
+  pub wide : 6 * length ks ≤ length r
+  pub inside : d .at ≤ length ks
+  pub few : d .rows ≤ d .at
+  pub some : from < d .rows
   pub operand : Tree
   pub stands : Grown r from r (d .rows) (one operand)
   pub deep : 2 * (d .records + owed operand) ≤ length s
@@ -80,3 +82,40 @@ pub record MetPostfix (ks fs r₀ s₀ : List ℕ) (d : Cursor) (first from : �
   pub done-to : (u : Cursor) → x ≡ Step.Done u → (left : Tree) → Grown r₀ from r₀ (d .rows) (one left) → 2 * (d .records + owed left) ≤ length s₀ → PostfixTo ks fs r₀ s₀ d first from r s left u
   pub fail-at : (cause : Cause) → x ≡ Step.Fail cause → (left : Tree) → Grown r₀ from r₀ (d .rows) (one left) → 2 * (d .records + owed left) ≤ length s₀
       → PostfixFail ks fs r₀ s₀ d first from r s left cause
+
+-- prefix operators stand from `first` up to `start`, and their operand up to the cursor; there is room for a row for each
+pub record PrefixFits (ks r s : List ℕ) (d : Cursor) (first start from : ℕ) : Type 0 where
+  pub room : 6 * (d .rows + (start - first)) ≤ length r
+  pub rows-small : d .rows + (start - first) ≤ 2048
+  pub place-small : d .at ≤ 2048
+  pub before : first ≤ start
+  pub start-small : start ≤ 2048
+  pub some : from < d .rows
+  pub operand : Tree
+  pub stands : Grown r from r (d .rows) (one operand)
+  pub deep : 2 * (d .records + owed operand) ≤ length s
+  pub records-small : d .records + owed operand ≤ 2048
+  pub operators : (i : ℕ) → first ≤ i → i < start → is-prefix-operator (getD ks i 0) ≡ true
+
+-- the rows of all of them were written: what the operand comes to, the whole comes to; or an update's operand is refused
+pub record PrefixedTo (ks fs r₀ s₀ : List ℕ) (d : Cursor) (first from : ℕ) (m₀ m : List ℕ) (rs : List Record) (r s : List ℕ) (u : Cursor) : Type 0 where
+  pub tree : Tree
+  pub records : List Record
+  pub comes : Comes ks fs (unary first) m₀ (done (u .at) (one tree) (rs ++ records) m)
+  pub made : Made r₀ s₀ from (d .records) r s u (one tree) records
+
+pub record PrefixedFail (ks fs r₀ s₀ : List ℕ) (d : Cursor) (first from : ℕ) (m₀ m : List ℕ) (r s : List ℕ) (cause : Cause) : Type 0 where
+  pub comes : Comes ks fs (unary first) m₀ (fail cause m)
+  pub unmade : Unmade r₀ s₀ from (d .records) r s
+
+-- what is known of the operand
+pub record Before (ks fs r₀ s₀ : List ℕ) (d : Cursor) (start from : ℕ) (m₀ m : List ℕ) (rs : List Record) : Type 0 where
+  pub left : Tree
+  pub stands : Grown r₀ from r₀ (d .rows) (one left)
+  pub deep : 2 * (d .records + owed left) ≤ length s₀
+  pub comes : Comes ks fs (unary start) m₀ (done (d .at) (one left) rs m)
+
+pub record MetPrefixes (ks r₀ s₀ : List ℕ) (d : Cursor) (first start from : ℕ) (r s : List ℕ) (x : Step) : Type 0 where
+  pub done-to : (u : Cursor) → x ≡ Step.Done u → (fs m₀ m : List ℕ) (rs : List Record) → Before ks fs r₀ s₀ d start from m₀ m rs → PrefixedTo ks fs r₀ s₀ d first from m₀ m rs r s u
+  pub fail-at : (cause : Cause) → x ≡ Step.Fail cause → (fs m₀ m : List ℕ) (rs : List Record) → Before ks fs r₀ s₀ d start from m₀ m rs
+      → PrefixedFail ks fs r₀ s₀ d first from m₀ m r s cause

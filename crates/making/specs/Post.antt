@@ -138,7 +138,7 @@ pub record TopRoom (words : ℕ) (c : Cursor) (mark first end kids from : ℕ) :
   pub row : RowRoom words c
   pub mark-small : mark ≤ 2048
   pub first-small : first ≤ 2048
-  pub end-small : end ≤ 2048
+  pub end-small : end ≤ 4096
   pub kids-small : kids ≤ 2048
   pub from-before : from ≤ c .rows
 

@@ -1,13 +1,16 @@
 // What is made of operators once their operands are read: binary rows with their records, updates, prefix operators.
 ghost use mathlib.Core.Path.{_≡_};
+ghost use Prim.Native.Nat.{_≤_};
 ghost use Rattle.grammar.specs.Assignment as Assignment;
 ghost use Rattle.grammar.specs.Binary as Binary;
 ghost use Rattle.grammar.specs.Update as Update;
 ghost use Rattle.making.specs.Operation as Operation;
 use crate::cursor::Cursor;
+use crate::cursor::Step;
 use crate::cursor::over;
 use crate::cursor::say;
 use rows::row;
+use targets::Conversion;
 use tokens::kind;
 
 // The level above which an operator's right operand reads on: its own, but for `**`.
@@ -127,4 +130,93 @@ pub fn is_prefix_operator(k: u8) -> bool
         return true;
     }
     is_update_operator(k)
+}
+// 13.4: an update on the line of the token before it, of a simple target.
+pub fn postfix(
+    kinds: &[u8],
+    flags: &[u8],
+    rows: &mut [u32],
+    records: &mut [u32],
+    d: Cursor,
+    first: usize,
+    from: usize,
+) -> Step
+    requires { ⌜ Operation.OperandFits (now kinds) (now rows) (now records) d from ⌝ }
+    requires { ⌜ first ≤ 2048 ⌝ }
+    ensures { λ x. ⌜ Operation.MetPostfix (now (kinds .entry)) (now (flags .entry)) (now (rows .entry)) (now (records .entry)) d first from (now (rows .exit)) (now (records .exit)) x ⌝ }
+{
+    let at = d.at;
+    if is_update_operator(tokens::kind_at(kinds, at)) {
+        if tokens::flag_at(flags, at) == 1 {
+            return Step::Done(d);
+        }
+        let root = d.rows - 1;
+        let used = d.records;
+        let turned = targets::convert_row(rows, root, true, records, used);
+        match turned {
+            Conversion::Refused(cause) => {
+                return Step::Fail(cause);
+            }
+            Conversion::Turned(count) => {
+                let target = Cursor {
+                    at,
+                    rows: d.rows,
+                    records: used + count,
+                };
+                return Step::Done(over(
+                    rows,
+                    target,
+                    row::POSTFIX_UPDATE,
+                    at,
+                    first,
+                    at + 1,
+                    1,
+                    from,
+                ));
+            }
+        }
+    }
+    Step::Done(d)
+}
+
+// The prefix operators from `first` up to the place `start` of their operand, from the innermost out.
+pub fn prefixes(
+    kinds: &[u8],
+    rows: &mut [u32],
+    records: &mut [u32],
+    d: Cursor,
+    first: usize,
+    start: usize,
+    from: usize,
+) -> Step
+    requires { ⌜ Operation.PrefixFits (now kinds) (now rows) (now records) d first start from ⌝ }
+    ensures { λ x. ⌜ Operation.MetPrefixes (now (kinds .entry)) (now (rows .entry)) (now (records .entry)) d first start from (now (rows .exit)) (now (records .exit)) x ⌝ }
+{
+    let end = d.at;
+    let mut here = d;
+    let mut at = start;
+    while first < at {
+        at -= 1;
+        if is_update_operator(tokens::kind_at(kinds, at)) {
+            let root = here.rows - 1;
+            let used = here.records;
+            let turned = targets::convert_row(rows, root, true, records, used);
+            match turned {
+                Conversion::Refused(cause) => {
+                    return Step::Fail(cause);
+                }
+                Conversion::Turned(count) => {
+                    let target = Cursor {
+                        at: end,
+                        rows: here.rows,
+                        records: used + count,
+                    };
+                    here = over(rows, target, row::PREFIX_UPDATE, at, at, end, 1, from);
+                }
+            }
+            continue;
+        }
+        here = over(rows, here, row::UNARY, at, at, end, 1, from);
+    }
+    Step::Done(here)
 }

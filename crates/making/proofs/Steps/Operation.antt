@@ -12,6 +12,7 @@ use borrow.Author.Tests.{eqb-true, eq-eqb, ne-eqb}
 use Rattle.tokens.specs.Bool.{_or_, _and_, _is_, if_then_else_}
 use Rattle.tokens.specs.Kind.{Question2, Star2}
 use Rattle.tokens.specs.declared.cause.Cause.{Cause}
+use Rattle.tokens.proofs.Stands.{stands-not}
 use Rattle.rows.specs.Tree.{Tree, Forest, node, nil, cons, one, join, row, count, size, sizes, flat, flats, kind-of, mark-of}
 use Rattle.rows.specs.Record.{Record, says, mixed-coalesce, unary-power}
 use Rattle.rows.specs.Row as Row
@@ -111,7 +112,7 @@ apart c p q = let z : _≡_ {A = ℕ} 0 1 = cc in omega arith
 same-fail : (p q : Cause) → Step.Fail p ≡ Step.Fail q → p ≡ q
 same-fail p q e = cc
 
-module _ {ks fs r₀ s₀ : List ℕ} {d : Cursor} {first from : ℕ} (fits : OperandFits r₀ s₀ d from) where
+module _ {ks fs r₀ s₀ : List ℕ} {d : Cursor} {first from : ℕ} (fits : OperandFits ks r₀ s₀ d from) where
   -- no update follows, or one on another line
   pub postfix-stays : (is-update-operator (getD ks (d .at) 0) and not (getD fs (d .at) 0 is 1)) ≡ false → MetPostfix ks fs r₀ s₀ d first from r₀ s₀ (Step.Done d)
   postfix-stays e =
@@ -174,5 +175,11 @@ pub not-there : (ks fs : List ℕ) (at : ℕ) {k : ℕ} {b : Bool} → k ≡ get
 not-there ks fs at a u t = rw (sym a, sym u ∙ t)
 
 -- room for a conversion
-pub postfix-room : {r s : List ℕ} {d : Cursor} {from root : ℕ} → OperandFits r s d from → d .rows ≡ root + 1 → Targets.Room r root (length s) (d .records)
+pub postfix-room : {ks r s : List ℕ} {d : Cursor} {from root : ℕ} → OperandFits ks r s d from → d .rows ≡ root + 1 → Targets.Room r root (length s) (d .records)
 postfix-room o n = record { rooted = rooted (o .stands) n (omega (arith, o)); room = o .deep }
+
+-- an update stands before the end
+pub update-stands : (ks : List ℕ) (at : ℕ) {k : ℕ} {b : Bool} → k ≡ getD ks at 0 → b ≡ is-update-operator k → b ≡ true → at < length ks
+unfolding is-update-operator
+update-stands ks at k p q =
+    stands-not ks at (λ z. let y : is-update-operator 0 ≡ true = ap is-update-operator (sym z ∙ sym k) ∙ sym p ∙ q in let w : _≡_ {A = ℕ} 0 1 = cc in omega arith)
