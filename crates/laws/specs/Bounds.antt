@@ -200,13 +200,13 @@ none-or-one true b r s h = rw (h refl) (omega arith)
 none-or-one false true r s h = omega arith
 none-or-one false false r s h = omega arith
 
-operation-one : (sheet : Sheet) (at : ℕ) (left right : Tree) → length (operation-records sheet at left right) ≤ 1
+pub operation-one : (sheet : Sheet) (at : ℕ) (left right : Tree) → length (operation-records sheet at left right) ≤ 1
 unfolding operation-records
 operation-one sheet at left right =
     none-or-one (token sheet at is Question2 and (is-or-and sheet left or is-or-and sheet right)) (token sheet at is Star2 and kind-of left is Row.Unary) _ _
     (λ e. rw (eqb-true (token sheet at) Question2 (and-left _ _ e)))
 
-operation-free : (kind : ℕ) → owes (operation-kind kind) ≡ 0
+pub operation-free : (kind : ℕ) → owes (operation-kind kind) ≡ 0
 unfolding operation-kind owes
 operation-free kind = go (between Question2 Amp2 kind)
   where
@@ -214,7 +214,7 @@ operation-free kind = go (between Question2 Amp2 kind)
     go true = refl
     go false = refl
 
-lent-either : (plain : Bool) → lent (if plain then any else simple) ≡ 0
+pub lent-either : (plain : Bool) → lent (if plain then any else simple) ≡ 0
 lent-either true = refl
 lent-either false = refl
 
