@@ -1,4 +1,4 @@
--- The three-way answer, as 000 (arrow.rs, lines 81 to 215) reads it, token by token: is what starts here the head of an arrow function?
+-- The three-way answer, as 000 (arrow.rs, lines 57 to 215) reads it, token by token: is what starts here the head of an arrow function?
 -- Past the end a kind reads as 0. Names are 1 to 5, 14, 15; modifiers 2, 5, 6, 53; literals 8 to 13.
 -- Assumes nothing: these are definitions.
 use Prim.Native.Nat.{ℕ, _+_}
@@ -9,25 +9,25 @@ use Rattle.tokens.specs.Kind.{Ident, Async, As, Const, This, Extends, LParen, R
 use Rattle.tokens.specs.Token.{kind-at, flag-at, is-literal, is-binding-identifier, is-modifier-kind}
 use Rattle.lookahead.specs.declared.Tristate.{Tristate}
 
--- `()`, lines 122 to 134: "() =>", "() {", and with TypeScript "():", which after Async may be a call in a conditional
+-- `()`, lines 100 to 112: "() =>", "() {", and with TypeScript "():", which after Async may be a call in a conditional
 unfoldable pub no-parameters : Bool → Bool → ℕ → Tristate
 no-parameters is-ts is-async third =
     if third is Colon and is-ts then (if is-async then Tristate.Maybe else Tristate.True)
     else if third is Arrow or third is LCurly then Tristate.True
     else Tristate.False
 
--- `(...`, lines 144 to 154: "(...ident" is a head, "(...null" is not
+-- `(...`, lines 122 to 132: "(...ident" is a head, "(...null" is not
 unfoldable pub rest-parameter : ℕ → Tristate
 rest-parameter third =
     if third is Ident then Tristate.True
     else if is-literal third then Tristate.False
     else Tristate.Maybe
 
--- "(xxx yyy", lines 159 to 166, where xxx is a modifier but no Async, and yyy a name
+-- "(xxx yyy", lines 140 to 148, where xxx is a modifier but no Async, and yyy a name
 unfoldable pub modified-name : ℕ → ℕ → Bool
 modified-name second third = is-modifier-kind second and not (second is Async) and is-binding-identifier third
 
--- `(`, a name or `this`, and what stands after it, lines 177 to 201
+-- `(`, a name or `this`, and what stands after it, lines 157 to 177
 unfoldable pub after-name : ℕ → ℕ → Tristate
 after-name third fourth =
     -- "(a:"
@@ -39,7 +39,7 @@ after-name third fourth =
     else if third is Comma or third is Eq or third is RParen then Tristate.Maybe
     else Tristate.False
 
--- `(` and then anything else, lines 155 to 202
+-- `(` and then anything else, lines 133 to 178
 unfoldable pub first-parameter : ℕ → ℕ → ℕ → Tristate
 first-parameter second third fourth =
     if modified-name second third then (if third is As then Tristate.False else Tristate.True)
@@ -47,7 +47,7 @@ first-parameter second third fourth =
     else if not (is-binding-identifier second) and not (second is This) then Tristate.False
     else after-name third fourth
 
--- `(` at the place, lines 117 to 203
+-- `(` at the place, lines 94 to 180
 unfoldable pub after-paren : List ℕ → Bool → Bool → ℕ → Tristate
 after-paren kinds is-ts is-async at =
     let second = kind-at kinds (at + 1) in
@@ -59,7 +59,7 @@ after-paren kinds is-ts is-async at =
     else if second is Dot3 then rest-parameter third
     else first-parameter second third fourth
 
--- `<` and a name with JSX, lines 211 to 232: "<T extends U", "<T =", "<T,"
+-- `<` and a name with JSX, lines 195 to 209: "<T extends U", "<T =", "<T,"
 unfoldable pub type-parameter : ℕ → ℕ → Tristate
 type-parameter third fourth =
     if third is Extends
@@ -73,7 +73,7 @@ type-parameter third fourth =
 unfoldable pub names-type : ℕ → Bool
 names-type second = second is Const or is-binding-identifier second
 
--- `<` at the place, lines 204 to 234; with JSX a Const is eaten if it is there, and then one token whatever it is
+-- `<` at the place, lines 181 to 212; with JSX a Const is eaten if it is there, and then one token whatever it is
 unfoldable pub after-angle : List ℕ → Bool → ℕ → Tristate
 after-angle kinds is-jsx at =
     let second = kind-at kinds (at + 1) in
@@ -82,14 +82,14 @@ after-angle kinds is-jsx at =
     else if second is Const then type-parameter (kind-at kinds (at + 3)) (kind-at kinds (at + 4))
     else type-parameter (kind-at kinds (at + 2)) (kind-at kinds (at + 3))
 
--- `(` or `<` at the place, lines 113 to 236; False at any other start
+-- `(` or `<` at the place, lines 90 to 214; False at any other start
 unfoldable pub after-open : List ℕ → Bool → Bool → Bool → ℕ → Tristate
 after-open kinds is-ts is-jsx is-async at =
     if kind-at kinds at is LParen then after-paren kinds is-ts is-async at
     else if kind-at kinds at is LAngle then after-angle kinds is-jsx at
     else Tristate.False
 
--- the worker, lines 101 to 236: an Async is eaten; what opens must stand on its line
+-- the worker, lines 77 to 215: an Async is eaten; what opens must stand on its line
 unfoldable pub three-way : List ℕ → List ℕ → Bool → Bool → ℕ → Tristate
 three-way kinds flags is-ts is-jsx at =
     if kind-at kinds at is Async

@@ -13,3 +13,4 @@ mod Entering
 mod Once
 mod Relabelling
 mod EntryRule
+mod Reading

@@ -1,5 +1,6 @@
 -- Conversion (document 01, "Conversion (001)"): what was read as an expression becomes an assignment target, or is refused.
--- Each row is looked at in a role; the role says what the row becomes, and the roles of its kids.
+-- Each row is looked at in a role; the role says what the row becomes, and the roles of its kids. A row that is no expression, one
+-- already a target included, is 9; so is a row whose kids are not as document 01 has them, of which a well-formed tree has none.
 -- Assumes nothing: these are definitions.
 use Prim.Native.Nat.{ℕ}
 use mathlib.Core.Bool.{Bool, true, false, not}
@@ -9,7 +10,7 @@ use Rattle.tokens.specs.Bool.{if_then_else_, _and_, _or_, between}
 use Rattle.tokens.specs.declared.cause.Cause.{Cause}
 use Rattle.tokens.specs.declared.cause.Cause.the-variants.{Target as NoTarget, Spread as SpreadNotLast}
 use Rattle.rows.specs.Row as row
-use Rattle.rows.specs.Tree.{Tree, Forest, node, nil, cons, count, kind-of, mark-of, first-of}
+use Rattle.rows.specs.Tree.{Tree, Forest, node, nil, cons, count, kind-of, first-of}
 use Rattle.rows.specs.Record.{Record, rest-argument, rest-comma, compound-default}
 
 -- what comes of it: the converted with the records in the order found, or the first refusal
@@ -133,7 +134,8 @@ is-with r kind kids = eqb (r .kind) kind and eqb (r .kids) kids
 abbrev pub is-closed : Seen → ℕ → Bool
 is-closed r kind = eqb (r .kind) kind and eqb (r .last) row.Spread
 
--- Name, Member and Index become targets; Paren becomes TargetParen over a simple target. Directly over a literal it is 9; all else is 9.
+-- 13.15.1, AssignmentTargetType simple: Name, Member and Index become targets; Paren becomes TargetParen over a simple target.
+-- Paren directly over Array or Object is 9 at that Paren, and all else is 9 at that row.
 unfoldable pub as-simple : Seen → Change
 as-simple r =
     if is r row.Identifier then keep row.TargetName []
@@ -142,7 +144,8 @@ as-simple r =
     else if is-with r row.Paren 1 and not (is-array-or-object (r .last)) then turn row.TargetParen [] (only simple) []
     else refuse (NoTarget (r .first))
 
--- 13.15.5 AssignmentPattern: an Array or Object literal; otherwise a simple target
+-- 13.15.5 DestructuringAssignmentTarget: an AssignmentPattern for an Array or Object, otherwise a simple target. A literal with a
+-- comma after its closing spread hands the record of that comma to its last kid.
 unfoldable pub as-any : Seen → Change
 as-any r =
     if is r row.Array then turn row.TargetArray [] (elements []) []
@@ -151,6 +154,7 @@ as-any r =
     else if is-closed r row.ObjectRestComma then turn row.TargetObject [] (properties (rest-comma (r .first) ∷ [])) []
     else as-simple r
 
+-- 13.15.5 AssignmentElement : DestructuringAssignmentTarget Initializer opt
 -- Assign becomes TargetDefault; CompoundAssign too, with record 5 at its operator. The left kid is a target already.
 unfoldable pub as-value : Seen → Change
 as-value r =
@@ -158,20 +162,22 @@ as-value r =
     else if is r row.CompoundAssign then keep row.TargetDefault (compound-default (r .mark) ∷ [])
     else as-any r
 
--- a Hole stays; a Spread that is not last is 10
+-- an element that another follows: a Hole stays, and a Spread is 10
 unfoldable pub as-element : Seen → Change
 as-element r =
     if is r row.Hole then keep row.Hole []
     else if is r row.Spread then refuse (SpreadNotLast (r .first))
     else as-value r
 
--- a last Spread is a rest. Arrays: record 3, argument, record 4.
+-- 13.15.5 AssignmentRestElement : ... DestructuringAssignmentTarget
+-- A last Spread is a rest. Arrays: record 3, argument, record 4.
 unfoldable pub as-last-element : List Record → Seen → Change
 as-last-element comma r =
     if is-with r row.Spread 1 then turn row.TargetRest (r .in-array) (only any) comma
     else as-element r
 
--- a shorthand, a shorthand with an initializer, or a key with its value; a Spread that is not last is 10
+-- 13.15.5 AssignmentProperty : IdentifierReference Initializer opt, or PropertyName : AssignmentElement
+-- a property that another follows: a Spread is 10
 unfoldable pub as-property : Seen → Change
 as-property r =
     if is-with r row.Shorthand 1 then turn row.TargetShorthand [] (only name) []
@@ -180,15 +186,18 @@ as-property r =
     else if is r row.Spread then refuse (SpreadNotLast (r .first))
     else refuse (NoTarget (r .first))
 
--- Objects: record 3, record 4, argument.
+-- 13.15.5 AssignmentRestProperty : ... DestructuringAssignmentTarget
+-- A last Spread is a rest. Objects: record 3, record 4, argument.
 unfoldable pub as-last-property : List Record → Seen → Change
 as-last-property comma r =
     if is-with r row.Spread 1 then turn row.TargetRest (r .in-object ++ comma) (only any) []
     else as-property r
 
+-- the name of a shorthand
 unfoldable pub as-name : Seen → Change
 as-name r = if is r row.Identifier then keep row.TargetName [] else refuse (NoTarget (r .first))
 
+-- what a row becomes in a role
 unfoldable pub change : Role → Seen → Change
 change any r = as-any r
 change simple r = as-simple r
