@@ -3,7 +3,9 @@
 pub mod Args
 pub mod Array
 pub mod Assign
+pub mod Assigned
 pub mod Barray
+pub mod Binary
 pub mod Binding
 pub mod Bobject
 pub mod Body
@@ -30,3 +32,4 @@ pub mod Shape
 pub mod Shared
 pub mod Spread
 pub mod Unary
+pub mod Value

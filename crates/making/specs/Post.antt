@@ -164,7 +164,6 @@ pub record HeadFits (ks : List ℕ) (c : Cursor) (h : Head) : Type 0 where
   pub first-before : h .first < c .at
   pub from-before : h .from ≤ c .rows
   pub kids-few : h .kids ≤ c .at
-  pub rows-few : c .rows < c .at
 
 -- a name was read, whose row stands at `from` and whose token just before the `=` here
 pub record NameFits (ks : List ℕ) (c : Cursor) (from : ℕ) : Type 0 where

@@ -2,17 +2,23 @@
 -- Assumes nothing.
 use Prim.Native.Nat.{ℕ, _+_, _*_, _≤_, _<_}
 use mathlib.Core.Path.{_≡_, refl, sym, ap, subst, _∙_}
+use mathlib.Core.Bool.{Bool, true, false}
 use mathlib.Core.List.{List, [], _∷_, _++_}
 use native.Mathlib.Omega.{arith}
-use lib.ListN.{length, set}
+use lib.ListN.{length, set, getD}
+use Rattle.tokens.specs.Bool.{if_then_else_}
 use Rattle.tokens.specs.declared.cause.Cause.{Cause}
 use Rattle.rows.specs.Tree.{Forest}
 use Rattle.rows.specs.Record.{Record}
 use Rattle.grammar.specs.Sheet.{Out, done, fail, after-records}
 use Rattle.grammar.specs.Job.{Job, assignment, value, head, body}
 use Rattle.grammar.specs.Arrow as Grammar
-use Rattle.making.specs.Post.{Room, Comes, Met, MetAfter, MetList}
-use Rattle.making.specs.Heads.{way-at, way-of, arrow-kind}
+use Rattle.rows.proofs.Walks.{some-rows}
+use Rattle.grammar.specs.Reading.{box}
+use Rattle.laws.specs.Good.{inside}
+use Rattle.laws.specs.Bounds.{bounded}
+use Rattle.making.specs.Post.{sheet-of, Room, Comes, Met, MetAfter, MetList, HeadFits}
+use Rattle.making.specs.Heads.{may-open, way-at, way-of, arrow-kind}
 use Rattle.making.specs.declared.cursor.Cursor.{Cursor}
 use Rattle.making.specs.declared.cursor.Step.{Step}
 use Rattle.making.specs.declared.cursor.Listed.{Listed}
@@ -21,6 +27,41 @@ use Rattle.making.specs.declared.heads.Way.{Way}
 use Rattle.making.proofs.Ways.{assignment-passes, assignment-tries, assignment-gives-up, assignment-commits, assignment-fails}
 use Rattle.making.proofs.Ends.{is-fail}
 use Rattle.making.proofs.Makes.{stands-now, made-over, unmade-over, made-again, unmade-again}
+
+-- where a head is tried, a token stands
+pub tried-stands : (ks fs m : List ℕ) (at : ℕ) {w : Way} → way-of w ≡ way-at ks fs m at → w ≡ Way.Attempt → at < length ks
+unfolding way-at way-of may-open
+tried-stands ks fs m at {w} t e = go (may-open (getD ks at 0)) refl
+  where
+    go : (b : Bool) → may-open (getD ks at 0) ≡ b → at < length ks
+    go true q = inside (sheet-of ks fs) at may-open refl q
+    go false q =
+        let z : Grammar.attempt ≡ Grammar.pass = sym (ap way-of e) ∙ t ∙ ap (λ (b : Bool). if b then box (sheet-of ks fs) .way at m else Grammar.pass) q in
+        let y : _≡_ {A = ℕ} 0 1 = cc in
+        absurd (omega arith)
+
+-- how far a head goes
+pub record Headed (ks : List ℕ) (at n k : ℕ) (d : Cursor) (kids : ℕ) : Type 0 where
+  pub forward : at < d .at
+  pub arrow : d .at < length ks
+  pub more : n ≤ d .rows
+  pub few : d .rows + at ≤ n + d .at
+  pub said : d .records + at ≤ k + d .at
+  pub kids-few : kids ≤ d .at
+
+pub headed : {ks fs r₀ s₀ m₀ r s m : List ℕ} {at n k kids : ℕ} {y : Listed} {d : Cursor} → MetList ks fs r₀ s₀ m₀ r s m (head at) n k y → y ≡ Listed.Done d kids → Headed ks at n k d kids
+headed a q =
+    let g = a .list-to _ _ q in
+    let b = bounded (g .comes .settles) in
+    let u = g .made .grown .used in
+    let v = g .made .recorded .used in
+    let w = g .counted in
+    let z = some-rows (g .trees) in
+    record { forward = omega arith; arrow = omega arith; more = omega arith; few = omega arith; said = omega arith; kids-few = omega arith }
+
+-- the head that was read fits its body
+pub head-fits : (ks : List ℕ) {at n k kids kind : ℕ} {d : Cursor} {h : Head} → Headed ks at n k d kids → h ≡ record { kind = kind; first = at; from = n; kids = kids } → HeadFits ks d h
+head-fits ks w e = rw e record { arrow = w .arrow; first-before = w .forward; from-before = w .more; kids-few = w .kids-few }
 
 module _ {ks fs r₀ s₀ m₀ : List ℕ} {c : Cursor} where
   pub assign-passes : {r s m : List ℕ} {x : Step} {w : Way} → way-of w ≡ way-at ks fs m₀ (c .at) → w ≡ Way.Pass
