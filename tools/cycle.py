@@ -1,5 +1,5 @@
 #!/usr/bin/env python3
-"""Writes the two files of the cycle's proof that only list its members: Proof.antt and Proof/Measures.antt of crates/reader.
+"""Writes the two files of the cycle's proof that only list its members: Proof.antt and Proof/Measures.antt of crates/parse.
 
     tools/cycle.py
 
@@ -9,15 +9,15 @@ each other, given here.
 import glob, os, subprocess
 
 ROOT = subprocess.run(['git', 'rev-parse', '--show-toplevel'], capture_output=True, text=True).stdout.strip() + '/'
-CRATE = 'reader'
+CRATE = 'parse'
 RANKS = {
     'comma': 13, 'item': 12, 'assign': 11, 'value': 10, 'binary': 9, 'unary': 8, 'left': 6, 'primary': 5, 'head': 5, 'part': 5, 'property': 4,
     'bproperty': 4, 'params': 4, 'element': 3, 'binding': 2, 'key': 2, 'last': 2, 'rest': 1, 'spread': 1, 'array': 1, 'object': 1, 'barray': 1,
     'bobject': 1, 'inside': 1, 'args': 1, 'body': 1, 'init': 1, 'assigned': 1, 'choice': 1,
 }
-folder = next(p for p in glob.glob(ROOT + 'crates/%s/proofs/parse/+*' % CRATE) if os.path.isdir(p))
+folder = next(p for p in glob.glob(ROOT + 'crates/%s/proofs/+*' % CRATE) if os.path.isdir(p))
 members = os.path.basename(folder)[1:].split('+')
-base = 'Rattle.%s.proofs.parse.' % CRATE
+base = 'Rattle.%s.proofs.' % CRATE
 cycle = base + os.path.basename(folder)
 out = ['-- The measures of the cycle: tokens left, and the order in which its members call each other at one place. What a member is given at the',
        '-- measure t, and what a call of it asks below t.', '-- Made by tools/cycle.py. Assumes nothing.', 'use Prim.Native.Nat.{ℕ, _+_, _-_, _*_, _<_}',

@@ -138,10 +138,10 @@ module _ {ks fs r₀ s₀ m₀ : List ℕ} {c : Cursor} (room : Room ks r₀ s�
           goes-on (λ out u. value-arrow (sym i ∙ j) read-left (eq-eqb _ _ kind) (sym k ∙ t) u) made (f .over-all (one name) refl (stands-now (omega (arith, room)) (made .grown)))
 
       -- `=>` after what is no Identifier
-      pub value-stays : {z : ℕ} → y ≡ Arrow → Word r₁ (d .rows - 1) 0 z → (z ≡ Row.Identifier → ⊥) → Met ks fs r₀ s₀ m₀ r₁ s₁ m₁ (value (c .at)) (c .rows) (c .records) x
+      pub value-stays : {z : ℕ} → y ≡ Arrow → Word r₁ (d .rows - 1) 0 z → (z ≡ Row.Identifier → ⊥) → Met ks fs r₀ s₀ m₀ r₁ s₁ m₁ (value (c .at)) (c .rows) (c .records) (Step.Done d)
       value-stays t w h =
           let kind = root-kind (omega (arith, room)) (made-left .grown) w in
-          is-done q record {
+          is-done refl record {
             trees = one left;
             records = g .records;
             comes =
@@ -166,6 +166,6 @@ module _ {ks fs r₀ s₀ m₀ : List ℕ} {c : Cursor} (room : Room ks r₀ s�
               → Met ks fs r₀ s₀ m₀ r s m (value (c .at)) (c .rows) (c .records) v
           value-choices e h f = goes-on (λ out u. value-chooses (sym i ∙ j) read-left no-arrow (operator e) (eq-eqb _ _ (sym k ∙ h)) u) made-left (f .over-one left stands-left)
 
-          pub value-ends : o ≡ false → (y ≡ Question → ⊥) → Met ks fs r₀ s₀ m₀ r₁ s₁ m₁ (value (c .at)) (c .rows) (c .records) x
+          pub value-ends : o ≡ false → (y ≡ Question → ⊥) → Met ks fs r₀ s₀ m₀ r₁ s₁ m₁ (value (c .at)) (c .rows) (c .records) (Step.Done d)
           value-ends e h =
-              is-done q record { trees = one left; records = g .records; comes = value-stops (sym i ∙ j) read-left no-arrow (operator e) (λ u. h (k ∙ u)); made = made-left }
+              is-done refl record { trees = one left; records = g .records; comes = value-stops (sym i ∙ j) read-left no-arrow (operator e) (λ u. h (k ∙ u)); made = made-left }

@@ -1,0 +1,1257 @@
+// The one cycle of calls: expressions, arrows, literals and bindings call one another (13.2 to 13.16, 14.3.3, 15.3, 15.9).
+// All of it stands in one file, since the folder of its proof is named after all of its functions.
+ghost use Prim.Native.Nat.{_+_, _<_};
+ghost use lib.ListN.{length, getD};
+ghost use Rattle.tokens.specs.Bool.{_is_, if_then_else_};
+ghost use Rattle.tokens.specs.Kind.{Dot3};
+ghost use Rattle.tokens.specs.declared.cause.Cause.{Cause};
+ghost use Rattle.rows.specs.Tree.{nil, one};
+ghost use Rattle.rows.specs.Row as Row;
+ghost use Rattle.grammar.specs.Job as Job;
+ghost use Rattle.making.specs.Post.{Room, Met, MetOver, MetAfter, MetList, MetClosed, MetInit, Operand, HeadFits, NameFits};
+use making::cursor::Cursor;
+use making::cursor::Listed;
+use making::cursor::Step;
+use making::cursor::leaf;
+use making::cursor::over;
+use making::cursor::say;
+use making::heads;
+use making::heads::Head;
+use making::heads::Way;
+use making::keys;
+use making::operation;
+use rows::row;
+use targets::Conversion;
+use tokens::cause::Cause;
+use tokens::kind;
+
+// 13.16 Expression: one part, or a Sequence of them.
+pub fn comma(
+    kinds: &[u8],
+    flags: &[u8],
+    rows: &mut [u32],
+    records: &mut [u32],
+    notes: &mut [u8; 2048],
+    c: Cursor,
+) -> Step
+    requires { ⌜ Room (now kinds) (now rows) (now records) c ⌝ }
+    ensures { λ x. ⌜ Met (now (kinds .entry)) (now (flags .entry)) (now (rows .entry)) (now (records .entry)) (now (notes .entry)) (now (rows .exit)) (now (records .exit)) (now (notes .exit)) (Job.expression (c .at)) (c .rows) (c .records) x ⌝ }
+{
+    let got = assign(kinds, flags, rows, records, notes, c);
+    let Step::Done(part) = got else {
+        return got;
+    };
+    let mark = part.at;
+    if tokens::kind_at(kinds, mark) != kind::COMMA {
+        return Step::Done(part);
+    }
+    let mut here = part;
+    let mut kids = 1;
+    loop {
+        let at = here.at;
+        if tokens::kind_at(kinds, at) != kind::COMMA {
+            return Step::Done(over(rows, here, row::SEQUENCE, mark, c.at, at, kids, c.rows));
+        }
+        let next = Cursor {
+            at: at + 1,
+            rows: here.rows,
+            records: here.records,
+        };
+        let more = assign(kinds, flags, rows, records, notes, next);
+        let Step::Done(d) = more else {
+            return more;
+        };
+        here = d;
+        kids += 1;
+    }
+}
+
+// 13.15 AssignmentExpression: where a head could open, it is passed, tried or read for good.
+pub fn assign(
+    kinds: &[u8],
+    flags: &[u8],
+    rows: &mut [u32],
+    records: &mut [u32],
+    notes: &mut [u8; 2048],
+    c: Cursor,
+) -> Step
+    requires { ⌜ Room (now kinds) (now rows) (now records) c ⌝ }
+    ensures { λ x. ⌜ Met (now (kinds .entry)) (now (flags .entry)) (now (rows .entry)) (now (records .entry)) (now (notes .entry)) (now (rows .exit)) (now (records .exit)) (now (notes .exit)) (Job.assignment (c .at)) (c .rows) (c .records) x ⌝ }
+{
+    let at = c.at;
+    let way = heads::way_at(kinds, flags, notes, at);
+    match way {
+        Way::Pass => value(kinds, flags, rows, records, notes, c),
+        Way::Attempt => {
+            let got = head(kinds, flags, rows, records, notes, c);
+            match got {
+                Listed::Done(d, kids) => {
+                    let head = heads::head_of(kinds, at, c.rows, kids);
+                    body(kinds, flags, rows, records, notes, d, head)
+                }
+                Listed::Fail(_) => {
+                    notes[at] = 1;
+                    value(kinds, flags, rows, records, notes, c)
+                }
+            }
+        }
+        Way::Commit => {
+            let got = head(kinds, flags, rows, records, notes, c);
+            match got {
+                Listed::Done(d, kids) => {
+                    let head = heads::head_of(kinds, at, c.rows, kids);
+                    body(kinds, flags, rows, records, notes, d, head)
+                }
+                Listed::Fail(cause) => Step::Fail(cause),
+            }
+        }
+    }
+}
+
+// The assignment level past a head: an async arrow of one name, or the binary level and what may follow it.
+pub fn value(
+    kinds: &[u8],
+    flags: &[u8],
+    rows: &mut [u32],
+    records: &mut [u32],
+    notes: &mut [u8; 2048],
+    c: Cursor,
+) -> Step
+    requires { ⌜ Room (now kinds) (now rows) (now records) c ⌝ }
+    ensures { λ x. ⌜ Met (now (kinds .entry)) (now (flags .entry)) (now (rows .entry)) (now (records .entry)) (now (notes .entry)) (now (rows .exit)) (now (records .exit)) (now (notes .exit)) (Job.value (c .at)) (c .rows) (c .records) x ⌝ }
+{
+    let at = c.at;
+    let from = c.rows;
+    if heads::is_async_name(kinds, flags, at) {
+        let name = Cursor {
+            at: at + 1,
+            rows: from,
+            records: c.records,
+        };
+        let d = leaf(rows, name, row::BINDING_NAME);
+        let head = Head {
+            kind: row::ASYNC_ARROW,
+            first: at,
+            from,
+            kids: 1,
+        };
+        return body(kinds, flags, rows, records, notes, d, head);
+    }
+    let got = binary(kinds, flags, rows, records, notes, c, 0);
+    let Step::Done(d) = got else {
+        return got;
+    };
+    let end = d.at;
+    let next = tokens::kind_at(kinds, end);
+    if next == kind::ARROW {
+        let root = d.rows - 1;
+        if rows::row_word(rows, root, 0) == row::IDENTIFIER {
+            let name = Cursor {
+                at,
+                rows: from,
+                records: d.records,
+            };
+            let read = leaf(rows, name, row::BINDING_NAME);
+            let mark = Cursor {
+                at: end,
+                rows: read.rows,
+                records: read.records,
+            };
+            let head = Head {
+                kind: row::ARROW,
+                first: at,
+                from,
+                kids: 1,
+            };
+            return body(kinds, flags, rows, records, notes, mark, head);
+        }
+        return got;
+    }
+    if operation::is_assignment_operator(next) {
+        return assigned(kinds, flags, rows, records, notes, d, at, from);
+    }
+    if next == kind::QUESTION {
+        return choice(kinds, flags, rows, records, notes, d, at, from);
+    }
+    got
+}
+
+// 13.15: an assignment, whose left side is converted before the right is read.
+pub fn assigned(
+    kinds: &[u8],
+    flags: &[u8],
+    rows: &mut [u32],
+    records: &mut [u32],
+    notes: &mut [u8; 2048],
+    c: Cursor,
+    first: usize,
+    from: usize,
+) -> Step
+    requires { ⌜ Room (now kinds) (now rows) (now records) c ⌝ }
+    requires { ⌜ Operand (now kinds) (now rows) c first from ⌝ }
+    ensures { λ x. ⌜ MetOver (now (kinds .entry)) (now (flags .entry)) (now (rows .entry)) (now (records .entry)) (now (notes .entry)) (now (rows .exit)) (now (records .exit)) (now (notes .exit)) (Job.assign first (c .at)) from (c .rows) (c .records) x ⌝ }
+{
+    let at = c.at;
+    let plain = tokens::kind_at(kinds, at) == kind::EQ;
+    let left = c.rows;
+    let used = c.records;
+    let turned = targets::convert_row(rows, left - 1, !plain, records, used);
+    match turned {
+        Conversion::Refused(cause) => Step::Fail(cause),
+        Conversion::Turned(count) => {
+            let next = Cursor {
+                at: at + 1,
+                rows: left,
+                records: used + count,
+            };
+            let got = assign(kinds, flags, rows, records, notes, next);
+            let Step::Done(d) = got else {
+                return got;
+            };
+            let kind = if plain {
+                row::ASSIGN
+            } else {
+                row::COMPOUND_ASSIGN
+            };
+            Step::Done(over(rows, d, kind, at, first, d.at, 2, from))
+        }
+    }
+}
+
+// 13.14 ConditionalExpression, from its `?` on.
+pub fn choice(
+    kinds: &[u8],
+    flags: &[u8],
+    rows: &mut [u32],
+    records: &mut [u32],
+    notes: &mut [u8; 2048],
+    c: Cursor,
+    first: usize,
+    from: usize,
+) -> Step
+    requires { ⌜ Room (now kinds) (now rows) (now records) c ⌝ }
+    requires { ⌜ Operand (now kinds) (now rows) c first from ⌝ }
+    ensures { λ x. ⌜ MetOver (now (kinds .entry)) (now (flags .entry)) (now (rows .entry)) (now (records .entry)) (now (notes .entry)) (now (rows .exit)) (now (records .exit)) (now (notes .exit)) (Job.conditional first (c .at)) from (c .rows) (c .records) x ⌝ }
+{
+    let at = c.at;
+    let next = Cursor {
+        at: at + 1,
+        rows: c.rows,
+        records: c.records,
+    };
+    let got = assign(kinds, flags, rows, records, notes, next);
+    let Step::Done(d) = got else {
+        return got;
+    };
+    let colon = d.at;
+    if tokens::kind_at(kinds, colon) != kind::COLON {
+        return Step::Fail(Cause::Unexpected(colon));
+    }
+    let other = Cursor {
+        at: colon + 1,
+        rows: d.rows,
+        records: d.records,
+    };
+    let more = assign(kinds, flags, rows, records, notes, other);
+    let Step::Done(e) = more else {
+        return more;
+    };
+    Step::Done(over(rows, e, row::CONDITIONAL, at, first, e.at, 3, from))
+}
+
+// A head up to its `=>`: optional Async with no break after it, and parameters in parentheses.
+pub fn head(
+    kinds: &[u8],
+    flags: &[u8],
+    rows: &mut [u32],
+    records: &mut [u32],
+    notes: &mut [u8; 2048],
+    c: Cursor,
+) -> Listed
+    requires { ⌜ Room (now kinds) (now rows) (now records) c ⌝ }
+    ensures { λ x. ⌜ MetList (now (kinds .entry)) (now (flags .entry)) (now (rows .entry)) (now (records .entry)) (now (notes .entry)) (now (rows .exit)) (now (records .exit)) (now (notes .exit)) (Job.head (c .at)) (c .rows) (c .records) x ⌝ }
+{
+    let at = c.at;
+    let mut open = at;
+    if tokens::kind_at(kinds, at) == kind::ASYNC {
+        open = at + 1;
+        if tokens::flag_at(flags, open) == 1 {
+            return Listed::Fail(Cause::Unexpected(open));
+        }
+    }
+    if tokens::kind_at(kinds, open) != kind::L_PAREN {
+        return Listed::Fail(Cause::Unexpected(open));
+    }
+    let next = Cursor {
+        at: open + 1,
+        rows: c.rows,
+        records: c.records,
+    };
+    let got = params(kinds, flags, rows, records, notes, next);
+    let Listed::Done(d, kids) = got else {
+        return got;
+    };
+    let end = d.at;
+    if tokens::kind_at(kinds, end) != kind::ARROW {
+        return Listed::Fail(Cause::Unexpected(end));
+    }
+    Listed::Done(d, kids)
+}
+
+// 15.1 FormalParameters: bindings with optional defaults, one trailing comma unless a rest is last, up to past the `)`.
+pub fn params(
+    kinds: &[u8],
+    flags: &[u8],
+    rows: &mut [u32],
+    records: &mut [u32],
+    notes: &mut [u8; 2048],
+    c: Cursor,
+) -> Listed
+    requires { ⌜ Room (now kinds) (now rows) (now records) c ⌝ }
+    ensures { λ x. ⌜ MetList (now (kinds .entry)) (now (flags .entry)) (now (rows .entry)) (now (records .entry)) (now (notes .entry)) (now (rows .exit)) (now (records .exit)) (now (notes .exit)) (Job.parameters (c .at) nil) (c .rows) (c .records) x ⌝ }
+{
+    let mut here = c;
+    let mut kids = 0;
+    loop {
+        let at = here.at;
+        let k = tokens::kind_at(kinds, at);
+        if k == kind::R_PAREN {
+            here.at = at + 1;
+            break;
+        }
+        kids += 1;
+        if k == kind::DOT3 {
+            let got = last(kinds, flags, rows, records, notes, here, kind::R_PAREN);
+            match got {
+                Step::Fail(cause) => {
+                    return Listed::Fail(cause);
+                }
+                Step::Done(d) => {
+                    here = d;
+                }
+            }
+            break;
+        }
+        let got = element(kinds, flags, rows, records, notes, here);
+        match got {
+            Step::Fail(cause) => {
+                return Listed::Fail(cause);
+            }
+            Step::Done(d) => {
+                here = d;
+            }
+        }
+        let close = here.at;
+        let next = tokens::kind_at(kinds, close);
+        here.at = close + 1;
+        if next == kind::R_PAREN {
+            break;
+        }
+        if next != kind::COMMA {
+            return Listed::Fail(Cause::Unexpected(close));
+        }
+    }
+    Listed::Done(here, kids)
+}
+
+// `=>` and the body, which is final: a break before `=>` is record 1, and `{` as body is 8.
+pub fn body(
+    kinds: &[u8],
+    flags: &[u8],
+    rows: &mut [u32],
+    records: &mut [u32],
+    notes: &mut [u8; 2048],
+    c: Cursor,
+    head: Head,
+) -> Step
+    requires { ⌜ Room (now kinds) (now rows) (now records) c ⌝ }
+    requires { ⌜ HeadFits (now kinds) c head ⌝ }
+    ensures { λ x. ⌜ MetAfter (now (kinds .entry)) (now (flags .entry)) (now (rows .entry)) (now (records .entry)) (now (notes .entry)) (now (rows .exit)) (now (records .exit)) (now (notes .exit)) (Job.body (head .kind) (head .first) (c .at)) (head .from) (c .rows) (head .kids) (c .records) x ⌝ }
+{
+    let mark = c.at;
+    if tokens::kind_at(kinds, mark + 1) == kind::L_CURLY {
+        return Step::Fail(Cause::Unexpected(mark + 1));
+    }
+    let mut next = Cursor {
+        at: mark + 1,
+        rows: c.rows,
+        records: c.records,
+    };
+    if tokens::flag_at(flags, mark) == 1 {
+        next = say(records, next, 1, mark);
+    }
+    let got = assign(kinds, flags, rows, records, notes, next);
+    let Step::Done(d) = got else {
+        return got;
+    };
+    Step::Done(over(
+        rows,
+        d,
+        head.kind,
+        mark,
+        head.first,
+        d.at,
+        head.kids + 1,
+        head.from,
+    ))
+}
+
+// 13.6 to 13.13: an operand, and the operators above the level `floor` that follow it.
+pub fn binary(
+    kinds: &[u8],
+    flags: &[u8],
+    rows: &mut [u32],
+    records: &mut [u32],
+    notes: &mut [u8; 2048],
+    c: Cursor,
+    floor: u8,
+) -> Step
+    requires { ⌜ Room (now kinds) (now rows) (now records) c ⌝ }
+    ensures { λ x. ⌜ Met (now (kinds .entry)) (now (flags .entry)) (now (rows .entry)) (now (records .entry)) (now (notes .entry)) (now (rows .exit)) (now (records .exit)) (now (notes .exit)) (Job.binary floor (c .at)) (c .rows) (c .records) x ⌝ }
+{
+    let first = c.at;
+    let from = c.rows;
+    let got = unary(kinds, flags, rows, records, notes, c);
+    let Step::Done(operand) = got else {
+        return got;
+    };
+    let mut here = operand;
+    let mut at = operand.at;
+    let mut operator = tokens::kind_at(kinds, at);
+    while floor < operators::expression_precedence(operator) {
+        let left = here.rows;
+        let next = Cursor {
+            at: at + 1,
+            rows: left,
+            records: here.records,
+        };
+        let more = binary(
+            kinds,
+            flags,
+            rows,
+            records,
+            notes,
+            next,
+            operation::right_floor(operator),
+        );
+        let Step::Done(d) = more else {
+            return more;
+        };
+        here = operation::finish(kinds, rows, records, d, at, first, left, from);
+        at = d.at;
+        operator = tokens::kind_at(kinds, at);
+    }
+    Step::Done(here)
+}
+
+// 13.5 and 13.4: prefix operators over an operand, which a postfix update may follow on its line.
+pub fn unary(
+    kinds: &[u8],
+    flags: &[u8],
+    rows: &mut [u32],
+    records: &mut [u32],
+    notes: &mut [u8; 2048],
+    c: Cursor,
+) -> Step
+    requires { ⌜ Room (now kinds) (now rows) (now records) c ⌝ }
+    ensures { λ x. ⌜ Met (now (kinds .entry)) (now (flags .entry)) (now (rows .entry)) (now (records .entry)) (now (notes .entry)) (now (rows .exit)) (now (records .exit)) (now (notes .exit)) (Job.unary (c .at)) (c .rows) (c .records) x ⌝ }
+{
+    let first = c.at;
+    let from = c.rows;
+    let mut at = first;
+    while operation::is_prefix_operator(tokens::kind_at(kinds, at)) {
+        at += 1;
+    }
+    let start = Cursor {
+        at,
+        rows: from,
+        records: c.records,
+    };
+    let got = left(kinds, flags, rows, records, notes, start);
+    let Step::Done(d) = got else {
+        return got;
+    };
+    let operand = operation::postfix(kinds, flags, rows, records, d, at, from);
+    let Step::Done(e) = operand else {
+        return operand;
+    };
+    operation::prefixes(kinds, rows, records, e, first, at, from)
+}
+
+// 13.3: a primary expression and the members, indexes and calls that follow it.
+pub fn left(
+    kinds: &[u8],
+    flags: &[u8],
+    rows: &mut [u32],
+    records: &mut [u32],
+    notes: &mut [u8; 2048],
+    c: Cursor,
+) -> Step
+    requires { ⌜ Room (now kinds) (now rows) (now records) c ⌝ }
+    ensures { λ x. ⌜ Met (now (kinds .entry)) (now (flags .entry)) (now (rows .entry)) (now (records .entry)) (now (notes .entry)) (now (rows .exit)) (now (records .exit)) (now (notes .exit)) (Job.left-hand-side (c .at)) (c .rows) (c .records) x ⌝ }
+{
+    let first = c.at;
+    let from = c.rows;
+    let got = primary(kinds, flags, rows, records, notes, c);
+    let Step::Done(base) = got else {
+        return got;
+    };
+    let mut here = base;
+    loop {
+        let at = here.at;
+        match tokens::kind_at(kinds, at) {
+            kind::DOT => {
+                if !tokens::is_word(tokens::kind_at(kinds, at + 1)) {
+                    return Step::Fail(Cause::Unexpected(at + 1));
+                }
+                here = over(rows, here, row::MEMBER, at + 1, first, at + 2, 1, from);
+            }
+            kind::L_BRACK => {
+                let inner = inside(kinds, flags, rows, records, notes, here, kind::R_BRACK);
+                let Step::Done(d) = inner else {
+                    return inner;
+                };
+                here = over(rows, d, row::INDEX, first, first, d.at, 2, from);
+            }
+            kind::L_PAREN => {
+                let call = args(kinds, flags, rows, records, notes, here, first, from);
+                let Step::Done(d) = call else {
+                    return call;
+                };
+                here = d;
+            }
+            _ => {
+                return Step::Done(here);
+            }
+        }
+    }
+}
+
+// 13.3: a Call, from its `(` on.
+pub fn args(
+    kinds: &[u8],
+    flags: &[u8],
+    rows: &mut [u32],
+    records: &mut [u32],
+    notes: &mut [u8; 2048],
+    c: Cursor,
+    first: usize,
+    from: usize,
+) -> Step
+    requires { ⌜ Room (now kinds) (now rows) (now records) c ⌝ }
+    requires { ⌜ Operand (now kinds) (now rows) c first from ⌝ }
+    ensures { λ x. ⌜ MetOver (now (kinds .entry)) (now (flags .entry)) (now (rows .entry)) (now (records .entry)) (now (notes .entry)) (now (rows .exit)) (now (records .exit)) (now (notes .exit)) (λ left. Job.arguments first (c .at + 1) (one left)) from (c .rows) (c .records) x ⌝ }
+{
+    let mut here = Cursor {
+        at: c.at + 1,
+        rows: c.rows,
+        records: c.records,
+    };
+    let mut kids = 1;
+    let read = loop {
+        let at = here.at;
+        if tokens::kind_at(kinds, at) == kind::R_PAREN {
+            break over(rows, here, row::CALL, first, first, at + 1, kids, from);
+        }
+        let got = item(kinds, flags, rows, records, notes, here);
+        let Step::Done(d) = got else {
+            return got;
+        };
+        kids += 1;
+        let close = d.at;
+        let next = tokens::kind_at(kinds, close);
+        if next == kind::R_PAREN {
+            break over(rows, d, row::CALL, first, first, close + 1, kids, from);
+        }
+        if next != kind::COMMA {
+            return Step::Fail(Cause::Unexpected(close));
+        }
+        here = Cursor {
+            at: close + 1,
+            rows: d.rows,
+            records: d.records,
+        };
+    };
+    Step::Done(read)
+}
+
+// An Expression between the bracket at the place and its closing token.
+pub fn inside(
+    kinds: &[u8],
+    flags: &[u8],
+    rows: &mut [u32],
+    records: &mut [u32],
+    notes: &mut [u8; 2048],
+    c: Cursor,
+    close: u8,
+) -> Step
+    requires { ⌜ Room (now kinds) (now rows) (now records) c ⌝ }
+    requires { ⌜ c .at < length (now kinds) ⌝ }
+    ensures { λ x. ⌜ MetClosed (now (kinds .entry)) (now (flags .entry)) (now (rows .entry)) (now (records .entry)) (now (notes .entry)) (now (rows .exit)) (now (records .exit)) (now (notes .exit)) (Job.expression (c .at + 1)) close Cause.Unexpected (c .rows) (c .records) x ⌝ }
+{
+    let next = Cursor {
+        at: c.at + 1,
+        rows: c.rows,
+        records: c.records,
+    };
+    let got = comma(kinds, flags, rows, records, notes, next);
+    let Step::Done(d) = got else {
+        return got;
+    };
+    let end = d.at;
+    if tokens::kind_at(kinds, end) != close {
+        return Step::Fail(Cause::Unexpected(end));
+    }
+    Step::Done(Cursor {
+        at: end + 1,
+        rows: d.rows,
+        records: d.records,
+    })
+}
+
+// 13.2 PrimaryExpression.
+pub fn primary(
+    kinds: &[u8],
+    flags: &[u8],
+    rows: &mut [u32],
+    records: &mut [u32],
+    notes: &mut [u8; 2048],
+    c: Cursor,
+) -> Step
+    requires { ⌜ Room (now kinds) (now rows) (now records) c ⌝ }
+    ensures { λ x. ⌜ Met (now (kinds .entry)) (now (flags .entry)) (now (rows .entry)) (now (records .entry)) (now (notes .entry)) (now (rows .exit)) (now (records .exit)) (now (notes .exit)) (Job.primary (c .at)) (c .rows) (c .records) x ⌝ }
+{
+    let at = c.at;
+    let k = tokens::kind_at(kinds, at);
+    if tokens::is_name(k) {
+        return Step::Done(leaf(rows, c, row::IDENTIFIER));
+    }
+    if k == kind::THIS {
+        return Step::Done(leaf(rows, c, row::THIS));
+    }
+    if tokens::is_literal(k) {
+        return Step::Done(leaf(rows, c, row::LITERAL));
+    }
+    match k {
+        kind::L_PAREN => {
+            let got = inside(kinds, flags, rows, records, notes, c, kind::R_PAREN);
+            let Step::Done(d) = got else {
+                return got;
+            };
+            Step::Done(over(rows, d, row::PAREN, at, at, d.at, 1, c.rows))
+        }
+        kind::L_BRACK => array(kinds, flags, rows, records, notes, c),
+        kind::L_CURLY => object(kinds, flags, rows, records, notes, c),
+        _ => Step::Fail(Cause::Unexpected(at)),
+    }
+}
+
+// An element or an argument: an AssignmentExpression or a spread.
+pub fn item(
+    kinds: &[u8],
+    flags: &[u8],
+    rows: &mut [u32],
+    records: &mut [u32],
+    notes: &mut [u8; 2048],
+    c: Cursor,
+) -> Step
+    requires { ⌜ Room (now kinds) (now rows) (now records) c ⌝ }
+    ensures { λ x. ⌜ Met (now (kinds .entry)) (now (flags .entry)) (now (rows .entry)) (now (records .entry)) (now (notes .entry)) (now (rows .exit)) (now (records .exit)) (now (notes .exit)) (if getD (now (kinds .entry)) (c .at) 0 is Dot3 then Job.spread (c .at) else Job.assignment (c .at)) (c .rows) (c .records) x ⌝ }
+{
+    if tokens::kind_at(kinds, c.at) == kind::DOT3 {
+        return spread(kinds, flags, rows, records, notes, c);
+    }
+    assign(kinds, flags, rows, records, notes, c)
+}
+
+// 13.2.4 SpreadElement.
+pub fn spread(
+    kinds: &[u8],
+    flags: &[u8],
+    rows: &mut [u32],
+    records: &mut [u32],
+    notes: &mut [u8; 2048],
+    c: Cursor,
+) -> Step
+    requires { ⌜ Room (now kinds) (now rows) (now records) c ⌝ }
+    requires { ⌜ c .at < length (now kinds) ⌝ }
+    ensures { λ x. ⌜ Met (now (kinds .entry)) (now (flags .entry)) (now (rows .entry)) (now (records .entry)) (now (notes .entry)) (now (rows .exit)) (now (records .exit)) (now (notes .exit)) (Job.spread (c .at)) (c .rows) (c .records) x ⌝ }
+{
+    let at = c.at;
+    let next = Cursor {
+        at: at + 1,
+        rows: c.rows,
+        records: c.records,
+    };
+    let got = assign(kinds, flags, rows, records, notes, next);
+    let Step::Done(d) = got else {
+        return got;
+    };
+    Step::Done(over(rows, d, row::SPREAD, at, at, d.at, 1, c.rows))
+}
+
+// 13.2.4 ArrayLiteral: elements and holes up to the `]`.
+pub fn array(
+    kinds: &[u8],
+    flags: &[u8],
+    rows: &mut [u32],
+    records: &mut [u32],
+    notes: &mut [u8; 2048],
+    c: Cursor,
+) -> Step
+    requires { ⌜ Room (now kinds) (now rows) (now records) c ⌝ }
+    requires { ⌜ c .at < length (now kinds) ⌝ }
+    ensures { λ x. ⌜ Met (now (kinds .entry)) (now (flags .entry)) (now (rows .entry)) (now (records .entry)) (now (notes .entry)) (now (rows .exit)) (now (records .exit)) (now (notes .exit)) (Job.elements (c .at) (c .at + 1) Row.Array nil) (c .rows) (c .records) x ⌝ }
+{
+    let first = c.at;
+    let mut here = Cursor {
+        at: first + 1,
+        rows: c.rows,
+        records: c.records,
+    };
+    let mut kids = 0;
+    let mut kind = row::ARRAY;
+    let read = loop {
+        let at = here.at;
+        let k = tokens::kind_at(kinds, at);
+        if k == kind::R_BRACK {
+            break over(rows, here, kind, first, first, at + 1, kids, c.rows);
+        }
+        kind = row::ARRAY;
+        kids += 1;
+        if k == kind::COMMA {
+            here = leaf(rows, here, row::HOLE);
+            continue;
+        }
+        let got = item(kinds, flags, rows, records, notes, here);
+        let Step::Done(d) = got else {
+            return got;
+        };
+        let close = d.at;
+        let next = tokens::kind_at(kinds, close);
+        if next == kind::R_BRACK {
+            break over(rows, d, row::ARRAY, first, first, close + 1, kids, c.rows);
+        }
+        if next != kind::COMMA {
+            return Step::Fail(Cause::Unexpected(close));
+        }
+        here = Cursor {
+            at: close + 1,
+            rows: d.rows,
+            records: d.records,
+        };
+        if k == kind::DOT3 {
+            kind = row::ARRAY_REST_COMMA;
+        }
+    };
+    Step::Done(read)
+}
+
+// 13.2.5 ObjectLiteral: properties up to the `}`.
+pub fn object(
+    kinds: &[u8],
+    flags: &[u8],
+    rows: &mut [u32],
+    records: &mut [u32],
+    notes: &mut [u8; 2048],
+    c: Cursor,
+) -> Step
+    requires { ⌜ Room (now kinds) (now rows) (now records) c ⌝ }
+    requires { ⌜ c .at < length (now kinds) ⌝ }
+    ensures { λ x. ⌜ Met (now (kinds .entry)) (now (flags .entry)) (now (rows .entry)) (now (records .entry)) (now (notes .entry)) (now (rows .exit)) (now (records .exit)) (now (notes .exit)) (Job.properties (c .at) (c .at + 1) Row.Object nil) (c .rows) (c .records) x ⌝ }
+{
+    let first = c.at;
+    let mut here = Cursor {
+        at: first + 1,
+        rows: c.rows,
+        records: c.records,
+    };
+    let mut kids = 0;
+    let mut kind = row::OBJECT;
+    let read = loop {
+        let at = here.at;
+        let k = tokens::kind_at(kinds, at);
+        if k == kind::R_CURLY {
+            break over(rows, here, kind, first, first, at + 1, kids, c.rows);
+        }
+        kind = row::OBJECT;
+        kids += 1;
+        let got = part(kinds, flags, rows, records, notes, here);
+        let Step::Done(d) = got else {
+            return got;
+        };
+        let close = d.at;
+        let next = tokens::kind_at(kinds, close);
+        if next == kind::R_CURLY {
+            break over(rows, d, row::OBJECT, first, first, close + 1, kids, c.rows);
+        }
+        if next != kind::COMMA {
+            return Step::Fail(Cause::Unexpected(close));
+        }
+        here = Cursor {
+            at: close + 1,
+            rows: d.rows,
+            records: d.records,
+        };
+        if k == kind::DOT3 {
+            kind = row::OBJECT_REST_COMMA;
+        }
+    };
+    Step::Done(read)
+}
+
+// A part of an object literal: a spread or a property.
+pub fn part(
+    kinds: &[u8],
+    flags: &[u8],
+    rows: &mut [u32],
+    records: &mut [u32],
+    notes: &mut [u8; 2048],
+    c: Cursor,
+) -> Step
+    requires { ⌜ Room (now kinds) (now rows) (now records) c ⌝ }
+    requires { ⌜ c .rows < c .at ⌝ }
+    ensures { λ x. ⌜ Met (now (kinds .entry)) (now (flags .entry)) (now (rows .entry)) (now (records .entry)) (now (notes .entry)) (now (rows .exit)) (now (records .exit)) (now (notes .exit)) (if getD (now (kinds .entry)) (c .at) 0 is Dot3 then Job.spread (c .at) else Job.property (c .at)) (c .rows) (c .records) x ⌝ }
+{
+    if tokens::kind_at(kinds, c.at) == kind::DOT3 {
+        return spread(kinds, flags, rows, records, notes, c);
+    }
+    property(kinds, flags, rows, records, notes, c)
+}
+
+// 13.2.5 PropertyDefinition: a shorthand, or a key with its value.
+pub fn property(
+    kinds: &[u8],
+    flags: &[u8],
+    rows: &mut [u32],
+    records: &mut [u32],
+    notes: &mut [u8; 2048],
+    c: Cursor,
+) -> Step
+    requires { ⌜ Room (now kinds) (now rows) (now records) c ⌝ }
+    requires { ⌜ c .rows < c .at ⌝ }
+    ensures { λ x. ⌜ Met (now (kinds .entry)) (now (flags .entry)) (now (rows .entry)) (now (records .entry)) (now (notes .entry)) (now (rows .exit)) (now (records .exit)) (now (notes .exit)) (Job.property (c .at)) (c .rows) (c .records) x ⌝ }
+{
+    let at = c.at;
+    if keys::is_shorthand(kinds, at) {
+        let d = leaf(rows, c, row::IDENTIFIER);
+        if tokens::kind_at(kinds, at + 1) != kind::EQ {
+            return Step::Done(over(rows, d, row::SHORTHAND, at, at, at + 1, 1, c.rows));
+        }
+        return init(
+            kinds,
+            flags,
+            rows,
+            records,
+            notes,
+            d,
+            row::SHORTHAND_INIT,
+            c.rows,
+        );
+    }
+    let got = key(kinds, flags, rows, records, notes, c);
+    let Step::Done(d) = got else {
+        return got;
+    };
+    let colon = d.at;
+    if tokens::kind_at(kinds, colon) != kind::COLON {
+        return Step::Fail(Cause::Unexpected(colon));
+    }
+    let next = Cursor {
+        at: colon + 1,
+        rows: d.rows,
+        records: d.records,
+    };
+    let more = assign(kinds, flags, rows, records, notes, next);
+    let Step::Done(e) = more else {
+        return more;
+    };
+    Step::Done(over(rows, e, row::PROPERTY, at, at, e.at, 2, c.rows))
+}
+
+// A name's initializer, from its `=` on: the name's row stands at `from`, and its token just before.
+pub fn init(
+    kinds: &[u8],
+    flags: &[u8],
+    rows: &mut [u32],
+    records: &mut [u32],
+    notes: &mut [u8; 2048],
+    c: Cursor,
+    kind: u32,
+    from: usize,
+) -> Step
+    requires { ⌜ Room (now kinds) (now rows) (now records) c ⌝ }
+    requires { ⌜ NameFits (now kinds) c from ⌝ }
+    ensures { λ x. ⌜ MetInit (now (kinds .entry)) (now (flags .entry)) (now (rows .entry)) (now (records .entry)) (now (notes .entry)) (now (rows .exit)) (now (records .exit)) (now (notes .exit)) (c .at) kind from (c .rows) (c .records) x ⌝ }
+{
+    let mark = c.at;
+    let next = Cursor {
+        at: mark + 1,
+        rows: c.rows,
+        records: c.records,
+    };
+    let got = assign(kinds, flags, rows, records, notes, next);
+    let Step::Done(d) = got else {
+        return got;
+    };
+    Step::Done(over(rows, d, kind, mark, mark - 1, d.at, 2, from))
+}
+
+// 13.2.5 PropertyName: a word, a string, a number, or `[` an AssignmentExpression `]`.
+pub fn key(
+    kinds: &[u8],
+    flags: &[u8],
+    rows: &mut [u32],
+    records: &mut [u32],
+    notes: &mut [u8; 2048],
+    c: Cursor,
+) -> Step
+    requires { ⌜ Room (now kinds) (now rows) (now records) c ⌝ }
+    ensures { λ x. ⌜ Met (now (kinds .entry)) (now (flags .entry)) (now (rows .entry)) (now (records .entry)) (now (notes .entry)) (now (rows .exit)) (now (records .exit)) (now (notes .exit)) (Job.key (c .at)) (c .rows) (c .records) x ⌝ }
+{
+    let at = c.at;
+    let k = tokens::kind_at(kinds, at);
+    if keys::is_key(k) {
+        return Step::Done(leaf(rows, c, row::KEY));
+    }
+    if k != kind::L_BRACK {
+        return Step::Fail(Cause::Unexpected(at));
+    }
+    let next = Cursor {
+        at: at + 1,
+        rows: c.rows,
+        records: c.records,
+    };
+    let got = assign(kinds, flags, rows, records, notes, next);
+    let Step::Done(d) = got else {
+        return got;
+    };
+    let end = d.at;
+    if tokens::kind_at(kinds, end) != kind::R_BRACK {
+        return Step::Fail(Cause::Unexpected(end));
+    }
+    Step::Done(over(rows, d, row::COMPUTED_KEY, at, at, end + 1, 1, c.rows))
+}
+
+// 14.3.3 BindingPattern, or a BindingIdentifier.
+pub fn binding(
+    kinds: &[u8],
+    flags: &[u8],
+    rows: &mut [u32],
+    records: &mut [u32],
+    notes: &mut [u8; 2048],
+    c: Cursor,
+) -> Step
+    requires { ⌜ Room (now kinds) (now rows) (now records) c ⌝ }
+    ensures { λ x. ⌜ Met (now (kinds .entry)) (now (flags .entry)) (now (rows .entry)) (now (records .entry)) (now (notes .entry)) (now (rows .exit)) (now (records .exit)) (now (notes .exit)) (Job.binding (c .at)) (c .rows) (c .records) x ⌝ }
+{
+    let at = c.at;
+    let k = tokens::kind_at(kinds, at);
+    if tokens::is_name(k) {
+        return Step::Done(leaf(rows, c, row::BINDING_NAME));
+    }
+    match k {
+        kind::L_BRACK => barray(kinds, flags, rows, records, notes, c),
+        kind::L_CURLY => bobject(kinds, flags, rows, records, notes, c),
+        _ => Step::Fail(Cause::Unexpected(at)),
+    }
+}
+
+// 14.3.3 BindingElement: a binding with an optional initializer.
+pub fn element(
+    kinds: &[u8],
+    flags: &[u8],
+    rows: &mut [u32],
+    records: &mut [u32],
+    notes: &mut [u8; 2048],
+    c: Cursor,
+) -> Step
+    requires { ⌜ Room (now kinds) (now rows) (now records) c ⌝ }
+    ensures { λ x. ⌜ Met (now (kinds .entry)) (now (flags .entry)) (now (rows .entry)) (now (records .entry)) (now (notes .entry)) (now (rows .exit)) (now (records .exit)) (now (notes .exit)) (Job.binding-element (c .at)) (c .rows) (c .records) x ⌝ }
+{
+    let at = c.at;
+    let got = binding(kinds, flags, rows, records, notes, c);
+    let Step::Done(d) = got else {
+        return got;
+    };
+    let mark = d.at;
+    if tokens::kind_at(kinds, mark) != kind::EQ {
+        return got;
+    }
+    let next = Cursor {
+        at: mark + 1,
+        rows: d.rows,
+        records: d.records,
+    };
+    let more = assign(kinds, flags, rows, records, notes, next);
+    let Step::Done(e) = more else {
+        return more;
+    };
+    Step::Done(over(rows, e, row::BINDING_DEFAULT, mark, at, e.at, 2, c.rows))
+}
+
+// 14.3.3 BindingRestElement: an initializer is record 2 at its `=`.
+pub fn rest(
+    kinds: &[u8],
+    flags: &[u8],
+    rows: &mut [u32],
+    records: &mut [u32],
+    notes: &mut [u8; 2048],
+    c: Cursor,
+) -> Step
+    requires { ⌜ Room (now kinds) (now rows) (now records) c ⌝ }
+    requires { ⌜ c .at < length (now kinds) ⌝ }
+    ensures { λ x. ⌜ Met (now (kinds .entry)) (now (flags .entry)) (now (rows .entry)) (now (records .entry)) (now (notes .entry)) (now (rows .exit)) (now (records .exit)) (now (notes .exit)) (Job.binding-rest (c .at)) (c .rows) (c .records) x ⌝ }
+{
+    let at = c.at;
+    let next = Cursor {
+        at: at + 1,
+        rows: c.rows,
+        records: c.records,
+    };
+    let got = element(kinds, flags, rows, records, notes, next);
+    let Step::Done(d) = got else {
+        return got;
+    };
+    let root = d.rows - 1;
+    if rows::row_word(rows, root, 0) != row::BINDING_DEFAULT {
+        return Step::Done(over(rows, d, row::BINDING_REST, at, at, d.at, 1, c.rows));
+    }
+    let mark = rows::row_word(rows, root, 1) as usize;
+    let here = say(records, d, 2, mark);
+    Step::Done(over(rows, here, row::BINDING_REST, at, at, here.at, 1, c.rows))
+}
+
+// A rest and its closing token, or 12.
+pub fn last(
+    kinds: &[u8],
+    flags: &[u8],
+    rows: &mut [u32],
+    records: &mut [u32],
+    notes: &mut [u8; 2048],
+    c: Cursor,
+    close: u8,
+) -> Step
+    requires { ⌜ Room (now kinds) (now rows) (now records) c ⌝ }
+    requires { ⌜ c .at < length (now kinds) ⌝ }
+    ensures { λ x. ⌜ MetClosed (now (kinds .entry)) (now (flags .entry)) (now (rows .entry)) (now (records .entry)) (now (notes .entry)) (now (rows .exit)) (now (records .exit)) (now (notes .exit)) (Job.binding-rest (c .at)) close Cause.RestLast (c .rows) (c .records) x ⌝ }
+{
+    let got = rest(kinds, flags, rows, records, notes, c);
+    let Step::Done(d) = got else {
+        return got;
+    };
+    let end = d.at;
+    if tokens::kind_at(kinds, end) != close {
+        return Step::Fail(Cause::RestLast(end));
+    }
+    Step::Done(Cursor {
+        at: end + 1,
+        rows: d.rows,
+        records: d.records,
+    })
+}
+
+// 14.3.3 ArrayBindingPattern: elements, holes and a closing rest up to the `]`.
+pub fn barray(
+    kinds: &[u8],
+    flags: &[u8],
+    rows: &mut [u32],
+    records: &mut [u32],
+    notes: &mut [u8; 2048],
+    c: Cursor,
+) -> Step
+    requires { ⌜ Room (now kinds) (now rows) (now records) c ⌝ }
+    requires { ⌜ c .at < length (now kinds) ⌝ }
+    ensures { λ x. ⌜ Met (now (kinds .entry)) (now (flags .entry)) (now (rows .entry)) (now (records .entry)) (now (notes .entry)) (now (rows .exit)) (now (records .exit)) (now (notes .exit)) (Job.binding-elements (c .at) (c .at + 1) nil) (c .rows) (c .records) x ⌝ }
+{
+    let first = c.at;
+    let from = c.rows;
+    let mut here = Cursor {
+        at: first + 1,
+        rows: c.rows,
+        records: c.records,
+    };
+    let mut kids = 0;
+    let read = loop {
+        let at = here.at;
+        let k = tokens::kind_at(kinds, at);
+        if k == kind::R_BRACK {
+            break over(
+                rows,
+                here,
+                row::BINDING_ARRAY,
+                first,
+                first,
+                at + 1,
+                kids,
+                from,
+            );
+        }
+        kids += 1;
+        if k == kind::COMMA {
+            here = leaf(rows, here, row::HOLE);
+            continue;
+        }
+        if k == kind::DOT3 {
+            let got = last(kinds, flags, rows, records, notes, here, kind::R_BRACK);
+            let Step::Done(d) = got else {
+                return got;
+            };
+            break over(rows, d, row::BINDING_ARRAY, first, first, d.at, kids, from);
+        }
+        let got = element(kinds, flags, rows, records, notes, here);
+        let Step::Done(d) = got else {
+            return got;
+        };
+        let close = d.at;
+        let next = tokens::kind_at(kinds, close);
+        if next == kind::R_BRACK {
+            break over(
+                rows,
+                d,
+                row::BINDING_ARRAY,
+                first,
+                first,
+                close + 1,
+                kids,
+                from,
+            );
+        }
+        if next != kind::COMMA {
+            return Step::Fail(Cause::Unexpected(close));
+        }
+        here = Cursor {
+            at: close + 1,
+            rows: d.rows,
+            records: d.records,
+        };
+    };
+    Step::Done(read)
+}
+
+// 14.3.3 ObjectBindingPattern: properties and a closing rest of a bare name, or 11, up to the `}`.
+pub fn bobject(
+    kinds: &[u8],
+    flags: &[u8],
+    rows: &mut [u32],
+    records: &mut [u32],
+    notes: &mut [u8; 2048],
+    c: Cursor,
+) -> Step
+    requires { ⌜ Room (now kinds) (now rows) (now records) c ⌝ }
+    requires { ⌜ c .at < length (now kinds) ⌝ }
+    ensures { λ x. ⌜ Met (now (kinds .entry)) (now (flags .entry)) (now (rows .entry)) (now (records .entry)) (now (notes .entry)) (now (rows .exit)) (now (records .exit)) (now (notes .exit)) (Job.binding-properties (c .at) (c .at + 1) nil) (c .rows) (c .records) x ⌝ }
+{
+    let first = c.at;
+    let from = c.rows;
+    let mut here = Cursor {
+        at: first + 1,
+        rows: c.rows,
+        records: c.records,
+    };
+    let mut kids = 0;
+    let read = loop {
+        let at = here.at;
+        let k = tokens::kind_at(kinds, at);
+        if k == kind::R_CURLY {
+            break over(
+                rows,
+                here,
+                row::BINDING_OBJECT,
+                first,
+                first,
+                at + 1,
+                kids,
+                from,
+            );
+        }
+        kids += 1;
+        if k == kind::DOT3 {
+            let got = last(kinds, flags, rows, records, notes, here, kind::R_CURLY);
+            let Step::Done(d) = got else {
+                return got;
+            };
+            if rows::row_word(rows, d.rows - 2, 0) != row::BINDING_NAME {
+                return Step::Fail(Cause::RestName(at + 1));
+            }
+            break over(rows, d, row::BINDING_OBJECT, first, first, d.at, kids, from);
+        }
+        let got = bproperty(kinds, flags, rows, records, notes, here);
+        let Step::Done(d) = got else {
+            return got;
+        };
+        let close = d.at;
+        let next = tokens::kind_at(kinds, close);
+        if next == kind::R_CURLY {
+            break over(
+                rows,
+                d,
+                row::BINDING_OBJECT,
+                first,
+                first,
+                close + 1,
+                kids,
+                from,
+            );
+        }
+        if next != kind::COMMA {
+            return Step::Fail(Cause::Unexpected(close));
+        }
+        here = Cursor {
+            at: close + 1,
+            rows: d.rows,
+            records: d.records,
+        };
+    };
+    Step::Done(read)
+}
+
+// 14.3.3 BindingProperty: a shorthand, or a key with its element.
+pub fn bproperty(
+    kinds: &[u8],
+    flags: &[u8],
+    rows: &mut [u32],
+    records: &mut [u32],
+    notes: &mut [u8; 2048],
+    c: Cursor,
+) -> Step
+    requires { ⌜ Room (now kinds) (now rows) (now records) c ⌝ }
+    requires { ⌜ c .rows < c .at ⌝ }
+    ensures { λ x. ⌜ Met (now (kinds .entry)) (now (flags .entry)) (now (rows .entry)) (now (records .entry)) (now (notes .entry)) (now (rows .exit)) (now (records .exit)) (now (notes .exit)) (Job.binding-property (c .at)) (c .rows) (c .records) x ⌝ }
+{
+    let at = c.at;
+    if keys::is_shorthand(kinds, at) {
+        let d = leaf(rows, c, row::BINDING_NAME);
+        if tokens::kind_at(kinds, at + 1) != kind::EQ {
+            return Step::Done(over(rows, d, row::BINDING_SHORTHAND, at, at, at + 1, 1, c.rows));
+        }
+        return init(
+            kinds,
+            flags,
+            rows,
+            records,
+            notes,
+            d,
+            row::BINDING_SHORTHAND_INIT,
+            c.rows,
+        );
+    }
+    let got = key(kinds, flags, rows, records, notes, c);
+    let Step::Done(d) = got else {
+        return got;
+    };
+    let colon = d.at;
+    if tokens::kind_at(kinds, colon) != kind::COLON {
+        return Step::Fail(Cause::Unexpected(colon));
+    }
+    let next = Cursor {
+        at: colon + 1,
+        rows: d.rows,
+        records: d.records,
+    };
+    let more = element(kinds, flags, rows, records, notes, next);
+    let Step::Done(e) = more else {
+        return more;
+    };
+    Step::Done(over(rows, e, row::PROPERTY, at, at, e.at, 2, c.rows))
+}

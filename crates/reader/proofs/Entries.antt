@@ -1,0 +1,90 @@
+-- The two entries: each way out of them.
+-- Assumes nothing.
+use Prim.Native.Nat.{ℕ}
+use mathlib.Core.Path.{_≡_, refl, sym, subst, _∙_}
+use mathlib.Core.List.{List}
+use native.Mathlib.Omega.{arith}
+use lib.ListN.{length}
+use Rattle.tokens.specs.declared.cause.Cause.{Cause}
+use Rattle.tokens.specs.declared.cause.Answer.{Answer}
+use Rattle.tokens.specs.declared.check.Checked.{Checked}
+use Rattle.grammar.specs.Sheet.{Out}
+use Rattle.grammar.specs.Job.{Job}
+use Rattle.grammar.specs.Step as Step
+use Rattle.grammar.specs.Reading.{Whole, whole, refused, box, cleared, at-end, reading}
+use Rattle.grammar.specs.Entry.{answered, checked, entry}
+use Rattle.laws.specs.Owed.{pays-lasts}
+use Rattle.laws.specs.Bounds.{limits, reads}
+use Rattle.laws.specs.Rel.{looked-at}
+use Rattle.laws.specs.Abandoned.{fine-cleared, notes-stay}
+use Rattle.making.specs.Post.{cursor, sheet-of, Room, Met}
+use Rattle.making.specs.declared.cursor.Step as Made
+use Rattle.making.proofs.Ends.{moved}
+use Rattle.reader.specs.Entry.{Answers}
+use Rattle.reader.specs.Post.{Checks, Ready, Came, CameOut, Finished}
+use Rattle.reader.proofs.Checked.{ready}
+
+-- the list passes the checks: there is room to begin
+pub begins : {ks fs r s : List ℕ} {x : Checked} → Checks ks fs r s x → x ≡ Checked.Fine → Room ks r s (cursor 0 0 0)
+begins {ks} {fs} {r} {s} e q =
+    let h = ready ks fs r s (sym (e .found) ∙ q) in
+    record { short = h .short; wide = h .wide; deep = h .deep; inside = omega arith; few = omega arith; said = omega arith }
+
+-- and there still is
+pub ends : {ks fs r₀ s₀ r s : List ℕ} {x : Checked} → Checks ks fs r₀ s₀ x → x ≡ Checked.Fine → length r ≡ length r₀ → length s ≡ length s₀ → Ready ks r s
+ends {ks} {fs} {r₀} {s₀} e q u v =
+    let h = ready ks fs r₀ s₀ (sym (e .found) ∙ q) in
+    record { short = h .short; wide = omega (arith, h .wide); deep = omega (arith, h .deep) }
+
+-- what the nonterminal comes to
+pub outcome : Job → (ks fs : List ℕ) → Out (List ℕ)
+outcome job ks fs = Step.read (box (sheet-of ks fs)) (sheet-of ks fs) (Step.μ (sheet-of ks fs) job) job cleared
+
+-- a nonterminal of one tree, read from the first token on, came to what it comes to
+pub came : {ks fs r₀ s₀ r s m : List ℕ} {got : Made.Step} (job : Job) → looked-at job ≡ 0 → limits (sheet-of ks fs) job ≡ reads (sheet-of ks fs) 0 0 0
+    → Met ks fs r₀ s₀ cleared r s m job 0 0 got → Came ks r s m got (outcome job ks fs)
+unfolding outcome
+came {ks} {fs} {m = m} job start lone h =
+    record {
+      done-to = λ d e.
+          let g = h .done-to d e in
+          let a = g .comes .settles .with (Step.μ (sheet-of ks fs) job) (omega arith) in
+          let b = moved 0 g lone in
+          record {
+            trees = g .trees;
+            said = g .records;
+            outcome = a;
+            rows = record { used = g .made .grown .used; text = g .made .grown .text };
+            records = record { used = g .made .recorded .used; text = g .made .recorded .text };
+            few = omega (arith, b);
+            paid = omega (arith, b, pays-lasts (g .trees));
+            fine = notes-stay (sheet-of ks fs) job (omega (arith, start)) fine-cleared a;
+          };
+      fail-at = λ cause e. h .fail-at cause e .comes .settles .with (Step.μ (sheet-of ks fs) job) (omega arith);
+    }
+
+pub came-out : {ks fs r₀ s₀ r s m : List ℕ} {got : Made.Step} (job : Job) → looked-at job ≡ 0 → limits (sheet-of ks fs) job ≡ reads (sheet-of ks fs) 0 0 0
+    → Met ks fs r₀ s₀ cleared r s m job 0 0 got → CameOut ks r s m got
+came-out {ks} {fs} job start lone h = record { out = outcome job ks fs; came = came job start lone h }
+
+-- the list is refused by a check
+pub entry-refuses : {ks fs r s : List ℕ} {x : Checked} {cause : Cause} (job : Job) → Checks ks fs r s x → x ≡ Checked.Refused cause
+    → Answers (entry job (sheet-of ks fs) r s) r s (Answer.Refused cause)
+unfolding entry checked
+entry-refuses job e q = rw (sym (e .found) ∙ q) record { answer = refl; rows = refl; records = refl }
+
+-- only the lengths of the buffers matter for what is left in them
+same-answered : (r₀ s₀ r s : List ℕ) (w : Whole (List ℕ)) → length r ≡ length r₀ → length s ≡ length s₀ → answered r s w ≡ answered r₀ s₀ w
+unfolding answered
+same-answered r₀ s₀ r s (whole trees said notes) u v = rw (u, v)
+same-answered r₀ s₀ r s (refused cause) u v = rw (u, v)
+
+-- the list is read, or refused on the way
+pub entry-ends : {ks fs r₀ s₀ r₁ s₁ r s m : List ℕ} {x : Checked} {got : Made.Step} {answer : Answer} (job : Job) → looked-at job ≡ 0
+    → limits (sheet-of ks fs) job ≡ reads (sheet-of ks fs) 0 0 0 → Checks ks fs r₀ s₀ x → x ≡ Checked.Fine → Met ks fs r₀ s₀ cleared r₁ s₁ m job 0 0 got
+    → length r₁ ≡ length r₀ → length s₁ ≡ length s₀ → Finished ks r₁ s₁ m got r s answer → Answers (entry job (sheet-of ks fs) r₀ s₀) r s answer
+unfolding entry checked reading outcome
+entry-ends {ks} {fs} {r₀} {s₀} {r₁} {s₁} {r} {s} {answer = answer} job start lone e q h u v f =
+    rw (sym (e .found) ∙ q)
+    (subst (λ given. Answers given r s answer) (same-answered r₀ s₀ r₁ s₁ (at-end (length ks) (outcome job ks fs)) u v)
+    (f .answers (outcome job ks fs) (came job start lone h)))

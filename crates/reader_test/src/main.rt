@@ -1,0 +1,199 @@
+// What the reader answers, printed. `stdin` has sheets, each after twelve bytes: the entry (0 read, 1 pattern), what to print (1 the kinds of
+// the rows, 2 the records, 4 the abandoned count, 8 all words of the rows, 16 a sum over them), and five numbers, low byte first: how many
+// kinds and flags there are, how many words of rows and of records are lent, and 0.
+// tests/reader.py makes `stdin` and `stdout`; it was written from document 01 and shares nothing with the reader.
+ghost use Prim.Native.Nat.{_≤_, _<_};
+use tokens::cause::Answer;
+use tokens::cause::Counts;
+
+const STDOUT: i32 = 1;
+
+// Two bytes of a sheet's head as a number, or the limit where that is less.
+fn number(head: &[u8], at: usize, limit: usize) -> usize
+    requires { ⌜ at ≤ 12 ⌝ }
+    ensures { λ x. ⌜ x ≤ limit ⌝ }
+{
+    let low = tokens::kind_at(head, at) as usize;
+    let high = tokens::kind_at(head, at + 1) as usize;
+    let n = low + 256 * high;
+    if limit < n { limit } else { n }
+}
+
+fn print(label: &[u8], n: usize) {
+    io::write_all(STDOUT, label);
+    io::print_decimal(STDOUT, n as u64);
+}
+
+// A word of a list of words, counted in groups of six.
+fn word(words: &[u32], group: usize, at: usize) -> usize {
+    rows::row_word(words, group, at) as usize
+}
+
+// All words from a place on have this value.
+fn all(words: &[u32], from: usize, value: u32) -> bool {
+    let mut at = from;
+    while at < words.len() {
+        if words[at] != value {
+            return false;
+        }
+        at += 1;
+    }
+    true
+}
+
+// The kinds of the first n rows.
+fn print_kinds(rows: &[u32], n: usize) {
+    io::write_all(STDOUT, b" K");
+    let mut at: usize = 0;
+    while at < n {
+        print(b" ", word(rows, at, 0));
+        at += 1;
+    }
+}
+
+// The first n records, as number@place.
+fn print_records(records: &[u32], n: usize)
+    requires { ⌜ n ≤ 4096 ⌝ }
+{
+    io::write_all(STDOUT, b" R");
+    let mut at: usize = 0;
+    while at < n {
+        print(b" ", word(records, 0, 2 * at));
+        print(b"@", word(records, 0, 2 * at + 1));
+        at += 1;
+    }
+}
+
+// A row as the sheet program prints it.
+fn print_row(rows: &[u32], at: usize) {
+    print(b"\n", word(rows, at, 0));
+    print(b" ", word(rows, at, 1));
+    print(b" ", word(rows, at, 2));
+    print(b" ", word(rows, at, 3));
+    print(b" ", word(rows, at, 4));
+    print(b" ", word(rows, at, 5));
+}
+
+// The first n rows, a line each.
+fn print_rows(rows: &[u32], n: usize) {
+    let mut at: usize = 0;
+    while at < n {
+        print_row(rows, at);
+        at += 1;
+    }
+}
+
+// A sum over all words in which each place counts.
+fn print_sum(words: &[u32]) {
+    let mut sum: u64 = 7;
+    let mut at: usize = 0;
+    while at < words.len() {
+        sum = (sum * 31 + words[at] as u64) % 4294967291;
+        at += 1;
+    }
+    io::write_all(STDOUT, b" sum ");
+    io::print_decimal(STDOUT, sum);
+}
+
+// A bit of what is to be printed.
+fn asks(what: u8, bit: u8) -> bool {
+    what & bit != 0
+}
+
+// What was read, as much of it as is asked for.
+fn print_read(what: u8, counts: Counts, rows: &[u32], records: &[u32]) {
+    io::write_all(STDOUT, b"read");
+    if asks(what, 24) {
+        print(b" ", counts.rows);
+    }
+    if asks(what, 4) {
+        print(b" A ", counts.abandoned);
+    }
+    if asks(what, 1) {
+        print_kinds(rows, counts.rows);
+    }
+    if asks(what, 2) {
+        if counts.records <= 4096 {
+            print_records(records, counts.records);
+        }
+    }
+    if asks(what, 16) {
+        print_sum(rows);
+    }
+    if asks(what, 8) {
+        print_rows(rows, counts.rows);
+    }
+}
+
+// After a reading the words past the used ones are 0.
+fn print_rest(counts: Counts, rows: &[u32], records: &[u32]) {
+    if counts.rows <= 2048 {
+        if !all(rows, 6 * counts.rows, 0) {
+            io::write_all(STDOUT, b" rows left");
+        }
+    }
+    if counts.records <= 2048 {
+        if !all(records, 2 * counts.records, 0) {
+            io::write_all(STDOUT, b" records left");
+        }
+    }
+}
+
+// After a refusal both buffers hold what they held, or nothing.
+fn print_refused(cause: tokens::cause::Cause, rows: &[u32], records: &[u32]) {
+    let number = tokens::cause::number_of(cause);
+    print(b"refused ", number as usize);
+    print(b" ", tokens::cause::place_of(cause));
+    let value: u32 = if number < 8 { 9 } else { 0 };
+    if !all(rows, 0, value) {
+        io::write_all(STDOUT, b" rows left");
+    }
+    if !all(records, 0, value) {
+        io::write_all(STDOUT, b" records left");
+    }
+}
+
+fn print_answer(what: u8, answer: Answer, rows: &[u32], records: &[u32]) {
+    match answer {
+        Answer::Read(counts) => {
+            print_read(what, counts, rows, records);
+            print_rest(counts, rows, records);
+        }
+        Answer::Refused(cause) => {
+            print_refused(cause, rows, records);
+        }
+    }
+    io::write_all(STDOUT, b"\n");
+}
+
+// Reads the next sheet, in buffers that hold 9 in every word, and prints what comes of it.
+fn print_sheet(head: &[u8]) {
+    let mut kinds = io::buffer();
+    let mut flags = io::buffer();
+    let mut rows = [9u32; 12300];
+    let mut records = [9u32; 4100];
+    let n = number(head, 2, 4096);
+    let m = number(head, 4, 4096);
+    let r = number(head, 6, 12300);
+    let s = number(head, 8, 4100);
+    io::read_full(0, &mut kinds[..n]);
+    io::read_full(0, &mut flags[..m]);
+    let answer = if tokens::kind_at(head, 0) == 1 {
+        reader::pattern(&kinds[..n], &flags[..m], &mut rows[..r], &mut records[..s])
+    } else {
+        reader::read(&kinds[..n], &flags[..m], &mut rows[..r], &mut records[..s])
+    };
+    print_answer(tokens::kind_at(head, 1), answer, &rows[..r], &records[..s]);
+}
+
+fn main() {
+    let mut head = [0u8; 12];
+    let mut left: usize = 4096;
+    while 0 < left {
+        if io::read_full(0, &mut head) < 12 {
+            return;
+        }
+        print_sheet(&head);
+        left -= 1;
+    }
+}
