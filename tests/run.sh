@@ -23,5 +23,7 @@ made crates/tokens_test/stdout tests/tokens.py
 made crates/operators_test/stdout tests/operators.py
 made crates/lookahead_test/stdin tests/lookahead.py --input
 made crates/lookahead_test/stdout tests/lookahead.py
+made crates/reader_test/stdin tests/reader.py --input
+made crates/reader_test/stdout tests/reader.py
 
 exec rt ci </dev/null

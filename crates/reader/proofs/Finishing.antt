@@ -18,7 +18,7 @@ use Rattle.grammar.specs.Reading.{noted-places, unconverteds, at-end}
 use Rattle.grammar.specs.Entry.{padded, answered}
 use Rattle.making.specs.declared.cursor.Cursor.{Cursor}
 use Rattle.making.specs.declared.cursor.Step.{Step}
-use Rattle.reader.specs.Post.{unconverted-rows, LastRoom, Ready, CameOut, Finished}
+use Rattle.reader.specs.Post.{unconverted-rows, LastRoom, Ready, CameOut, Emptied, Finished}
 use Rattle.reader.proofs.Last.{grown-unconverted}
 
 -- the rows, or the records, and then zeros
@@ -42,16 +42,18 @@ same-counts : {a b c a′ b′ c′ : ℕ} → a ≡ a′ → b ≡ b′ → c �
 same-counts p q s = cc
 
 module _ {ks r₀ s₀ m : List ℕ} {got : Step} where
-  pub finish-fails : {r s : List ℕ} {cause : Cause} → got ≡ Step.Fail cause → Cleared r₀ 0 r → Cleared s₀ 0 s → Finished ks r₀ s₀ m got r s (Answer.Refused cause)
+  pub finish-fails : {r s : List ℕ} {cause : Cause} {x : Answer} → got ≡ Step.Fail cause → Emptied r₀ s₀ cause r s x → Finished ks r₀ s₀ m got r s x
   unfolding answered at-end
-  finish-fails e a b = record { answers = λ out h. rw (h .fail-at _ e) record { answer = refl; rows = cleared-all a; records = cleared-all b } }
+  finish-fails e c = record { answers = λ out h. rw (h .fail-at _ e) record { answer = c .answer; rows = cleared-all (c .rows); records = cleared-all (c .records) } }
 
   -- something follows
-  pub finish-follows : {r s : List ℕ} {d : Cursor} → got ≡ Step.Done d → (d .at ≡ length ks → ⊥) → Cleared r₀ 0 r → Cleared s₀ 0 s
-      → Finished ks r₀ s₀ m got r s (Answer.Refused (Cause.Unexpected (d .at)))
+  pub finish-follows : {r s : List ℕ} {d : Cursor} {x : Answer} → got ≡ Step.Done d → (d .at ≡ length ks → ⊥) → Emptied r₀ s₀ (Cause.Unexpected (d .at)) r s x
+      → Finished ks r₀ s₀ m got r s x
   unfolding answered at-end
-  finish-follows e t a b =
-      record { answers = λ out h. rw (h .done-to _ e .outcome, ne-eqb _ _ t) record { answer = refl; rows = cleared-all a; records = cleared-all b } }
+  finish-follows e t c =
+      record {
+        answers = λ out h. rw (h .done-to _ e .outcome, ne-eqb _ _ t) record { answer = c .answer; rows = cleared-all (c .rows); records = cleared-all (c .records) };
+      }
 
   -- what the last pass asks
   pub last-room : {d : Cursor} → Ready ks r₀ s₀ → CameOut ks r₀ s₀ m got → got ≡ Step.Done d → LastRoom r₀ (length s₀) (d .rows) (d .records)

@@ -2,3 +2,4 @@ pub mod Checked
 pub mod Last
 pub mod Finishing
 pub mod Entries
+pub mod Once

@@ -12,7 +12,7 @@ use Rattle.tokens.specs.declared.check.Checked.{Checked}
 use Rattle.rows.specs.Tree.{Forest}
 use Rattle.rows.specs.Row as Row
 use Rattle.rows.specs.Record.{Record, shorthand-initializer}
-use Rattle.rows.specs.Post.{Grown, GrownRecords}
+use Rattle.rows.specs.Post.{Cleared, Grown, GrownRecords}
 use Rattle.grammar.specs.Sheet.{Out, done, fail}
 use Rattle.grammar.specs.Reading.{unconverteds, at-end}
 use Rattle.grammar.specs.Entry.{checks, answered}
@@ -74,6 +74,12 @@ pub record Came (ks r s m : List ℕ) (got : Step) (out : Out (List ℕ)) : Type
 pub record CameOut (ks r s m : List ℕ) (got : Step) : Type 0 where
   pub out : Out (List ℕ)
   pub came : Came ks r s m got out
+
+-- both buffers are all 0, and the answer is this refusal
+pub record Emptied (r₀ s₀ : List ℕ) (cause : Cause) (r s : List ℕ) (x : Answer) : Type 0 where
+  pub rows : Cleared r₀ 0 r
+  pub records : Cleared s₀ 0 s
+  pub answer : x ≡ Answer.Refused cause
 
 -- whatever it came to: the answer, and both buffers, are as the definition has them at the end
 pub record Finished (ks r₀ s₀ m : List ℕ) (got : Step) (r s : List ℕ) (x : Answer) : Type 0 where

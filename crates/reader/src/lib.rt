@@ -8,8 +8,7 @@ ghost use Rattle.grammar.specs.Entry.{check-row-room, check-record-room, read-e
 ghost use Rattle.laws.specs.Abandoned.{Fine};
 ghost use Rattle.making.specs.Post.{sheet-of};
 ghost use Rattle.reader.specs.Entry.{Answers};
-ghost use Rattle.reader.specs.Post.{unconverted-row, unconverted-rows, LastRowRoom, LastRoom, Checks, Ready, CameOut, Finished};
-
+ghost use Rattle.reader.specs.Post.{unconverted-row, unconverted-rows, LastRowRoom, LastRoom, Checks, Ready, CameOut, Emptied, Finished};
 use making::cursor::Cursor;
 use making::cursor::Step;
 use tokens::cause::Answer;
@@ -111,6 +110,15 @@ fn unconverted(rows: &[u32], records: &mut [u32], n: usize, used: usize) -> usiz
     here
 }
 
+// A refusal 8 to 12: every word of both buffers is 0.
+fn refuse(rows: &mut [u32], records: &mut [u32], cause: Cause) -> Answer
+    ensures { λ x. ⌜ Emptied (now (rows .entry)) (now (records .entry)) cause (now (rows .exit)) (now (records .exit)) x ⌝ }
+{
+    rows::clear_from(rows, 0);
+    rows::clear_from(records, 0);
+    Answer::Refused(cause)
+}
+
 // What is left when a reading ends: refused, every word of both buffers is 0; read, the words past the used ones are 0.
 fn finish(
     kinds: &[u8],
@@ -124,17 +132,11 @@ fn finish(
     ensures { λ x. ⌜ Finished (now (kinds .entry)) (now (rows .entry)) (now (records .entry)) (now (notes .entry)) got (now (rows .exit)) (now (records .exit)) x ⌝ }
 {
     match got {
-        Step::Fail(cause) => {
-            rows::clear_from(rows, 0);
-            rows::clear_from(records, 0);
-            Answer::Refused(cause)
-        }
+        Step::Fail(cause) => refuse(rows, records, cause),
         Step::Done(d) => {
             let end = d.at;
             if end != kinds.len() {
-                rows::clear_from(rows, 0);
-                rows::clear_from(records, 0);
-                return Answer::Refused(Cause::Unexpected(end));
+                return refuse(rows, records, Cause::Unexpected(end));
             }
             let n = d.rows;
             let used = unconverted(rows, records, n, d.records);
@@ -157,7 +159,7 @@ pub fn read(kinds: &[u8], flags: &[u8], rows: &mut [u32], records: &mut [u32]) -
     match checked {
         Checked::Refused(cause) => Answer::Refused(cause),
         Checked::Fine => {
-            let mut notes = [0u8; 2048];
+            let mut notes = [0u8; 2048]; // no head of the sheet has failed yet
             let start = Cursor {
                 at: 0,
                 rows: 0,
@@ -177,7 +179,7 @@ pub fn pattern(kinds: &[u8], flags: &[u8], rows: &mut [u32], records: &mut [u32]
     match checked {
         Checked::Refused(cause) => Answer::Refused(cause),
         Checked::Fine => {
-            let mut notes = [0u8; 2048];
+            let mut notes = [0u8; 2048]; // no head of an initializer has failed yet
             let start = Cursor {
                 at: 0,
                 rows: 0,

@@ -25,7 +25,9 @@ fn print(label: &[u8], n: usize) {
 }
 
 // A word of a list of words, counted in groups of six.
-fn word(words: &[u32], group: usize, at: usize) -> usize {
+fn word(words: &[u32], group: usize, at: usize) -> usize
+    ensures { λ x. ⌜ x < 4294967296 ⌝ }
+{
     rows::row_word(words, group, at) as usize
 }
 
@@ -85,14 +87,13 @@ fn print_rows(rows: &[u32], n: usize) {
 
 // A sum over all words in which each place counts.
 fn print_sum(words: &[u32]) {
-    let mut sum: u64 = 7;
+    let mut sum: usize = 7;
     let mut at: usize = 0;
     while at < words.len() {
-        sum = (sum * 31 + words[at] as u64) % 4294967291;
+        sum = (sum * 31 + word(words, 0, at)) % 4294967291;
         at += 1;
     }
-    io::write_all(STDOUT, b" sum ");
-    io::print_decimal(STDOUT, sum);
+    print(b" sum ", sum);
 }
 
 // A bit of what is to be printed.
@@ -166,6 +167,44 @@ fn print_answer(what: u8, answer: Answer, rows: &[u32], records: &[u32]) {
     io::write_all(STDOUT, b"\n");
 }
 
+// The next n bytes of the input.
+fn fill(bytes: &mut [u8], n: usize) {
+    if n <= bytes.len() {
+        io::read_full(0, &mut bytes[..n]);
+    }
+}
+
+// The first n of a list, or all of it.
+fn part(list: &[u8], n: usize) -> &[u8] {
+    if list.len() < n {
+        return list;
+    }
+    &list[..n]
+}
+
+// Reads kinds and flags in buffers of exactly so many words, and prints what comes of it.
+fn print_reading(head: &[u8], kinds: &[u8], flags: &[u8], rows: &mut [u32], records: &mut [u32]) {
+    let what = tokens::kind_at(head, 1);
+    if tokens::kind_at(head, 0) == 1 {
+        let answer = reader::pattern(kinds, flags, rows, records);
+        print_answer(what, answer, rows, records);
+        return;
+    }
+    let answer = reader::read(kinds, flags, rows, records);
+    print_answer(what, answer, rows, records);
+}
+
+// The same, of longer buffers.
+fn print_lent(head: &[u8], kinds: &[u8], flags: &[u8], rows: &mut [u32], records: &mut [u32]) {
+    let r = number(head, 6, 12300);
+    let s = number(head, 8, 4100);
+    if r <= rows.len() {
+        if s <= records.len() {
+            print_reading(head, kinds, flags, &mut rows[..r], &mut records[..s]);
+        }
+    }
+}
+
 // Reads the next sheet, in buffers that hold 9 in every word, and prints what comes of it.
 fn print_sheet(head: &[u8]) {
     let mut kinds = io::buffer();
@@ -174,26 +213,33 @@ fn print_sheet(head: &[u8]) {
     let mut records = [9u32; 4100];
     let n = number(head, 2, 4096);
     let m = number(head, 4, 4096);
-    let r = number(head, 6, 12300);
-    let s = number(head, 8, 4100);
-    io::read_full(0, &mut kinds[..n]);
-    io::read_full(0, &mut flags[..m]);
-    let answer = if tokens::kind_at(head, 0) == 1 {
-        reader::pattern(&kinds[..n], &flags[..m], &mut rows[..r], &mut records[..s])
-    } else {
-        reader::read(&kinds[..n], &flags[..m], &mut rows[..r], &mut records[..s])
-    };
-    print_answer(tokens::kind_at(head, 1), answer, &rows[..r], &records[..s]);
+    fill(&mut kinds, n);
+    fill(&mut flags, m);
+    print_lent(
+        head,
+        part(&kinds, n),
+        part(&flags, m),
+        &mut rows,
+        &mut records,
+    );
+}
+
+// The next sheet of the input, if there is one.
+fn next_sheet() -> bool {
+    let mut head = [0u8; 12];
+    if io::read_full(0, &mut head) < 12 {
+        return false;
+    }
+    print_sheet(&head);
+    true
 }
 
 fn main() {
-    let mut head = [0u8; 12];
     let mut left: usize = 4096;
     while 0 < left {
-        if io::read_full(0, &mut head) < 12 {
+        if !next_sheet() {
             return;
         }
-        print_sheet(&head);
         left -= 1;
     }
 }

@@ -94,4 +94,4 @@ unfolding checks
 returns-7 c = record { found = rw ((sym (c .before .before .before .before .before .before .before .before .before .before .before .before .before .before .before .before .before .before .check-length .ensures) ∙ c .before .before .before .before .before .before .before .before .before .before .before .before .before .before .before .before .enum-told .given .1), (sym (c .before .before .before .before .before .before .before .before .before .before .before .before .before .before .before .check-flag-length .ensures) ∙ c .before .before .before .before .before .before .before .before .before .before .before .before .before .enum-told3 .given .1), (sym (c .before .before .before .before .before .before .before .before .before .before .before .before .check-row-room .ensures) ∙ c .before .before .before .before .before .before .before .before .before .before .enum-told5 .given .1), (sym (c .before .before .before .before .before .before .before .before .before .check-record-room .ensures) ∙ c .before .before .before .before .before .before .before .enum-told7 .given .1), (sym (c .before .before .before .before .before .before .check-flags .ensures) ∙ c .before .before .before .before .enum-told9 .given .1), (sym (c .before .before .before .check-kinds .ensures) ∙ c .before .enum-told11 .given .1)) (c .check-nesting .ensures) }
 
 pub check-spec : {M : Type 1} → statement M
-check-spec = tie.close (tie.spec  check-length-requires enum-told enum-told-2 returns check-flag-length-requires enum-told-3 enum-told-4 returns-2 check-row-room-requires enum-told-5 enum-told-6 returns-3 check-record-room-requires enum-told-7 enum-told-8 returns-4 check-flags-requires enum-told-9 enum-told-10 returns-5 check-kinds-requires enum-told-11 enum-told-12 returns-6 check-nesting-requires returns-7)
+check-spec = tie.close (tie.spec check-length-requires enum-told enum-told-2 returns check-flag-length-requires enum-told-3 enum-told-4 returns-2 check-row-room-requires enum-told-5 enum-told-6 returns-3 check-record-room-requires enum-told-7 enum-told-8 returns-4 check-flags-requires enum-told-9 enum-told-10 returns-5 check-kinds-requires enum-told-11 enum-told-12 returns-6 check-nesting-requires returns-7)

@@ -19,4 +19,4 @@ unfolding check-record-room
 returns-2 c = rw (le-ltb _ _ (c .if1 .left))
 
 pub check-record-room-spec : {M : Type 1} → statement M
-check-record-room-spec = tie.close (tie.spec  mul-if1 returns returns-2)
+check-record-room-spec = tie.close (tie.spec mul-if1 returns returns-2)

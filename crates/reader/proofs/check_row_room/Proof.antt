@@ -19,4 +19,4 @@ unfolding check-row-room
 returns-2 c = rw (le-ltb _ _ (c .if1 .left))
 
 pub check-row-room-spec : {M : Type 1} → statement M
-check-row-room-spec = tie.close (tie.spec  mul-if1 returns returns-2)
+check-row-room-spec = tie.close (tie.spec mul-if1 returns returns-2)

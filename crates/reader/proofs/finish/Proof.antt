@@ -9,29 +9,23 @@ use Rattle.reader.proofs.finish.Tie as tie
 enum-known-got : tie.Need-enum-known-got
 enum-known-got c = search needs
 
-clear-from-requires : tie.Need-clear-from-requires
-clear-from-requires c κs = search needs
-
-clear-from-requires-2 : tie.Need-clear-from-requires-2
-clear-from-requires-2 c κs = search needs
+refuse-requires : tie.Need-refuse-requires
+refuse-requires c κs = search needs
 
 enum-known-got-2 : tie.Need-enum-known-got-2
 enum-known-got-2 c = search needs
 
-clear-from-requires-3 : tie.Need-clear-from-requires-3
-clear-from-requires-3 c κs = search needs
-
-clear-from-requires-4 : tie.Need-clear-from-requires-4
-clear-from-requires-4 c κs = search needs
+refuse-requires-2 : tie.Need-refuse-requires-2
+refuse-requires-2 c κs = search needs
 
 same-length : tie.Need-same-length
-same-length c = omega (arith, c .before .before .before .before .before .before .clear-from3 .kept, c .before .before .clear-from4 .kept)
+same-length c = omega (arith, c .before .before .before .before .refuse2 .kept)
 
 same-length-2 : tie.Need-same-length-2
-same-length-2 c = omega (arith, c .before .before .before .before .before .before .clear-from3 .kept, c .before .before .clear-from4 .kept)
+same-length-2 c = omega (arith, c .before .before .before .before .refuse2 .kept)
 
 returns : tie.Need-returns
-returns c = finish-follows (c .before .before .before .before .before .before .before .before .before .before .got2 .given .1) (c .before .before .before .before .before .before .before .before .if1 .taken) (c .before .before .before .before .before .before .clear-from3 .ensures) (c .before .before .clear-from4 .ensures)
+returns c = finish-follows (c .before .before .before .before .before .before .before .before .before .got2 .given .1) (c .before .before .before .before .before .before .before .if1 .taken) (c .before .before .before .before .refuse2 .ensures)
 
 unconverted-requires : tie.Need-unconverted-requires
 unconverted-requires c κs = (last-room (c .before .before .before .before .before .before .before .before .before .pre .0) (c .before .before .before .before .before .before .before .before .before .pre .1) (c .before .before .before .before .got2 .given .1))
@@ -39,35 +33,35 @@ unconverted-requires c κs = (last-room (c .before .before .before .before .befo
 mul-clear-from : tie.Need-mul-clear-from
 mul-clear-from c = omega (arith, (last-room (c .before .before .before .before .before .before .before .before .before .before .before .before .before .pre .0) (c .before .before .before .before .before .before .before .before .before .before .before .before .before .pre .1) (c .before .before .before .before .before .before .before .before .got2 .given .1)))
 
-clear-from-requires-5 : tie.Need-clear-from-requires-5
-clear-from-requires-5 c κs = search needs
+clear-from-requires : tie.Need-clear-from-requires
+clear-from-requires c κs = search needs
 
 mul-clear-from-2 : tie.Need-mul-clear-from-2
 mul-clear-from-2 c = omega (arith, (last-room (c .before .before .before .before .before .before .before .before .before .before .before .before .before .before .before .before .before .pre .0) (c .before .before .before .before .before .before .before .before .before .before .before .before .before .before .before .before .before .pre .1) (c .before .before .before .before .before .before .before .before .before .before .before .before .got2 .given .1)), c .before .before .before .before .before .before .before .unconverted .ensures)
 
-clear-from-requires-6 : tie.Need-clear-from-requires-6
-clear-from-requires-6 c κs = search needs
+clear-from-requires-2 : tie.Need-clear-from-requires-2
+clear-from-requires-2 c κs = search needs
 
 noted-requires : tie.Need-noted-requires
 noted-requires c κs = c .before .before .before .before .before .before .before .before .before .before .before .before .before .before .before .before .before .before .before .before .pre .1 .came .done-to _ (c .before .before .before .before .before .before .before .before .before .before .before .before .before .before .before .got2 .given .1) .fine
 
 same-length-3 : tie.Need-same-length-3
-same-length-3 c = omega (arith, c .before .before .before .before .before .before .clear-from .kept, c .before .before .clear-from2 .kept)
+same-length-3 c = omega (arith, c .before .before .before .before .refuse .kept)
 
 same-length-4 : tie.Need-same-length-4
-same-length-4 c = omega (arith, c .before .before .before .before .before .before .clear-from .kept, c .before .before .clear-from2 .kept)
+same-length-4 c = omega (arith, c .before .before .before .before .refuse .kept)
 
 returns-2 : tie.Need-returns-2
-returns-2 c = finish-fails (c .before .before .before .before .before .before .before .before .before .got .given .1) (c .before .before .before .before .before .before .clear-from .ensures) (c .before .before .clear-from2 .ensures)
+returns-2 c = finish-fails (c .before .before .before .before .before .before .before .before .got .given .1) (c .before .before .before .before .refuse .ensures)
 
 same-length-5 : tie.Need-same-length-5
-same-length-5 c = omega (arith, c .before .before .before .before .before .before .before .clear-from5 .kept, c .before .before .before .clear-from6 .kept, c .before .before .before .before .before .before .before .before .before .before .before .unconverted .kept)
+same-length-5 c = omega (arith, c .before .before .before .before .before .before .before .clear-from .kept, c .before .before .before .clear-from2 .kept, c .before .before .before .before .before .before .before .before .before .before .before .unconverted .kept)
 
 same-length-6 : tie.Need-same-length-6
-same-length-6 c = omega (arith, c .before .before .before .before .before .before .before .clear-from5 .kept, c .before .before .before .clear-from6 .kept, c .before .before .before .before .before .before .before .before .before .before .before .unconverted .kept)
+same-length-6 c = omega (arith, c .before .before .before .before .before .before .before .clear-from .kept, c .before .before .before .clear-from2 .kept, c .before .before .before .before .before .before .before .before .before .before .before .unconverted .kept)
 
 returns-3 : tie.Need-returns-3
-returns-3 c = finish-reads (c .before .before .before .before .before .before .before .before .before .before .before .before .before .before .before .before .got2 .given .1) (c .before .before .before .before .before .before .before .before .before .before .before .before .before .before .if1 .left) (c .before .before .before .before .before .before .before .before .before .before .before .unconverted .ensures) (c .before .before .before .before .before .before .before .before .before .before .before .unconverted .kept .1 .0) (c .before .before .before .before .before .before .before .clear-from5 .ensures) (c .before .before .before .clear-from6 .ensures) (c .noted .ensures)
+returns-3 c = finish-reads (c .before .before .before .before .before .before .before .before .before .before .before .before .before .before .before .before .got2 .given .1) (c .before .before .before .before .before .before .before .before .before .before .before .before .before .before .if1 .left) (c .before .before .before .before .before .before .before .before .before .before .before .unconverted .ensures) (c .before .before .before .before .before .before .before .before .before .before .before .unconverted .kept .1 .0) (c .before .before .before .before .before .before .before .clear-from .ensures) (c .before .before .before .clear-from2 .ensures) (c .noted .ensures)
 
 pub finish-spec : {M : Type 1} → statement M
-finish-spec = tie.close (tie.spec  enum-known-got clear-from-requires clear-from-requires-2 enum-known-got-2 clear-from-requires-3 clear-from-requires-4 same-length same-length-2 returns unconverted-requires mul-clear-from clear-from-requires-5 mul-clear-from-2 clear-from-requires-6 noted-requires same-length-3 same-length-4 returns-2 same-length-5 same-length-6 returns-3)
+finish-spec = tie.close (tie.spec enum-known-got refuse-requires enum-known-got-2 refuse-requires-2 same-length same-length-2 returns unconverted-requires mul-clear-from clear-from-requires mul-clear-from-2 clear-from-requires-2 noted-requires same-length-3 same-length-4 returns-2 same-length-5 same-length-6 returns-3)

@@ -42,4 +42,4 @@ returns-2 : tie.Need-returns-2
 returns-2 c = entry-ends (expression 0) refl refl (c .before .before .before .before .before .before .before .before .before .before .before .before .before .before .before .before .before .before .check .ensures) (c .before .before .before .before .before .before .before .before .before .before .before .before .before .before .before .before .enum-told .given .1) (c .before .before .before .before .before .before .before .before .before .before .before .before .comma .ensures) (c .before .before .before .before .before .before .before .before .before .before .before .before .comma .kept .1 .1 .0) (c .before .before .before .before .before .before .before .before .before .before .before .before .comma .kept .1 .1 .1 .0) (c .before .before .before .before .finish .ensures)
 
 pub read-spec : {M : Type 1} → statement M
-read-spec = tie.close (tie.spec  check-requires enum-known-checked enum-told comma-requires finish-requires same-length same-length-2 returns same-length-3 same-length-4 returns-2)
+read-spec = tie.close (tie.spec check-requires enum-known-checked enum-told comma-requires finish-requires same-length same-length-2 returns same-length-3 same-length-4 returns-2)

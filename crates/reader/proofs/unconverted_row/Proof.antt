@@ -31,4 +31,4 @@ returns-2 : tie.Need-returns-2
 returns-2 c = said (c .before .before .before .before .before .before .row-word .ensures) (c .before .before .before .before .before .if1 .left) (c .before .before .before .before .row-word2 .ensures) (c .before .before .push-record .ensures)
 
 pub unconverted-row-spec : {M : Type 1} → statement M
-unconverted-row-spec = tie.close (tie.spec  row-word-requires returns row-word-requires-2 cast-push-record push-record-requires add-result same-length returns-2)
+unconverted-row-spec = tie.close (tie.spec row-word-requires returns row-word-requires-2 cast-push-record push-record-requires add-result same-length returns-2)
