@@ -91,7 +91,12 @@ pub fn assign(
                 }
                 Listed::Fail(_) => {
                     notes[at] = 1;
-                    value(kinds, flags, rows, records, notes, c)
+                    let again = Cursor {
+                        at,
+                        rows: c.rows,
+                        records: c.records,
+                    };
+                    value(kinds, flags, rows, records, notes, again)
                 }
             }
         }
