@@ -1,0 +1,427 @@
+-- Brackets: whatever is derived has its brackets in pairs, and a bracket has one partner. So an expression that begins at `(` or Async and is not followed by `=>`
+-- leaves no room for an arrow function's head there.
+-- Assumes nothing.
+use Prim.Native.Nat.{ℕ, zero, suc, _+_, _≤_, _<_}
+use mathlib.Core.Path.{_≡_, refl, sym, ap, _∙_, subst}
+use mathlib.Core.Bool.{Bool, true, false}
+use native.Mathlib.Omega.{arith}
+use native.Mathlib.Decide.{ℕ-discrete}
+use lib.Dec.{eqb, leb}
+use borrow.Author.Tests.{eqb-true, ne-eqb, eq-eqb, le-leb}
+use Rattle.tokens.specs.Bool.{_is_, _or_, if_then_else_, between}
+use Rattle.tokens.specs.Kind.{Async, LParen, RParen, LBrack, RBrack, LCurly, RCurly, Dot, Arrow}
+use Rattle.tokens.specs.Token.{is-name, is-word, is-literal}
+use Rattle.operators.specs.Precedence.{level, expression-level}
+use Rattle.rows.specs.Tree.{Forest}
+use Rattle.grammar.specs.Sheet.{Sheet, token}
+use Rattle.standard.specs.Derives as D
+use Rattle.standard.specs.Derives.{Tok, Of, SameLine, Operator, is-key, is-prefix, is-update, is-compound, Chain, Nonterminal, PrimaryExpression, ArrayLiteral, ObjectLiteral, ChainExpression, Arguments, LeftHandSideExpression, UpdateExpression, UnaryExpression, TierExpression, CoalesceExpression, ShortCircuitExpression, SimpleTarget, AssignmentPattern, DestructuringAssignmentTarget, ArrowFormalParameters, Width, Derives}
+use Rattle.standard.specs.Roots.{not-both}
+use Rattle.standard.specs.Sound.{Head, plain-head, async-head}
+
+-- 1 opens, 2 closes, 0 neither
+unfoldable pub side-of : ℕ → ℕ
+side-of k =
+    if k is LParen then 1 else if k is LBrack then 1 else if k is LCurly then 1
+    else if k is RParen then 2 else if k is RBrack then 2 else if k is RCurly then 2 else 0
+
+pub record Side (s : Sheet) (at n : ℕ) : Type 0 where
+  pub side-is : side-of (token s at) ≡ n
+
+pub side : {s : Sheet} {at k : ℕ} → Tok s at k → Side s at (side-of k)
+side t = record { side-is = ap side-of (t .kind-is) }
+
+-- a token for which a test holds that holds of no bracket
+flat : {s : Sheet} {at : ℕ} (test : ℕ → Bool) → test LParen ≡ false → test RParen ≡ false → test LBrack ≡ false → test RBrack ≡ false → test LCurly ≡ false → test RCurly ≡ false
+    → test (token s at) ≡ true → Side s at 0
+unfolding side-of
+flat {s} {at} test a b c d e f t = record { side-is = rw (differs LParen a, differs RParen b, differs LBrack c, differs RBrack d, differs LCurly e, differs RCurly f) }
+  where
+    differs : (k : ℕ) → test k ≡ false → token s at is k ≡ false
+    differs k h = ne-eqb (token s at) k (λ q. not-both (ap test (sym q) ∙ t) h)
+
+module _ {s : Sheet} {at : ℕ} where
+  name-side : Of is-name s at → Side s at 0
+  unfolding is-name
+  name-side t = flat is-name refl refl refl refl refl refl (t .holds)
+
+  word-side : Of is-word s at → Side s at 0
+  unfolding is-word
+  word-side t = flat is-word refl refl refl refl refl refl (t .holds)
+
+  literal-side : Of is-literal s at → Side s at 0
+  unfolding is-literal
+  literal-side t = flat is-literal refl refl refl refl refl refl (t .holds)
+
+  key-side : Of is-key s at → Side s at 0
+  unfolding is-key is-word
+  key-side t = flat is-key refl refl refl refl refl refl (t .holds)
+
+  prefix-side : Of is-prefix s at → Side s at 0
+  unfolding is-prefix
+  prefix-side t = flat is-prefix refl refl refl refl refl refl (t .holds)
+
+  update-side : Of is-update s at → Side s at 0
+  unfolding is-update
+  update-side t = flat is-update refl refl refl refl refl refl (t .holds)
+
+  compound-side : Of is-compound s at → Side s at 0
+  unfolding is-compound
+  compound-side t = flat is-compound refl refl refl refl refl refl (t .holds)
+
+  operator-side : {tier : ℕ} → 2 ≤ tier → Operator s at tier → Side s at 0
+  unfolding expression-level level
+  operator-side {tier} h t = flat (λ k. leb 1 (expression-level k)) refl refl refl refl refl refl (by (expression-level (token s at)) (t .level-is))
+    where
+      by : (l : ℕ) → l ≡ tier → leb 1 l ≡ true
+      by zero e = absurd (omega arith)
+      by (suc l) e = rw (le-leb 1 (suc l) (omega arith))
+
+-- brackets in pairs from i to j
+pub data Bal (s : Sheet) : ℕ → ℕ → Type 0 where
+  stop : {i : ℕ} → Bal s i i
+  skip : {i j : ℕ} → Side s i 0 → Bal s (i + 1) j → Bal s i j
+  nest : {i k j : ℕ} → Side s i 1 → Bal s (i + 1) k → Side s k 2 → Bal s (k + 1) j → Bal s i j
+
+pub join-bal : {s : Sheet} {i j k : ℕ} → Bal s i j → Bal s j k → Bal s i k
+join-bal stop b = b
+join-bal (skip t a) b = skip t (join-bal a b)
+join-bal (nest t a u c) b = nest t a u (join-bal c b)
+
+-- a bracket has one partner
+pub partner : {s : Sheet} {i j k : ℕ} → Bal s i j → Bal s i k → Side s j 2 → Side s k 2 → j ≡ k
+partner stop stop t u = refl
+partner stop (skip a b) t u = absurd (omega (arith, a .side-is, t .side-is))
+partner stop (nest a b c d) t u = absurd (omega (arith, a .side-is, t .side-is))
+partner (skip a b) stop t u = absurd (omega (arith, a .side-is, u .side-is))
+partner (skip a b) (skip a′ b′) t u = partner b b′ t u
+partner (skip a b) (nest a′ b′ c′ d′) t u = absurd (omega (arith, a .side-is, a′ .side-is))
+partner (nest a b c d) stop t u = absurd (omega (arith, a .side-is, u .side-is))
+partner (nest a b c d) (skip a′ b′) t u = absurd (omega (arith, a .side-is, a′ .side-is))
+partner {s} {k = z} (nest a b c d) (nest a′ b′ c′ d′) t u = partner d (subst (λ (x : ℕ). Bal s (x + 1) z) (sym (partner b b′ c c′)) d′) t u
+
+module _ {s : Sheet} where
+  one-token : {i : ℕ} → Side s i 0 → Bal s i (i + 1)
+  one-token t = skip t stop
+
+  token-two : (i : ℕ) → Side s (i + 1) 0 → Bal s (i + 1) (i + 2)
+  token-two i t = let e : i + 1 + 1 ≡ i + 2 = omega arith in subst (Bal s (i + 1)) e (one-token t)
+
+  pair : {i p : ℕ} → Side s i 1 → Bal s (i + 1) p → Side s p 2 → Bal s i (p + 1)
+  pair t a u = nest t a u stop
+
+  pair-two : {i : ℕ} (p : ℕ) → Side s i 1 → Bal s (i + 1) (p + 1) → Side s (p + 1) 2 → Bal s i (p + 2)
+  pair-two {i} p t a u = let e : p + 1 + 1 ≡ p + 2 = omega arith in subst (Bal s i) e (pair t a u)
+
+-- whatever is derived has its brackets in pairs
+pub balanced : {w : Width} {s : Sheet} {x : Nonterminal} {i j : ℕ} {ts : Forest} → Derives w s x i j ts → Bal s i j
+unfolding side-of
+balanced (D.first-of-list a) = balanced a
+balanced (D.next-of-list a b c) = join-bal (balanced a) (join-bal (one-token (side b)) (balanced c))
+balanced (D.elided a b) = join-bal (balanced a) (balanced b)
+balanced (D.this a) = one-token (side a)
+balanced (D.identifier a) = one-token (name-side a)
+balanced (D.literal a) = one-token (literal-side a)
+balanced (D.array a) = balanced a
+balanced (D.object a) = balanced a
+balanced (D.parenthesized a b c) = pair (side a) (balanced b) (side c)
+balanced (D.array-empty a b c) = pair (side a) (balanced b) (side c)
+balanced (D.array-list a b c) = pair (side a) (balanced b) (side c)
+balanced (D.array-comma a b c d e) = pair (side a) (join-bal (balanced b) (join-bal (one-token (side c)) (balanced d))) (side e)
+balanced D.no-elision = stop
+balanced (D.elision a b) = join-bal (balanced a) (one-token (side b))
+balanced (D.spread a b) = join-bal (one-token (side a)) (balanced b)
+balanced (D.plain-element a) = balanced a
+balanced (D.spread-element a) = balanced a
+balanced (D.object-empty {i = i} a b) = pair-two i (side a) stop (side b)
+balanced (D.object-list a b c) = pair (side a) (balanced b) (side c)
+balanced (D.object-comma {p = p} a b c d) = pair-two p (side a) (join-bal (balanced b) (one-token (side c))) (side d)
+balanced (D.shorthand a) = one-token (name-side a)
+balanced (D.cover-initialized {i = i} a b c) = join-bal (one-token (name-side a)) (join-bal (token-two i (side b)) (balanced c))
+balanced (D.property a b c) = join-bal (balanced a) (join-bal (one-token (side b)) (balanced c))
+balanced (D.spread-property a) = balanced a
+balanced (D.literal-name a) = one-token (key-side a)
+balanced (D.computed-name a b c) = pair (side a) (balanced b) (side c)
+balanced (D.primary a) = balanced a
+balanced (D.index a b c d) = join-bal (balanced a) (pair (side b) (balanced c) (side d))
+balanced (D.member {p = p} a b c) = join-bal (balanced a) (join-bal (one-token (side b)) (token-two p (word-side c)))
+balanced (D.call a b) = join-bal (balanced a) (balanced b)
+balanced (D.chain a) = balanced a
+balanced (D.no-arguments {i = i} a b) = pair-two i (side a) stop (side b)
+balanced (D.arguments a b c) = pair (side a) (balanced b) (side c)
+balanced (D.arguments-comma {p = p} a b c d) = pair-two p (side a) (join-bal (balanced b) (one-token (side c))) (side d)
+balanced (D.left-hand-side a) = balanced a
+balanced (D.postfix a b _) = join-bal (balanced a) (one-token (update-side b))
+balanced (D.prefix a b) = join-bal (one-token (update-side a)) (balanced b)
+balanced (D.update a) = balanced a
+balanced (D.unary a b) = join-bal (one-token (prefix-side a)) (balanced b)
+balanced (D.no-power a) = balanced a
+balanced (D.power a b c) = join-bal (balanced a) (join-bal (one-token (side b)) (balanced c))
+balanced (D.power-of-unary _ b c d) = join-bal (balanced b) (join-bal (one-token (side c)) (balanced d))
+balanced (D.tier-up _ b) = balanced b
+balanced (D.operation a b c d) = join-bal (balanced b) (join-bal (one-token (operator-side a c)) (balanced d))
+balanced (D.head-coalesce a) = balanced a
+balanced (D.head-or a) = balanced a
+balanced (D.coalesce a b c) = join-bal (balanced a) (join-bal (one-token (side b)) (balanced c))
+balanced (D.coalesce-mixed _ b c d) = join-bal (balanced b) (join-bal (one-token (side c)) (balanced d))
+balanced (D.short-circuit-or a) = balanced a
+balanced (D.short-circuit-coalesce a) = balanced a
+balanced (D.short-circuit a) = balanced a
+balanced (D.conditional a b c d e) = join-bal (balanced a) (join-bal (one-token (side b)) (join-bal (balanced c) (join-bal (one-token (side d)) (balanced e))))
+balanced (D.no-assignment a) = balanced a
+balanced (D.arrow a b _ d) = join-bal (balanced a) (join-bal (one-token (side b)) (balanced d))
+balanced (D.async-arrow a b _ d) = join-bal (balanced a) (join-bal (one-token (side b)) (balanced d))
+balanced (D.arrow-broken _ b c d) = join-bal (balanced b) (join-bal (one-token (side c)) (balanced d))
+balanced (D.async-arrow-broken _ b c d) = join-bal (balanced b) (join-bal (one-token (side c)) (balanced d))
+balanced (D.assign a b c) = join-bal (balanced a) (join-bal (one-token (side b)) (balanced c))
+balanced (D.compound-assign a b c) = join-bal (balanced a) (join-bal (one-token (compound-side b)) (balanced c))
+balanced (D.target-name a) = one-token (name-side a)
+balanced (D.target-index a b c d) = join-bal (balanced a) (pair (side b) (balanced c) (side d))
+balanced (D.target-member {p = p} a b c) = join-bal (balanced a) (join-bal (one-token (side b)) (token-two p (word-side c)))
+balanced (D.target-parenthesized a b c) = pair (side a) (balanced b) (side c)
+balanced (D.target-simple a) = balanced a
+balanced (D.target-pattern a) = balanced a
+balanced (D.target-array-empty a b c) = pair (side a) (balanced b) (side c)
+balanced (D.target-array-rest a b c) = pair (side a) (balanced b) (side c)
+balanced (D.target-array-list a b c) = pair (side a) (balanced b) (side c)
+balanced (D.target-array-comma a b c d e) = pair (side a) (join-bal (balanced b) (join-bal (one-token (side c)) (balanced d))) (side e)
+balanced (D.target-array-list-rest a b c d e) = pair (side a) (join-bal (balanced b) (join-bal (one-token (side c)) (balanced d))) (side e)
+balanced (D.target-array-rest-comma {p = p} _ b c d e) = pair-two p (side b) (join-bal (balanced c) (one-token (side d))) (side e)
+balanced (D.target-array-list-rest-comma {q = q} _ b c d e f g) = pair-two q (side b) (join-bal (balanced c) (join-bal (one-token (side d)) (join-bal (balanced e) (one-token (side f))))) (side g)
+balanced (D.target-object-empty {i = i} a b) = pair-two i (side a) stop (side b)
+balanced (D.target-object-rest a b c) = pair (side a) (balanced b) (side c)
+balanced (D.target-object-list a b c) = pair (side a) (balanced b) (side c)
+balanced (D.target-object-comma {p = p} a b c d) = pair-two p (side a) (join-bal (balanced b) (one-token (side c))) (side d)
+balanced (D.target-object-list-rest a b c d e) = pair (side a) (join-bal (balanced b) (join-bal (one-token (side c)) (balanced d))) (side e)
+balanced (D.target-object-rest-comma {p = p} _ b c d e) = pair-two p (side b) (join-bal (balanced c) (one-token (side d))) (side e)
+balanced (D.target-object-list-rest-comma {q = q} _ b c d e f g) = pair-two q (side b) (join-bal (balanced c) (join-bal (one-token (side d)) (join-bal (balanced e) (one-token (side f))))) (side g)
+balanced (D.target-element a) = balanced a
+balanced (D.target-default a b c) = join-bal (balanced a) (join-bal (one-token (side b)) (balanced c))
+balanced (D.target-compound _ b c d) = join-bal (balanced b) (join-bal (one-token (compound-side c)) (balanced d))
+balanced (D.target-rest a b) = join-bal (one-token (side a)) (balanced b)
+balanced (D.target-shorthand a) = one-token (name-side a)
+balanced (D.target-shorthand-default {i = i} a b c) = join-bal (one-token (name-side a)) (join-bal (token-two i (side b)) (balanced c))
+balanced (D.target-property a b c) = join-bal (balanced a) (join-bal (one-token (side b)) (balanced c))
+balanced (D.target-rest-property a b) = join-bal (one-token (side a)) (balanced b)
+balanced (D.target-rest-pattern _ b c) = join-bal (one-token (side b)) (balanced c)
+balanced (D.no-comma a) = balanced a
+balanced (D.sequence a) = balanced a
+balanced (D.first-comma a b c) = join-bal (balanced a) (join-bal (one-token (side b)) (balanced c))
+balanced (D.next-comma a b c) = join-bal (balanced a) (join-bal (one-token (side b)) (balanced c))
+balanced (D.binding-name a) = one-token (name-side a)
+balanced (D.binding-pattern a) = balanced a
+balanced (D.binding-object-empty {i = i} a b) = pair-two i (side a) stop (side b)
+balanced (D.binding-object-rest a b c) = pair (side a) (balanced b) (side c)
+balanced (D.binding-object-list a b c) = pair (side a) (balanced b) (side c)
+balanced (D.binding-object-comma {p = p} a b c d) = pair-two p (side a) (join-bal (balanced b) (one-token (side c))) (side d)
+balanced (D.binding-object-list-rest a b c d e) = pair (side a) (join-bal (balanced b) (join-bal (one-token (side c)) (balanced d))) (side e)
+balanced (D.binding-array-empty a b c) = pair (side a) (balanced b) (side c)
+balanced (D.binding-array-rest a b c) = pair (side a) (balanced b) (side c)
+balanced (D.binding-array-list a b c) = pair (side a) (balanced b) (side c)
+balanced (D.binding-array-comma a b c d e) = pair (side a) (join-bal (balanced b) (join-bal (one-token (side c)) (balanced d))) (side e)
+balanced (D.binding-array-list-rest a b c d e) = pair (side a) (join-bal (balanced b) (join-bal (one-token (side c)) (balanced d))) (side e)
+balanced (D.no-default a) = balanced a
+balanced (D.binding-default a b c) = join-bal (balanced a) (join-bal (one-token (side b)) (balanced c))
+balanced (D.binding-rest a b) = join-bal (one-token (side a)) (balanced b)
+balanced (D.binding-rest-default _ b c) = join-bal (one-token (side b)) (balanced c)
+balanced (D.binding-shorthand a) = one-token (name-side a)
+balanced (D.binding-shorthand-default {i = i} a b c) = join-bal (one-token (name-side a)) (join-bal (token-two i (side b)) (balanced c))
+balanced (D.binding-property a b c) = join-bal (balanced a) (join-bal (one-token (side b)) (balanced c))
+balanced (D.binding-rest-property {i = i} a b) = join-bal (one-token (side a)) (token-two i (name-side b))
+balanced D.no-parameters = stop
+balanced (D.rest-parameter a) = balanced a
+balanced (D.parameters a) = balanced a
+balanced (D.parameters-comma a b) = join-bal (balanced a) (one-token (side b))
+balanced (D.parameters-rest a b c) = join-bal (balanced a) (join-bal (one-token (side b)) (balanced c))
+balanced (D.arrow-formal-parameters a b c) = pair (side a) (balanced b) (side c)
+balanced (D.arrow-name a) = one-token (name-side a)
+balanced (D.arrow-parameters a) = balanced a
+balanced (D.concise-body _ b) = balanced b
+balanced (D.async-name {i = i} a b _) = join-bal (one-token (side a)) (token-two i (name-side b))
+balanced (D.async-parameters a _ c) = join-bal (one-token (side a)) (balanced c)
+
+-- WHERE NO HEAD CAN BE
+-- a token is of one kind
+pub same-kind : {s : Sheet} {at k l : ℕ} → Tok s at k → Tok s at l → k ≡ l
+same-kind t u = sym (t .kind-is) ∙ u .kind-is
+
+-- a token for which a test holds is of no kind for which it does not
+pub of-kind : {s : Sheet} {at : ℕ} (test : ℕ → Bool) (k : ℕ) → test k ≡ false → test (token s at) ≡ true → Tok s at k → ⊥
+of-kind test k f t u = not-both (ap test (sym (u .kind-is)) ∙ t) f
+
+-- `(` at a, and its partner at e
+pub record Group (s : Sheet) (a e : ℕ) : Type 0 where
+  pub opens : Tok s a LParen
+  pub inside : Bal s (a + 1) e
+  pub closes : Side s e 2
+
+-- neither `=>` nor `(` follows
+pub record Ends (s : Sheet) (j : ℕ) : Type 0 where
+  pub no-arrow : Tok s j Arrow → ⊥
+  pub no-paren : Tok s j LParen → ⊥
+
+-- what begins here is no head: neither `(` nor Async, or a group that is not followed by `=>`
+pub data Opening (s : Sheet) (i : ℕ) : Type 0 where
+  other-opening : (Tok s i LParen → ⊥) → (Tok s i Async → ⊥) → Opening s i
+  group-opening : (e : ℕ) → Group s i e → (Tok s (e + 1) Arrow → ⊥) → Opening s i
+  async-opening : Tok s i Async → (Tok s (i + 1) LParen → ⊥) → Opening s i
+  async-group-opening : (e : ℕ) → Tok s i Async → Group s (i + 1) e → (Tok s (e + 1) Arrow → ⊥) → Opening s i
+
+-- parameters in parentheses, and the `=>` after them, leave no other group there
+parameters-close : {w : Width} {s : Sheet} {i q e : ℕ} {ts : Forest} → Derives w s ArrowFormalParameters i q ts → Tok s q Arrow → Group s i e → Tok s (e + 1) Arrow
+unfolding side-of
+parameters-close {s = s} (D.arrow-formal-parameters o d c) t g = subst (λ (n : ℕ). Tok s (n + 1) Arrow) (partner (balanced d) (g .inside) (side c) (g .closes)) t
+
+parameters-open : {w : Width} {s : Sheet} {i q : ℕ} {ts : Forest} → Derives w s ArrowFormalParameters i q ts → Tok s i LParen
+parameters-open (D.arrow-formal-parameters o d c) = o
+
+pub no-head : {w : Width} {s : Sheet} {i q : ℕ} {ts : Forest} → Opening s i → Head w s i q ts → ⊥
+no-head (other-opening n m) (plain-head o d t) = n o
+no-head (other-opening n m) (async-head o l d t) = m o
+no-head (group-opening e g n) (plain-head o d t) = n (parameters-close d t g)
+no-head (group-opening e g n) (async-head o l d t) = omega (arith, same-kind (g .opens) o)
+no-head (async-opening o n) (plain-head o′ d t) = omega (arith, same-kind o o′)
+no-head (async-opening o n) (async-head o′ l d t) = n (parameters-open d)
+no-head (async-group-opening e o g n) (plain-head o′ d t) = omega (arith, same-kind o o′)
+no-head (async-group-opening e o g n) (async-head o′ l d t) = n (parameters-close d t g)
+
+-- what an expression begins with, up to j: settled, or a group or Async or a call of Async that ends at j
+data Prefix (s : Sheet) (i j : ℕ) : Type 0 where
+  settled : Opening s i → Prefix s i j
+  at-group : (e : ℕ) → Group s i e → j ≡ e + 1 → Prefix s i j
+  at-async : Tok s i Async → j ≡ i + 1 → Prefix s i j
+  at-async-group : (e : ℕ) → Tok s i Async → Group s (i + 1) e → j ≡ e + 1 → Prefix s i j
+
+settle : {s : Sheet} {i j : ℕ} → Prefix s i j → Ends s j → Opening s i
+settle (settled o) x = o
+settle {s} (at-group e g q) x = group-opening e g (λ t. x .no-arrow (subst (λ (n : ℕ). Tok s n Arrow) (sym q) t))
+settle {s} (at-async o q) x = async-opening o (λ t. x .no-paren (subst (λ (n : ℕ). Tok s n LParen) (sym q) t))
+settle {s} (at-async-group e o g q) x = async-group-opening e o g (λ t. x .no-arrow (subst (λ (n : ℕ). Tok s n Arrow) (sym q) t))
+
+-- the tokens that go on
+kind-ends : {s : Sheet} {at : ℕ} (k : ℕ) → k is Arrow ≡ false → k is LParen ≡ false → Tok s at k → Ends s at
+kind-ends k a b t = record { no-arrow = λ u. not-both (eq-eqb k Arrow (same-kind t u)) a; no-paren = λ u. not-both (eq-eqb k LParen (same-kind t u)) b }
+
+test-ends : {s : Sheet} {at : ℕ} (test : ℕ → Bool) → test Arrow ≡ false → test LParen ≡ false → test (token s at) ≡ true → Ends s at
+test-ends test a b t = record { no-arrow = of-kind test Arrow a t; no-paren = of-kind test LParen b t }
+
+update-ends : {s : Sheet} {at : ℕ} → Of is-update s at → Ends s at
+unfolding is-update
+update-ends t = test-ends is-update refl refl (t .holds)
+
+operator-ends : {s : Sheet} {at tier : ℕ} → 2 ≤ tier → Operator s at tier → Ends s at
+unfolding expression-level level
+operator-ends {s} {at} {tier} h t = test-ends (λ k. leb 1 (expression-level k)) refl refl (by (expression-level (token s at)) (t .level-is))
+  where
+    by : (l : ℕ) → l ≡ tier → leb 1 l ≡ true
+    by zero e = absurd (omega arith)
+    by (suc l) e = rw (le-leb 1 (suc l) (omega arith))
+
+-- a token of a kind, or for which a test holds, opens nothing
+other-kind : {s : Sheet} {i : ℕ} (k : ℕ) → k is LParen ≡ false → k is Async ≡ false → Tok s i k → Opening s i
+other-kind k a b t = other-opening (λ u. not-both (eq-eqb k LParen (same-kind t u)) a) (λ u. not-both (eq-eqb k Async (same-kind t u)) b)
+
+other-test : {s : Sheet} {i : ℕ} (test : ℕ → Bool) → test LParen ≡ false → test Async ≡ false → test (token s i) ≡ true → Opening s i
+other-test test a b t = other-opening (of-kind test LParen a t) (of-kind test Async b t)
+
+-- a call
+arguments-group : {w : Width} {s : Sheet} {i j : ℕ} {ts : Forest} → Derives w s Arguments i j ts → (e : ℕ) × Group s i e × (j ≡ e + 1)
+unfolding side-of
+arguments-group (D.no-arguments {i = i} o c) = (i + 1, record { opens = o; inside = stop; closes = side c }, omega arith)
+arguments-group (D.arguments {p = p} o d c) = (p, record { opens = o; inside = balanced d; closes = side c }, refl)
+arguments-group (D.arguments-comma {p = p} o d t c) = (p + 1, record { opens = o; inside = join-bal (balanced d) (one-token (side t)); closes = side c }, omega arith)
+
+called : {w : Width} {s : Sheet} {i p j : ℕ} {ts : Forest} → Prefix s i p → Derives w s Arguments p j ts → Prefix s i j
+called (settled o) d = settled o
+called {s = s} {i} {p} {j} (at-async o q) d = let r = arguments-group d in at-async-group (r .0) o (subst (λ (n : ℕ). Group s n (r .0)) q (r .1)) (r .2)
+called {s = s} (at-group e g q) d =
+    let r = arguments-group d in settled (group-opening e g (λ t. omega (arith, same-kind t (subst (λ (n : ℕ). Tok s n LParen) q (r .1 .opens)))))
+called {s = s} (at-async-group e o g q) d =
+    let r = arguments-group d in settled (async-group-opening e o g (λ t. omega (arith, same-kind t (subst (λ (n : ℕ). Tok s n LParen) q (r .1 .opens)))))
+
+name-prefix : {s : Sheet} {i : ℕ} → Of is-name s i → Prefix s i (i + 1)
+unfolding is-name
+name-prefix {s} {i} n = by (ℕ-discrete (token s i) Async)
+  where
+    by : Dec (token s i ≡ Async) → Prefix s i (i + 1)
+    by (yes e) = at-async (record { kind-is = e }) refl
+    by (no e) = settled (other-opening (of-kind is-name LParen refl (n .holds)) (λ t. e (t .kind-is)))
+
+module _ {w : Width} {s : Sheet} where
+  primary-prefix : {i j : ℕ} {ts : Forest} → Derives w s PrimaryExpression i j ts → Prefix s i j
+  unfolding is-literal side-of
+  primary-prefix (D.this t) = settled (other-kind _ refl refl t)
+  primary-prefix (D.identifier n) = name-prefix n
+  primary-prefix (D.literal t) = settled (other-test is-literal refl refl (t .holds))
+  primary-prefix (D.array (D.array-empty o d c)) = settled (other-kind _ refl refl o)
+  primary-prefix (D.array (D.array-list o d c)) = settled (other-kind _ refl refl o)
+  primary-prefix (D.array (D.array-comma o d t e c)) = settled (other-kind _ refl refl o)
+  primary-prefix (D.object (D.object-empty o c)) = settled (other-kind _ refl refl o)
+  primary-prefix (D.object (D.object-list o d c)) = settled (other-kind _ refl refl o)
+  primary-prefix (D.object (D.object-comma o d t c)) = settled (other-kind _ refl refl o)
+  primary-prefix (D.parenthesized {p = p} o d c) = at-group p (record { opens = o; inside = balanced d; closes = side c }) refl
+
+  chain-prefix : {c : Chain} {i j : ℕ} {ts : Forest} → Derives w s (ChainExpression c) i j ts → Prefix s i j
+  chain-prefix (D.primary d) = primary-prefix d
+  chain-prefix (D.index d o e c) = settled (settle (chain-prefix d) (kind-ends _ refl refl o))
+  chain-prefix (D.member d o e) = settled (settle (chain-prefix d) (kind-ends _ refl refl o))
+  chain-prefix (D.call d e) = called (chain-prefix d) e
+
+  target-prefix : {i j : ℕ} {ts : Forest} → Derives w s SimpleTarget i j ts → Prefix s i j
+  unfolding side-of
+  target-prefix (D.target-name n) = name-prefix n
+  target-prefix (D.target-index d o e c) = settled (settle (chain-prefix d) (kind-ends _ refl refl o))
+  target-prefix (D.target-member d o e) = settled (settle (chain-prefix d) (kind-ends _ refl refl o))
+  target-prefix (D.target-parenthesized {p = p} o d c) = at-group p (record { opens = o; inside = balanced d; closes = side c }) refl
+
+  pattern-opening : {i j : ℕ} {ts : Forest} → Derives w s AssignmentPattern i j ts → Opening s i
+  pattern-opening (D.target-array-empty o _ _) = other-kind _ refl refl o
+  pattern-opening (D.target-array-rest o _ _) = other-kind _ refl refl o
+  pattern-opening (D.target-array-list o _ _) = other-kind _ refl refl o
+  pattern-opening (D.target-array-comma o _ _ _ _) = other-kind _ refl refl o
+  pattern-opening (D.target-array-list-rest o _ _ _ _) = other-kind _ refl refl o
+  pattern-opening (D.target-array-rest-comma _ o _ _ _) = other-kind _ refl refl o
+  pattern-opening (D.target-array-list-rest-comma _ o _ _ _ _ _) = other-kind _ refl refl o
+  pattern-opening (D.target-object-empty o _) = other-kind _ refl refl o
+  pattern-opening (D.target-object-rest o _ _) = other-kind _ refl refl o
+  pattern-opening (D.target-object-list o _ _) = other-kind _ refl refl o
+  pattern-opening (D.target-object-comma o _ _ _) = other-kind _ refl refl o
+  pattern-opening (D.target-object-list-rest o _ _ _ _) = other-kind _ refl refl o
+  pattern-opening (D.target-object-rest-comma _ o _ _ _) = other-kind _ refl refl o
+  pattern-opening (D.target-object-list-rest-comma _ o _ _ _ _ _) = other-kind _ refl refl o
+
+  -- what is followed by neither `=>` nor `(` begins with no head
+  pub simple-opening : {i j : ℕ} {ts : Forest} → Derives w s SimpleTarget i j ts → Ends s j → Opening s i
+  simple-opening d x = settle (target-prefix d) x
+
+  pub target-opening : {i j : ℕ} {ts : Forest} → Derives w s DestructuringAssignmentTarget i j ts → Ends s j → Opening s i
+  target-opening (D.target-simple d) x = simple-opening d x
+  target-opening (D.target-pattern d) x = pattern-opening d
+
+  update-opening : {i j : ℕ} {ts : Forest} → Derives w s UpdateExpression i j ts → Ends s j → Opening s i
+  unfolding is-update
+  update-opening (D.left-hand-side (D.chain d)) x = settle (chain-prefix d) x
+  update-opening (D.postfix d t l) x = simple-opening d (update-ends t)
+  update-opening (D.prefix t d) x = other-test is-update refl refl (t .holds)
+
+  unary-opening : {i j : ℕ} {ts : Forest} → Derives w s UnaryExpression i j ts → Ends s j → Opening s i
+  unfolding is-prefix
+  unary-opening (D.update d) x = update-opening d x
+  unary-opening (D.unary t d) x = other-test is-prefix refl refl (t .holds)
+
+  tier-opening : {tier i j : ℕ} {ts : Forest} → Derives w s (TierExpression tier) i j ts → Ends s j → Opening s i
+  tier-opening (D.no-power d) x = unary-opening d x
+  tier-opening (D.power d t e) x = update-opening d (kind-ends _ refl refl t)
+  tier-opening (D.power-of-unary q d t e) x = unary-opening d (kind-ends _ refl refl t)
+  tier-opening (D.tier-up l d) x = tier-opening d x
+  tier-opening (D.operation l d t e) x = tier-opening d (operator-ends l t)
+
+  coalesce-opening : {i j : ℕ} {ts : Forest} → Derives w s CoalesceExpression i j ts → Opening s i
+  coalesce-opening (D.coalesce (D.head-coalesce d) t e) = coalesce-opening d
+  coalesce-opening (D.coalesce (D.head-or d) t e) = tier-opening d (kind-ends _ refl refl t)
+  coalesce-opening (D.coalesce-mixed q (D.short-circuit-or d) t e) = tier-opening d (kind-ends _ refl refl t)
+  coalesce-opening (D.coalesce-mixed q (D.short-circuit-coalesce d) t e) = coalesce-opening d
+
+  pub short-circuit-opening : {i j : ℕ} {ts : Forest} → Derives w s ShortCircuitExpression i j ts → Ends s j → Opening s i
+  short-circuit-opening (D.short-circuit-or d) x = tier-opening d x
+  short-circuit-opening (D.short-circuit-coalesce d) x = coalesce-opening d
