@@ -1,0 +1,12 @@
+pub mod Leads
+pub mod Brackets
+pub mod Covers
+pub mod OneSided
+pub mod Heads
+pub mod Past
+pub mod Notes
+pub mod Agreement
+pub mod Exception
+pub mod Answers
+pub mod Count
+pub mod Scope
