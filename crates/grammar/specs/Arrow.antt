@@ -1,16 +1,9 @@
 -- 15.3 Arrow functions and 15.9 async arrow functions, and where a head is tried.
 -- Assumes nothing: these are definitions.
-use Prim.Native.Nat.{ℕ, _+_}
-use mathlib.Core.Bool.{Bool, not}
-use mathlib.Core.List.{[], _∷_}
-use Rattle.tokens.specs.Bool.{_or_, _is_, if_then_else_}
-use Rattle.tokens.specs.Kind.{Async, LParen, RParen, LCurly, Comma, Dot3, Arrow}
-use Rattle.tokens.specs.declared.cause.Cause.{Cause}
-use Rattle.rows.specs.Tree.{Forest, node, nil, one, join}
+use Rattle.tokens.specs.Kind.{Async, LParen, RParen, LCurly, Dot3, Arrow}
 use Rattle.rows.specs.Row as Row
-use Rattle.rows.specs.Record.{break-before-arrow}
-use Rattle.grammar.specs.Sheet.{Sheet, token, break-before, Reading, Part, _>>=_, _>>_, try, yield, unexpected, want, unless-refuse, say}
-use Rattle.grammar.specs.Job.{Job, assignment, value, binding-element, binding-rest, head, parameters, body, Asks}
+use Rattle.grammar.specs.Sheet.{ℕ, _+_, not, [], _∷_, _or_, _is_, if_then_else_, Cause, Forest, nil, join, break-before-arrow, Sheet, token, break-before, Reading, Part, _>>=_, _>>_, try, yield, make, want, comma-or, unless-refuse, say}
+use Rattle.grammar.specs.Job.{assignment, value, binding-element, binding-rest, head, parameters, body, Asks}
 
 -- what to do where an assignment level starts at `(` or Async: read on past a head, try one, or read a head and nothing else
 pub data Way : Type 0 where
@@ -63,8 +56,7 @@ module _ {N : Type 0} (sheet : Sheet) (ask : Asks N) where
   -- 15.9 AsyncArrowFunction : async [no LineTerminator here] ArrowFormalParameters [no LineTerminator here] => AsyncConciseBody
   unfoldable pub head-of : ℕ → Reading N
   head-of at =
-      if token sheet at is Async
-      then (do
+      if token sheet at is Async then (do
         unless-refuse (not (break-before sheet (at + 1))) (Cause.Unexpected (at + 1))
         parenthesized-head-of (at + 1))
       else parenthesized-head-of at
@@ -74,18 +66,15 @@ module _ {N : Type 0} (sheet : Sheet) (ask : Asks N) where
   unfoldable pub parameters-of : ℕ → Forest → Reading N
   parameters-of at so-far =
       if token sheet at is RParen then yield (at + 1) so-far
-      else if token sheet at is Dot3
-      then (do
+      else if token sheet at is Dot3 then (do
         rest ← ask (binding-rest at)
         unless-refuse (token sheet (rest .end) is RParen) (Cause.RestLast (rest .end))
         yield (rest .end + 1) (join so-far (rest .trees)))
       else do
         parameter ← ask (binding-element at)
-        if token sheet (parameter .end) is Comma
-            then ask (parameters (parameter .end + 1) (join so-far (parameter .trees)))
-            else do
-              want sheet RParen (parameter .end)
-              yield (parameter .end + 1) (join so-far (parameter .trees))
+        comma-or sheet RParen (parameter .end)
+            (ask (parameters (parameter .end + 1) (join so-far (parameter .trees))))
+            (yield (parameter .end + 1) (join so-far (parameter .trees)))
 
   -- `=>` and the body: 15.3 ConciseBody : [lookahead ≠ {] ExpressionBody. A line break before the `=>` is record 1; `{` as body is 8.
   unfoldable pub body-of : ℕ → ℕ → ℕ → Forest → Reading N
@@ -93,4 +82,4 @@ module _ {N : Type 0} (sheet : Sheet) (ask : Asks N) where
     say (if break-before sheet at then break-before-arrow at ∷ [] else [])
     unless-refuse (not (token sheet (at + 1) is LCurly)) (Cause.Unexpected (at + 1))
     inner ← ask (assignment (at + 1))
-    yield (inner .end) (one (node kind at first (inner .end) (join parameter-list (inner .trees))))
+    make kind at first (inner .end) (join parameter-list (inner .trees))

@@ -1,15 +1,10 @@
 -- 13.14 Conditional and 13.15 assignment: the assignment level, past an arrow function's head.
 -- Assumes nothing: these are definitions.
-use Prim.Native.Nat.{ℕ, _+_}
-use mathlib.Core.Bool.{Bool, not}
-use Rattle.tokens.specs.Bool.{_and_, _is_, if_then_else_, between}
 use Rattle.tokens.specs.Kind.{Async, Colon, Question, Arrow, Eq, Star2Eq}
-use Rattle.tokens.specs.Token.{is-name}
-use Rattle.rows.specs.Tree.{Tree, Forest, node, cons, one, join, kind-of}
 use Rattle.rows.specs.Row as Row
 use Rattle.targets.specs.Conversion.{any, simple}
-use Rattle.grammar.specs.Sheet.{Sheet, token, break-before, Reading, Part, tree, leaf, _>>=_, _>>_, yield, want}
-use Rattle.grammar.specs.Job.{Job, assignment, assign, conditional, binary, body, Asks}
+use Rattle.grammar.specs.Sheet.{ℕ, _+_, Bool, not, _and_, _is_, if_then_else_, between, is-name, Tree, cons, one, join, kind-of, Sheet, token, break-before, Reading, Part, tree, leaf, _>>=_, _>>_, yield, make, want}
+use Rattle.grammar.specs.Job.{assignment, assign, conditional, binary, body, Asks}
 use Rattle.grammar.specs.Update.{converted}
 
 -- 13.15 = and AssignmentOperator, &&= ||= ??=
@@ -18,8 +13,7 @@ is-assignment-operator k = between Eq Star2Eq k
 
 -- 15.9 AsyncArrowFunction : async [no LineTerminator here] AsyncArrowBindingIdentifier [no LineTerminator here] => AsyncConciseBody
 unfoldable pub is-async-name : Sheet → ℕ → Bool
-is-async-name sheet at =
-    token sheet at is Async and is-name (token sheet (at + 1)) and not (break-before sheet (at + 1)) and token sheet (at + 2) is Arrow
+is-async-name sheet at = token sheet at is Async and is-name (token sheet (at + 1)) and not (break-before sheet (at + 1)) and token sheet (at + 2) is Arrow
 
 module _ {N : Type 0} (sheet : Sheet) (ask : Asks N) where
   -- 13.15 LeftHandSideExpression = AssignmentExpression | LeftHandSideExpression AssignmentOperator AssignmentExpression
@@ -29,7 +23,7 @@ module _ {N : Type 0} (sheet : Sheet) (ask : Asks N) where
     let plain = token sheet at is Eq
     target ← converted (if plain then any else simple) at left
     right ← ask (assignment (at + 1))
-    yield (right .end) (one (node (if plain then Row.Assign else Row.CompoundAssign) at first (right .end) (join (target .trees) (right .trees))))
+    make (if plain then Row.Assign else Row.CompoundAssign) at first (right .end) (join (target .trees) (right .trees))
 
   -- 13.14 ConditionalExpression : ShortCircuitExpression ? AssignmentExpression : AssignmentExpression
   unfoldable pub conditional-of : ℕ → ℕ → Tree → Reading N
@@ -37,21 +31,19 @@ module _ {N : Type 0} (sheet : Sheet) (ask : Asks N) where
     if-true ← ask (assignment (at + 1))
     want sheet Colon (if-true .end)
     if-false ← ask (assignment (if-true .end + 1))
-    yield (if-false .end) (one (node Row.Conditional at first (if-false .end) (cons test (join (if-true .trees) (if-false .trees)))))
+    make Row.Conditional at first (if-false .end) (cons test (join (if-true .trees) (if-false .trees)))
 
   -- what may follow the binary level: `=>` after a lone Identifier (15.3 ArrowParameters : BindingIdentifier), an assignment, a Conditional
   unfoldable pub after-binary : ℕ → Part → Reading N
   after-binary first left =
-      if kind-of (tree left) is Row.Identifier and token sheet (left .end) is Arrow
-      then ask (body Row.Arrow first (left .end) (one (leaf Row.BindingName first)))
+      if kind-of (tree left) is Row.Identifier and token sheet (left .end) is Arrow then ask (body Row.Arrow first (left .end) (one (leaf Row.BindingName first)))
       else if is-assignment-operator (token sheet (left .end)) then ask (assign first (left .end) (tree left))
       else if token sheet (left .end) is Question then ask (conditional first (left .end) (tree left))
       else yield (left .end) (left .trees)
 
   unfoldable pub value-of : ℕ → Reading N
   value-of at =
-      if is-async-name sheet at
-      then ask (body Row.AsyncArrow at (at + 2) (one (leaf Row.BindingName (at + 1))))
+      if is-async-name sheet at then ask (body Row.AsyncArrow at (at + 2) (one (leaf Row.BindingName (at + 1))))
       else do
         left ← ask (binary 0 at)
         after-binary at left

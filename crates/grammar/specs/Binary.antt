@@ -1,17 +1,12 @@
 -- 13.6 to 13.13 Binary operators, by their levels: equal levels group left, `**` right.
 -- Assumes nothing: these are definitions.
-use Prim.Native.Nat.{ℕ, _+_, _-_}
-use mathlib.Core.Bool.{Bool, not}
-use mathlib.Core.List.{List, [], _∷_, _++_}
+use Prim.Native.Nat.{_-_}
 use lib.Dec.{ltb}
-use Rattle.tokens.specs.Bool.{_and_, _or_, _is_, if_then_else_, between}
 use Rattle.tokens.specs.Kind.{Question2, Amp2, Star2}
 use Rattle.operators.specs.Precedence.{expression-level}
-use Rattle.rows.specs.Tree.{Tree, node, one, cons, kind-of, mark-of}
 use Rattle.rows.specs.Row as Row
-use Rattle.rows.specs.Record.{Record, mixed-coalesce, unary-power}
-use Rattle.grammar.specs.Sheet.{Sheet, token, Reading, tree, _>>=_, _>>_, yield, say}
-use Rattle.grammar.specs.Job.{Job, binary, operators, unary, Asks}
+use Rattle.grammar.specs.Sheet.{ℕ, _+_, Bool, not, List, [], _∷_, _++_, _and_, _or_, _is_, if_then_else_, between, Tree, node, one, cons, kind-of, mark-of, Record, mixed-coalesce, unary-power, Sheet, token, Reading, tree, _>>=_, _>>_, yield, say}
+use Rattle.grammar.specs.Job.{binary, operators, unary, Asks}
 
 -- `??`, `||` and `&&` make a Logical row, all other operators a Binary one
 unfoldable pub operation-kind : ℕ → ℕ
@@ -40,8 +35,7 @@ module _ {N : Type 0} (sheet : Sheet) (ask : Asks N) where
 
   unfoldable pub operators-of : ℕ → ℕ → ℕ → Tree → Reading N
   operators-of floor first at left =
-      if ltb floor (expression-level (token sheet at))
-      then (do
+      if ltb floor (expression-level (token sheet at)) then (do
         right ← ask (binary (right-floor (token sheet at)) (at + 1))
         say (operation-records sheet at left (tree right))
         ask (operators floor first (right .end) (node (operation-kind (token sheet at)) at first (right .end) (cons left (right .trees)))))

@@ -10,34 +10,23 @@ pub data Job : Type 0 where
   expression : ℕ → Job
   sequence : (first comma at : ℕ) → Forest → Job
   -- 13.15 and 13.14
-  assignment : ℕ → Job
-  value : ℕ → Job
-  assign : (first at : ℕ) → Tree → Job
-  conditional : (first at : ℕ) → Tree → Job
+  assignment value : ℕ → Job
+  assign conditional : (first at : ℕ) → Tree → Job
   -- 13.6 to 13.13
   binary : (floor at : ℕ) → Job
   operators : (floor first at : ℕ) → Tree → Job
   -- 13.5 and 13.4
-  unary : ℕ → Job
-  postfix : ℕ → Job
+  unary postfix : ℕ → Job
   -- 13.3
   left-hand-side : ℕ → Job
   links : (first at : ℕ) → Tree → Job
   arguments : (first at : ℕ) → Forest → Job
   -- 13.2
-  primary : ℕ → Job
-  elements : (first at kind : ℕ) → Forest → Job
-  properties : (first at kind : ℕ) → Forest → Job
-  property : ℕ → Job
-  key : ℕ → Job
-  spread : ℕ → Job
+  primary property key spread : ℕ → Job
+  elements properties : (first at kind : ℕ) → Forest → Job
   -- 14.3.3
-  binding : ℕ → Job
-  binding-element : ℕ → Job
-  binding-elements : (first at : ℕ) → Forest → Job
-  binding-properties : (first at : ℕ) → Forest → Job
-  binding-property : ℕ → Job
-  binding-rest : ℕ → Job
+  binding binding-element binding-property binding-rest : ℕ → Job
+  binding-elements binding-properties : (first at : ℕ) → Forest → Job
   -- 15.3 and 15.9
   head : ℕ → Job
   parameters : ℕ → Forest → Job

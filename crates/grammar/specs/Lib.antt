@@ -10,4 +10,3 @@ pub mod Binding
 pub mod Arrow
 pub mod Step
 pub mod Reading
-pub mod Entry

@@ -1,20 +1,19 @@
--- A whole reading: one Expression up to the end of the list; and the pattern entry's, one binding with an optional initializer.
+-- A whole reading: the checks, then one Expression up to the end of the list, and what is answered. The pattern entry's: one binding with an
+-- optional initializer in the Expression's place.
 -- Assumes nothing: these are definitions.
-use Prim.Native.Nat.{ℕ, _+_}
-use mathlib.Core.Bool.{Bool, false, not}
-use mathlib.Core.List.{List, [], _∷_, _++_}
+use mathlib.Core.Bool.{false}
 use lib.ListN.{length, getD, set, replicate}
-use Rattle.tokens.specs.Bool.{_is_, if_then_else_}
-use Rattle.tokens.specs.declared.cause.Cause.{Cause}
+use Rattle.tokens.specs.Check.{_and-then_, check-length, check-flag-length, check-flags, check-kinds, check-nesting}
+use Rattle.tokens.specs.declared.check.Checked.{Checked}
+use Rattle.tokens.specs.declared.cause.Answer.{Answer}
 use Rattle.lookahead.specs.ThreeWay.{three-way}
 use Rattle.lookahead.specs.declared.Tristate.{Tristate}
-use Rattle.rows.specs.Tree.{Tree, Forest, node, nil, cons}
 use Rattle.rows.specs.Row as Row
-use Rattle.rows.specs.Record.{Record, shorthand-initializer}
-use Rattle.grammar.specs.Sheet.{Sheet, Out, done, fail, stuck}
+use Rattle.rows.specs.Tree.{sizes}
+use Rattle.grammar.specs.Sheet.{ℕ, _+_, Bool, not, List, [], _∷_, _++_, _is_, if_then_else_, Cause, Tree, Forest, node, nil, cons, Record, shorthand-initializer, Sheet, Out, done, fail, stuck}
 use Rattle.grammar.specs.Job.{Job, expression, binding-element}
 use Rattle.grammar.specs.Arrow.{Way, pass, attempt, commit, Policy}
-use Rattle.grammar.specs.Step.{read, μ}
+use Rattle.grammar.specs.Step.{read, plenty}
 
 -- The box's reader: the three-way answer with both flags off, and a note for each place whose head failed, 0 or 1. A noted place is passed.
 unfoldable pub way-of : Tristate → Bool → Way
@@ -23,11 +22,7 @@ way-of Tristate.True noted = commit
 way-of Tristate.Maybe noted = if noted then pass else attempt
 
 abbrev pub box : Sheet → Policy (List ℕ)
-box sheet =
-    record {
-      way = λ at notes. way-of (three-way (sheet .kinds) (sheet .flags) false false at) (not (getD notes at 0 is 0));
-      mark = λ at notes. set notes at 1;
-    }
+box sheet = record { way = λ at notes. way-of (three-way (sheet .kinds) (sheet .flags) false false at) (not (getD notes at 0 is 0)); mark = λ at notes. set notes at 1 }
 
 -- notes cover 2,048 places, all cleared before each list
 abbrev pub cleared : List ℕ
@@ -45,8 +40,7 @@ plain = record { way = λ at notes. attempt; mark = λ at notes. notes }
 -- record 8: each ShorthandInit that was never converted, at its mark, in row order
 unfoldable mutual
   pub unconverted : Tree → List Record
-  unconverted (node kind mark first end kids) =
-      unconverteds kids ++ (if kind is Row.ShorthandInit then shorthand-initializer mark ∷ [] else [])
+  unconverted (node kind mark first end kids) = unconverteds kids ++ (if kind is Row.ShorthandInit then shorthand-initializer mark ∷ [] else [])
 
   pub unconverteds : Forest → List Record
   unconverteds nil = []
@@ -59,14 +53,13 @@ pub data Whole (N : Type 0) : Type 0 where
 
 -- nothing may follow, and then come the records 8
 unfoldable pub at-end : {N : Type 0} → ℕ → Out N → Whole N
-at-end tokens (done end trees records notes) =
-    if end is tokens then whole trees (records ++ unconverteds trees) notes else refused (Cause.Unexpected end)
+at-end tokens (done end trees records notes) = if end is tokens then whole trees (records ++ unconverteds trees) notes else refused (Cause.Unexpected end)
 at-end tokens (fail cause notes) = refused cause
 at-end tokens stuck = refused (Cause.Unexpected 0)
 
 -- one nonterminal over the whole list
 unfoldable pub reading : {N : Type 0} → Policy N → Sheet → Job → N → Whole N
-reading policy sheet job notes = at-end (length (sheet .kinds)) (read policy sheet (μ sheet job) job notes)
+reading policy sheet job notes = at-end (length (sheet .kinds)) (read policy sheet (plenty sheet) job notes)
 
 -- the list as one Expression, by the box's reader and by the plain one; the list as one binding
 abbrev pub box-reading : Sheet → Whole (List ℕ)
@@ -80,3 +73,29 @@ box-pattern sheet = reading (box sheet) sheet (binding-element 0) cleared
 
 abbrev pub plain-pattern : Sheet → Whole (Unit {0})
 plain-pattern sheet = reading plain sheet (binding-element 0) tt
+
+-- the checks of a list in the order of their numbers: 1, 2, 5, 6, 7
+unfoldable pub checks : Sheet → Checked
+checks sheet =
+    check-length (sheet .kinds)
+    and-then check-flag-length (sheet .kinds) (sheet .flags)
+    and-then check-flags (sheet .flags)
+    and-then check-kinds (sheet .kinds)
+    and-then check-nesting (sheet .kinds)
+
+-- the refusal of a check, or what comes of the reading
+unfoldable pub after-checks : Checked → Whole (List ℕ) → Whole (List ℕ)
+after-checks Checked.Fine read = read
+after-checks (Checked.Refused cause) read = refused cause
+
+-- what the two entries give
+abbrev pub read-sheet : Sheet → Whole (List ℕ)
+read-sheet sheet = after-checks (checks sheet) (box-reading sheet)
+
+abbrev pub read-pattern : Sheet → Whole (List ℕ)
+read-pattern sheet = after-checks (checks sheet) (box-pattern sheet)
+
+-- and what they answer: Read with its three counts (rows, records, abandoned heads), or Refused with a cause
+abbrev pub answer-of : Whole (List ℕ) → Answer
+answer-of (whole trees records notes) = Answer.Read (record { rows = sizes trees; records = length records; abandoned = noted-places notes })
+answer-of (refused cause) = Answer.Refused cause

@@ -1,14 +1,16 @@
--- What a reading is given, what comes of it, and the few words in which the productions are written.
+-- What a reading is given, what comes of it, and the few words in which the productions are written. The files of the productions take from
+-- here also what they need of numbers, tests, tokens, trees and records.
 -- Assumes nothing: these are definitions.
-use Prim.Native.Nat.{ℕ, _+_}
-use mathlib.Core.Bool.{Bool, true, false}
-use mathlib.Core.List.{List, [], _∷_, _++_}
-use lib.ListN.{length}
-use Rattle.tokens.specs.Bool.{_is_, if_then_else_}
+pub use Prim.Native.Nat.{ℕ, _+_}
+pub use mathlib.Core.Bool.{Bool, not}
+pub use mathlib.Core.List.{List, [], _∷_, _++_}
+pub use Rattle.tokens.specs.Bool.{_and_, _or_, _is_, if_then_else_, between}
+pub use Rattle.tokens.specs.Token.{is-name, is-word, is-literal}
+pub use Rattle.tokens.specs.declared.cause.Cause.{Cause}
+pub use Rattle.rows.specs.Tree.{Tree, Forest, node, nil, cons, one, join, kind-of, mark-of, kids-of}
+pub use Rattle.rows.specs.Record.{Record, break-before-arrow, rest-initializer, mixed-coalesce, unary-power, shorthand-initializer}
+use Rattle.tokens.specs.Kind.{Comma}
 use Rattle.tokens.specs.Token.{kind-at, flag-at}
-use Rattle.tokens.specs.declared.cause.Cause.{Cause}
-use Rattle.rows.specs.Tree.{Tree, Forest, node, nil, cons}
-use Rattle.rows.specs.Record.{Record}
 
 infixl 10 _>>=_
 -- what a reading is given: the tokens' kinds, and the flags, 1 where a line break stands before the token
@@ -84,6 +86,10 @@ module _ {N : Type 0} where
   unfoldable pub yield : ℕ → Forest → Reading N
   yield end trees notes = done end trees [] notes
 
+  -- one row over what was read: its kind, mark, first and end, and its kids
+  abbrev pub make : ℕ → ℕ → ℕ → ℕ → Forest → Reading N
+  make kind mark first end kids = yield end (one (node kind mark first end kids))
+
   unfoldable pub refuse : Cause → Reading N
   refuse cause notes = fail cause notes
 
@@ -94,6 +100,10 @@ module _ {N : Type 0} where
   -- a token of this kind must stand here
   abbrev pub want : Sheet → ℕ → ℕ → Reading N → Reading N
   want sheet kind at next = if token sheet at is kind then next else unexpected at
+
+  -- after a part of a list: a comma, and it goes on; or its closing token must stand here, and it ends
+  abbrev pub comma-or : Sheet → ℕ → ℕ → Reading N → Reading N → Reading N
+  comma-or sheet closing at more ended = if token sheet at is Comma then more else want sheet closing at ended
 
   -- something must hold, or the reading is refused
   abbrev pub unless-refuse : Bool → Cause → Reading N → Reading N

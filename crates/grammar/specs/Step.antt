@@ -1,7 +1,6 @@
--- The productions together: the only recursion of the whole grammar, and what a nonterminal comes to.
+-- The productions together: the only recursion of the whole grammar.
 -- Assumes nothing: these are definitions.
-use Prim.Native.Nat.{ℕ, zero, suc, _+_, _-_, _*_, _≤_}
-use mathlib.Core.Path.{_≡_}
+use Prim.Native.Nat.{ℕ, zero, suc, _+_, _*_}
 use lib.ListN.{length}
 use Rattle.grammar.specs.Sheet.{Sheet, Out, stuck, Reading}
 use Rattle.grammar.specs.Job.{Job, expression, sequence, assignment, value, assign, conditional, binary, operators, unary, postfix, left-hand-side, links, arguments, primary, elements, properties, property, key, spread, binding, binding-element, binding-elements, binding-properties, binding-property, binding-rest, head, parameters, body, Asks}
@@ -51,71 +50,6 @@ module _ {N : Type 0} (policy : Policy N) (sheet : Sheet) where
   read zero job notes = stuck
   read (suc steps) job notes = step (read steps) job notes
 
--- the place that a nonterminal is at, and among those at one place the order in which they ask each other
-abbrev pub place-of : Job → ℕ
-place-of (expression at) = at
-place-of (sequence first comma at so-far) = at
-place-of (assignment at) = at
-place-of (value at) = at
-place-of (assign first at left) = at
-place-of (conditional first at test) = at
-place-of (binary floor at) = at
-place-of (operators floor first at left) = at
-place-of (unary at) = at
-place-of (postfix at) = at
-place-of (left-hand-side at) = at
-place-of (links first at left) = at
-place-of (arguments first at so-far) = at
-place-of (primary at) = at
-place-of (elements first at kind so-far) = at
-place-of (properties first at kind so-far) = at
-place-of (property at) = at
-place-of (key at) = at
-place-of (spread at) = at
-place-of (binding at) = at
-place-of (binding-element at) = at
-place-of (binding-elements first at so-far) = at
-place-of (binding-properties first at so-far) = at
-place-of (binding-property at) = at
-place-of (binding-rest at) = at
-place-of (head at) = at
-place-of (parameters at so-far) = at
-place-of (body kind first at so-far) = at
-
-abbrev pub rank : Job → ℕ
-rank (expression at) = 12
-rank (sequence first comma at so-far) = 1
-rank (assignment at) = 11
-rank (value at) = 10
-rank (assign first at left) = 1
-rank (conditional first at test) = 1
-rank (binary floor at) = 9
-rank (operators floor first at left) = 1
-rank (unary at) = 8
-rank (postfix at) = 7
-rank (left-hand-side at) = 6
-rank (links first at left) = 1
-rank (arguments first at so-far) = 13
-rank (primary at) = 5
-rank (elements first at kind so-far) = 13
-rank (properties first at kind so-far) = 13
-rank (property at) = 4
-rank (key at) = 1
-rank (spread at) = 1
-rank (binding at) = 2
-rank (binding-element at) = 3
-rank (binding-elements first at so-far) = 4
-rank (binding-properties first at so-far) = 4
-rank (binding-property at) = 3
-rank (binding-rest at) = 1
-rank (head at) = 5
-rank (parameters at so-far) = 4
-rank (body kind first at so-far) = 1
-
--- so many steps are always enough
-abbrev pub μ : Sheet → Job → ℕ
-μ sheet job = 32 * (length (sheet .kinds) - place-of job) + rank job
-
--- a nonterminal comes to this, with any bound on the steps that is large enough
-pub record Settles {N : Type 0} (policy : Policy N) (sheet : Sheet) (job : Job) (notes : N) (out : Out N) : Type 0 where
-  pub with : (steps : ℕ) → μ sheet job ≤ steps → read policy sheet steps job notes ≡ out
+-- so many steps are always enough: 32 for each token, and 13 more
+abbrev pub plenty : Sheet → ℕ
+plenty sheet = 32 * length (sheet .kinds) + 13

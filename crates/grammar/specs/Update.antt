@@ -1,14 +1,10 @@
 -- 13.4 Update expressions and 13.5 unary operators.
 -- Assumes nothing: these are definitions.
-use Prim.Native.Nat.{ℕ, _+_}
-use mathlib.Core.Bool.{Bool, not}
-use Rattle.tokens.specs.Bool.{_and_, _or_, _is_, if_then_else_, between}
 use Rattle.tokens.specs.Kind.{Bang, Delete, Plus, Minus, Plus2, Minus2}
-use Rattle.rows.specs.Tree.{Tree, node, one}
 use Rattle.rows.specs.Row as Row
 use Rattle.targets.specs.Conversion.{Role, simple, Outcome, turned, refused, convert-as}
-use Rattle.grammar.specs.Sheet.{Sheet, token, break-before, Out, done, fail, Reading, tree, _>>=_, _>>_, yield}
-use Rattle.grammar.specs.Job.{Job, unary, postfix, left-hand-side, Asks}
+use Rattle.grammar.specs.Sheet.{ℕ, _+_, Bool, not, _and_, _or_, _is_, if_then_else_, between, Tree, one, Sheet, token, break-before, done, fail, Reading, tree, _>>=_, yield, make}
+use Rattle.grammar.specs.Job.{unary, postfix, left-hand-side, Asks}
 
 -- 13.5 delete void typeof + - ~ !
 unfoldable pub is-unary-operator : ℕ → Bool
@@ -32,15 +28,13 @@ module _ {N : Type 0} (sheet : Sheet) (ask : Asks N) where
   -- 13.4 UpdateExpression : ++ UnaryExpression | -- UnaryExpression
   unfoldable pub unary-of : ℕ → Reading N
   unary-of at =
-      if is-unary-operator (token sheet at)
-      then (do
+      if is-unary-operator (token sheet at) then (do
         operand ← ask (unary (at + 1))
-        yield (operand .end) (one (node Row.Unary at at (operand .end) (operand .trees))))
-      else if is-update-operator (token sheet at)
-      then (do
+        make Row.Unary at at (operand .end) (operand .trees))
+      else if is-update-operator (token sheet at) then (do
         operand ← ask (unary (at + 1))
         target ← converted simple (operand .end) (tree operand)
-        yield (target .end) (one (node Row.PrefixUpdate at at (target .end) (target .trees))))
+        make Row.PrefixUpdate at at (target .end) (target .trees))
       else ask (postfix at)
 
   -- 13.4 UpdateExpression : LeftHandSideExpression | LeftHandSideExpression [no LineTerminator here] ++ | .. --
@@ -50,5 +44,5 @@ module _ {N : Type 0} (sheet : Sheet) (ask : Asks N) where
     if is-update-operator (token sheet (operand .end)) and not (break-before sheet (operand .end))
         then (do
           target ← converted simple (operand .end) (tree operand)
-          yield (target .end + 1) (one (node Row.PostfixUpdate (target .end) at (target .end + 1) (target .trees))))
+          make Row.PostfixUpdate (target .end) at (target .end + 1) (target .trees))
         else yield (operand .end) (operand .trees)

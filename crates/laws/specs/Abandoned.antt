@@ -21,7 +21,8 @@ use Rattle.rows.specs.Record.{Record}
 use Rattle.grammar.specs.Sheet.{Sheet, token, Out, done, fail, or-else, try}
 use Rattle.grammar.specs.Job.{Job, assignment, value, head}
 use Rattle.grammar.specs.Arrow.{attempt, Policy, noting, arrow-of, assignment-of}
-use Rattle.grammar.specs.Step.{read, μ}
+use Rattle.grammar.specs.Step.{read, plenty}
+use Rattle.laws.specs.Settles.{μ, in-plenty}
 use Rattle.grammar.specs.Reading.{way-of, box, cleared, noted-places, unconverteds, whole, refused, at-end, reading}
 use Rattle.laws.specs.Good.{Came, came, whole-from}
 use Rattle.laws.specs.Bounds.{limits, Bound}
@@ -187,18 +188,18 @@ pub record Logged (sheet : Sheet) (job : Job) (trees : Forest) (records : List R
   pub log-once : Once notes places
 
 module _ (sheet : Sheet) (job : Job) (there : looked-at job ≤ length (sheet .kinds)) (small : length (sheet .kinds) ≤ 2048) where
-  together : Rel (Alike sheet) _≡_ (Bound (limits sheet job)) (read (box sheet) sheet (μ sheet job) job cleared)
-      (read (logging sheet) sheet (μ sheet job) job (record { notes = cleared; places = [] }))
+  together : Rel (Alike sheet) _≡_ (Bound (limits sheet job)) (read (box sheet) sheet (plenty sheet) job cleared)
+      (read (logging sheet) sheet (plenty sheet) job (record { notes = cleared; places = [] }))
   together =
-      related (λ c. refl) sheet 0 (box sheet) (logging sheet) (assignment-logged sheet) job (omega arith) there (μ sheet job) (μ sheet job) (omega arith) (omega arith)
+      related (λ c. refl) sheet 0 (box sheet) (logging sheet) (assignment-logged sheet) job (omega arith) there (plenty sheet) (plenty sheet) (in-plenty sheet job) (in-plenty sheet job)
       cleared (record { notes = cleared; places = [] }) (alike-start sheet small)
 
   pub logs-the-same : {trees : Forest} {records : List Record} {notes : List ℕ} → reading (box sheet) sheet job cleared ≡ whole trees records notes → Logged sheet job trees records notes
   unfolding reading at-end
   logs-the-same {trees} {records} {notes} e = go together (came (box sheet) sheet job cleared e)
     where
-      go : Rel (Alike sheet) _≡_ (Bound (limits sheet job)) (read (box sheet) sheet (μ sheet job) job cleared)
-          (read (logging sheet) sheet (μ sheet job) job (record { notes = cleared; places = [] }))
+      go : Rel (Alike sheet) _≡_ (Bound (limits sheet job)) (read (box sheet) sheet (plenty sheet) job cleared)
+          (read (logging sheet) sheet (plenty sheet) job (record { notes = cleared; places = [] }))
           → Came (box sheet) sheet job cleared trees records notes → Logged sheet job trees records notes
       go (both-done end ts rs m log e₁ e₂ b s) c =
           let d = c .done-at-end in
@@ -207,7 +208,7 @@ module _ (sheet : Sheet) (job : Job) (there : looked-at job ≤ length (sheet .k
           let q : ts ≡ trees = cc in
           let p : rs ≡ c .said = cc in
           let a : log ≡ record { notes = notes; places = log .places } = log-is log (s .same ∙ cc) in
-          let w : read (logging sheet) sheet (μ sheet job) job (record { notes = cleared; places = [] })
+          let w : read (logging sheet) sheet (plenty sheet) job (record { notes = cleared; places = [] })
           ≡ done (length (sheet .kinds)) trees (c .said) (record { notes = notes; places = log .places }) = cc in
           record {
             places = log .places;
@@ -228,11 +229,11 @@ module _ (sheet : Sheet) (job : Job) (there : looked-at job ≤ length (sheet .k
 -- notes that cover 2,048 places, each 0 or 1, stay so
 module _ (sheet : Sheet) (job : Job) (there : looked-at job ≤ length (sheet .kinds)) where
   pub notes-stay : {notes : List ℕ} → Fine notes → {end : ℕ} {trees : Forest} {records : List Record} {after : List ℕ}
-      → read (box sheet) sheet (μ sheet job) job notes ≡ done end trees records after → Fine after
-  notes-stay {notes} f e = kept-if-done (box sheet) sheet 0 Fine (λ at m l i k. fine-set at k) job (omega arith) there notes f (μ sheet job) (omega arith) e
+      → read (box sheet) sheet (plenty sheet) job notes ≡ done end trees records after → Fine after
+  notes-stay {notes} f e = kept-if-done (box sheet) sheet 0 Fine (λ at m l i k. fine-set at k) job (omega arith) there notes f (plenty sheet) (in-plenty sheet job) e
 
-  pub notes-stay-failing : {notes : List ℕ} → Fine notes → {cause : Cause} {after : List ℕ} → read (box sheet) sheet (μ sheet job) job notes ≡ fail cause after → Fine after
-  notes-stay-failing {notes} f e = kept-if-fail (box sheet) sheet 0 Fine (λ at m l i k. fine-set at k) job (omega arith) there notes f (μ sheet job) (omega arith) e
+  pub notes-stay-failing : {notes : List ℕ} → Fine notes → {cause : Cause} {after : List ℕ} → read (box sheet) sheet (plenty sheet) job notes ≡ fail cause after → Fine after
+  notes-stay-failing {notes} f e = kept-if-fail (box sheet) sheet 0 Fine (λ at m l i k. fine-set at k) job (omega arith) there notes f (plenty sheet) (in-plenty sheet job) e
 
   pub notes-stay-whole : {trees : Forest} {records : List Record} {notes : List ℕ} → reading (box sheet) sheet job cleared ≡ whole trees records notes → Fine notes
   notes-stay-whole e = notes-stay fine-cleared (came (box sheet) sheet job cleared e .done-at-end)

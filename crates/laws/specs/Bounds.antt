@@ -28,7 +28,8 @@ use Rattle.grammar.specs.LeftHandSide.{left-hand-side-of, links-of, arguments-o
 use Rattle.grammar.specs.Primary.{parenthesized-of, primary-of, spread-of, elements-of, properties-of, shorthand-of, property-of, key-of}
 use Rattle.grammar.specs.Binding.{binding-of, binding-element-of, binding-rest-of, binding-elements-of, argument-of, binding-properties-of, binding-shorthand-of, binding-property-of}
 use Rattle.grammar.specs.Arrow.{Policy, arrow-of, assignment-of, parenthesized-head-of, head-of, parameters-of, body-of}
-use Rattle.grammar.specs.Step.{step, read, Settles, μ}
+use Rattle.grammar.specs.Step.{step, read}
+use Rattle.laws.specs.Settles.{Settles, μ}
 use Rattle.grammar.specs.Reading.{unconverteds, whole, reading}
 use Rattle.laws.specs.Good.{came, Reads, Answers, Preserved, good, good-done, yields, refuses, says, follows, tries, test, token-test, chooses, notes, converts, so, inside, and-left}
 use Rattle.laws.specs.Owed.{owes, owes-one, owed, oweds, lent, sizes-join, oweds-join, same-size, pays, pays-lasts}
@@ -500,7 +501,7 @@ module _ {N : Type 0} (sheet : Sheet) {ask : Asks N} (h : Answers Any (λ job. B
       (token-test sheet _ _
       (λ t. follows (asked (binding-rest at))
       (λ rest rs b. token-test sheet _ _
-      (λ t. test (kind-of (argument-of sheet ask (tree rest)) is Row.BindingName) (λ _. yields _ _ (lone _ (simp weights (omega arith)))) (λ _. refuses _ tt))
+      (λ t. test (kind-of (argument-of (tree rest)) is Row.BindingName) (λ _. yields _ _ (lone _ (simp weights (omega arith)))) (λ _. refuses _ tt))
       (refuses _ tt)))
       (follows (asked (binding-property at))
       (λ part rs b. token-test sheet _ _

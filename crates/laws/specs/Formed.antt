@@ -15,9 +15,11 @@ use Rattle.laws.specs.Good.{and-left, and-right}
 use Rattle.rows.specs.Row as Row
 use Rattle.rows.specs.Tree.{Tree, Forest, node, nil, cons, one, count, kind-of, kids-of}
 use Rattle.rows.specs.Record.{Record}
-use Rattle.targets.specs.Conversion.{Outcome, turned, refused, Role, any, simple, element, last-element, property, last-property, value, name, same, Change, refuse, keep, turn, elements, properties, key-and-value, name-and-initializer, is-array-or-object, last-of, seen, as-simple, as-any, as-value, as-element, as-last-element, as-property, as-last-property, as-name, change, roles, over, both, convert-as, convert-kids}
+use Rattle.targets.specs.Conversion.{Outcome, turned, refused, Role, any, simple, element, last-element, property, last-property, value, name, same, Change, refuse, keep, turn, is-array-or-object, last-of, seen, as-simple, as-any, as-value, as-element, as-last-element, as-property, as-last-property, as-name, change, roles, over, both, convert-as, convert-kids}
+use Rattle.targets.specs.KidRoles.{elements, properties, key-and-value, name-and-initializer}
 use Rattle.tokens.specs.declared.cause.Cause.{Cause}
-use Rattle.rows.specs.Shape.{is-listed, is-left-hand-side, is-unary, is-binary, is-logical, is-assignment, is-parameter, is-key, is-value, is-simple-target, is-target, is-target-element, is-target-property, is-target-value, nothing, only, Shape, table, is-one-of, look-up, shape-of, least, may-be, may-end, fits, last-kind, all-fit, is-shaped, well-formed, all-well-formed}
+use Rattle.rows.specs.Shape.{is-listed, is-left-hand-side, is-unary, is-binary, is-logical, is-assignment, is-parameter, is-simple-target, is-target, nothing, only, Shape, shape-of, least, may-be, may-end, fits, last-kind, all-fit, is-shaped, well-formed, all-well-formed}
+use Rattle.laws.specs.Kinds.{is-key, is-value, is-target-element, is-target-property, is-target-value}
 
 -- kinds of rows
 abbrev pub Kinds : Type 0
@@ -182,7 +184,7 @@ mutual
 -- CONVERSION
 -- a class within another
 target-value-element : (t : Tree) → In (of is-target-value) t → In (of is-target-element) t
-unfolding in-class is-target-value is-target-element
+unfolding in-class only
 target-value-element t i = record { holds = go (is-target (kind-of t)) (eqb (kind-of t) Row.TargetDefault) (eqb (kind-of t) Row.Hole) (i .holds) }
   where
     go : (a b c : Bool) → a or b ≡ true → a or c or b ≡ true
@@ -194,7 +196,7 @@ pub or-left : (a b : Bool) → a ≡ true → a or b ≡ true
 or-left a b e = rw e
 
 target-value-of : (t : Tree) → In (of is-target) t → In (of is-target-value) t
-unfolding in-class is-target-value
+unfolding in-class only
 target-value-of t i = record { holds = or-left _ _ (i .holds) }
 
 target-of : (t : Tree) → In (of is-simple-target) t → In (of is-target) t
@@ -286,7 +288,7 @@ initialized-kids k e = two-kids (λ t t′ a i. held Row.TargetShorthandInit ref
 
 pair-kids : {kids kids′ : Forest} → Kids (may-end Row.Property) nothing nothing [] (is-key ∷ is-value ∷ []) kids → Each key-and-value kids kids′
     → Kids (may-end Row.TargetProperty) nothing nothing [] (is-key ∷ is-target-value ∷ []) kids′
-unfolding free is-key is-simple-target is-target is-target-value
+unfolding free is-simple-target is-target only
 pair-kids k e = two-kids (λ t t′ a i. held Row.TargetProperty refl (in-same a (bare i))) (λ t t′ b j. held Row.TargetProperty refl b) k e
 
 compound-kids : {kids : Forest} → Kids (may-end Row.CompoundAssign) nothing nothing [] (is-simple-target ∷ is-assignment ∷ []) kids
@@ -297,7 +299,7 @@ compound-kids (in-front i k) = in-front (held Row.TargetDefault refl (target-of 
 -- what each change makes of a row that is Formed
 module _ (kind mark first end : ℕ) (kids : Forest) (k : KidsOf kind kids) (a : AllFormed kids) where
   simple-becomes : Becomes (λ t. In (of is-simple-target) t) mark first end kids (as-simple (seen (node kind mark first end kids)))
-  unfolding shape-of look-up table is-one-of is-listed in-class may-end free only is-target is-simple-target is-target-element is-target-property is-target-value kind-of kids-of last-kind seen as-simple
+  unfolding shape-of is-listed in-class may-end free only is-target is-simple-target kind-of kids-of last-kind seen as-simple
   simple-becomes =
       becomes-if (eqb kind Row.Identifier) (λ e. keeps _ _ refl (row-formed refl (rw (eqb-true kind Row.Identifier e) at k) a) (record { holds = refl }))
       (becomes-if (eqb kind Row.Member) (λ e. keeps _ _ refl (row-formed refl (rw (eqb-true kind Row.Member e) at k) a) (record { holds = refl }))
@@ -309,7 +311,7 @@ module _ (kind mark first end : ℕ) (kids : Forest) (k : KidsOf kind kids) (a :
       (refuses _ refl))))
 
   any-becomes : Becomes (λ t. In (of is-target) t) mark first end kids (as-any (seen (node kind mark first end kids)))
-  unfolding shape-of look-up table is-one-of is-listed in-class may-end free only is-target is-simple-target is-target-element is-target-property is-target-value kind-of kids-of last-kind seen as-any
+  unfolding shape-of is-listed in-class may-end free only is-target is-simple-target kind-of kids-of last-kind seen as-any
   any-becomes =
       becomes-if (eqb kind Row.Array) (λ e. array [])
       (becomes-if (eqb kind Row.ArrayRestComma and eqb (kind-of (last-of kids)) Row.Spread) (λ e. array _)
@@ -326,20 +328,20 @@ module _ (kind mark first end : ℕ) (kids : Forest) (k : KidsOf kind kids) (a :
           turns _ _ _ _ refl (λ kids′ c f. row-formed refl (then-rest (list-kids Row.TargetObject (properties comma) refl (λ t t′ i. i) (λ n t t′ i. rw (eqb·suc-zero n) at i) c)) f) (λ kids′. record { holds = refl })
 
   value-becomes : Becomes (λ t. In (of is-target-value) t) mark first end kids (as-value (seen (node kind mark first end kids)))
-  unfolding shape-of look-up table is-one-of is-listed in-class may-end free only is-target is-simple-target is-target-element is-target-property is-target-value kind-of kids-of last-kind seen as-value
+  unfolding shape-of is-listed in-class may-end free only is-target is-simple-target kind-of kids-of last-kind seen as-value
   value-becomes =
       becomes-if (eqb kind Row.Assign) (λ e. keeps _ _ refl (row-formed refl (rw (eqb-true kind Row.Assign e) at k) a) (record { holds = refl }))
       (becomes-if (eqb kind Row.CompoundAssign) (λ e. keeps _ _ refl (row-formed refl (compound-kids (rw (eqb-true kind Row.CompoundAssign e) at k)) a) (record { holds = refl }))
       (becomes-so target-value-of any-becomes))
 
   element-becomes : Becomes (λ t. In (of is-target-element) t) mark first end kids (as-element (seen (node kind mark first end kids)))
-  unfolding shape-of look-up table is-one-of is-listed in-class may-end free only is-target is-simple-target is-target-element is-target-property is-target-value kind-of kids-of last-kind seen as-element
+  unfolding shape-of is-listed in-class may-end free only is-target is-simple-target kind-of kids-of last-kind seen as-element
   element-becomes =
       becomes-if (eqb kind Row.Hole) (λ e. keeps _ _ refl (row-formed refl (rw (eqb-true kind Row.Hole e) at k) a) (record { holds = refl }))
       (becomes-if (eqb kind Row.Spread) (λ e. refuses _ refl) (becomes-so target-value-element value-becomes))
 
   last-element-becomes : (comma : List Record) → Becomes (λ t. Last is-target-element t) mark first end kids (as-last-element comma (seen (node kind mark first end kids)))
-  unfolding shape-of look-up table is-one-of is-listed in-class may-end free only is-target is-simple-target is-target-element is-target-property is-target-value kind-of kids-of last-kind seen as-last-element
+  unfolding shape-of is-listed in-class may-end free only is-target is-simple-target kind-of kids-of last-kind seen as-last-element
   last-element-becomes comma =
       becomes-if (eqb kind Row.Spread and eqb (count kids) 1)
       (λ e. turns _ _ _ _ refl (λ kids′ c f. row-formed refl (one-kid Row.TargetRest {role = any} refl (λ t t′ i. i) (eqb-true (count kids) 1 (and-right (eqb kind Row.Spread) _ e)) c) f)
@@ -347,7 +349,7 @@ module _ (kind mark first end : ℕ) (kids : Forest) (k : KidsOf kind kids) (a :
       (becomes-so (λ t i. as-others i) element-becomes)
 
   property-becomes : Becomes (λ t. In (of is-target-property) t) mark first end kids (as-property (seen (node kind mark first end kids)))
-  unfolding shape-of look-up table is-one-of is-listed in-class may-end free only is-target is-simple-target is-target-element is-target-property is-target-value kind-of kids-of last-kind seen as-property
+  unfolding shape-of is-listed in-class may-end free only is-target is-simple-target kind-of kids-of last-kind seen as-property
   property-becomes =
       becomes-if (eqb kind Row.Shorthand and eqb (count kids) 1)
       (λ e. turns _ _ _ _ refl (λ kids′ c f. row-formed refl (one-kid Row.TargetShorthand {role = name} refl (λ t t′ i. i) (eqb-true (count kids) 1 (and-right (eqb kind Row.Shorthand) _ e)) c) f)
@@ -359,7 +361,7 @@ module _ (kind mark first end : ℕ) (kids : Forest) (k : KidsOf kind kids) (a :
       (becomes-if (eqb kind Row.Spread) (λ e. refuses _ refl) (refuses _ refl))))
 
   last-property-becomes : (comma : List Record) → Becomes (λ t. Last is-target-property t) mark first end kids (as-last-property comma (seen (node kind mark first end kids)))
-  unfolding shape-of look-up table is-one-of is-listed in-class may-end free only is-target is-simple-target is-target-element is-target-property is-target-value kind-of kids-of last-kind seen as-last-property
+  unfolding shape-of is-listed in-class may-end free only is-target is-simple-target kind-of kids-of last-kind seen as-last-property
   last-property-becomes comma =
       becomes-if (eqb kind Row.Spread and eqb (count kids) 1)
       (λ e. turns _ _ _ _ refl (λ kids′ c f. row-formed refl (one-kid Row.TargetRest {role = any} refl (λ t t′ i. i) (eqb-true (count kids) 1 (and-right (eqb kind Row.Spread) _ e)) c) f)
@@ -367,7 +369,7 @@ module _ (kind mark first end : ℕ) (kids : Forest) (k : KidsOf kind kids) (a :
       (becomes-so (λ t i. as-others i) property-becomes)
 
   name-becomes : Becomes (λ t. In (of (only Row.TargetName)) t) mark first end kids (as-name (seen (node kind mark first end kids)))
-  unfolding shape-of look-up table is-one-of is-listed in-class may-end free only is-target is-simple-target is-target-element is-target-property is-target-value kind-of kids-of last-kind seen as-name
+  unfolding shape-of is-listed in-class may-end free only is-target is-simple-target kind-of kids-of last-kind seen as-name
   name-becomes = becomes-if (eqb kind Row.Identifier) (λ e. keeps _ _ refl (row-formed refl (rw (eqb-true kind Row.Identifier e) at k) a) (record { holds = refl })) (refuses _ refl)
 
   becomes : is-listed kind ≡ true → (role : Role) → Becomes (After role (node kind mark first end kids)) mark first end kids (change role (seen (node kind mark first end kids)))

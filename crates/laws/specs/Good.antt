@@ -19,7 +19,7 @@ use Rattle.grammar.specs.Sheet.{Sheet, token, Out, done, fail, stuck, Reading, 
 use Rattle.grammar.specs.Job.{Job, Asks}
 use Rattle.grammar.specs.Update.{converted-to, converted}
 use Rattle.grammar.specs.Arrow.{Way, pass, attempt, commit, Policy, by-way, choose, noting}
-use Rattle.grammar.specs.Step.{step, read, μ}
+use Rattle.grammar.specs.Step.{step, read, plenty}
 use Rattle.grammar.specs.Reading.{unconverteds, whole, refused as refused-whole, at-end, reading}
 
 -- what may be said of what is done: up to where, the trees, the records
@@ -106,15 +106,15 @@ and-right false b e = let z : _≡_ {A = ℕ} 0 1 = cc in absurd (omega arith)
 -- a whole reading is one that is done at the end of the list, and then come the records 8
 pub record Came {N : Type 0} (policy : Policy N) (sheet : Sheet) (job : Job) (notes : N) (trees : Forest) (records : List Record) (after : N) : Type 0 where
   pub said : List Record
-  pub done-at-end : read policy sheet (μ sheet job) job notes ≡ done (length (sheet .kinds)) trees said after
+  pub done-at-end : read policy sheet (plenty sheet) job notes ≡ done (length (sheet .kinds)) trees said after
   pub then-unconverted : records ≡ said ++ unconverteds trees
 
 pub came : {N : Type 0} (policy : Policy N) (sheet : Sheet) (job : Job) (notes : N) {trees : Forest} {records : List Record} {after : N}
     → reading policy sheet job notes ≡ whole trees records after → Came policy sheet job notes trees records after
 unfolding reading at-end
-came {N} policy sheet job notes {trees} {records} {after} e = go (read policy sheet (μ sheet job) job notes) refl e
+came {N} policy sheet job notes {trees} {records} {after} e = go (read policy sheet (plenty sheet) job notes) refl e
   where
-    at-place : (end : ℕ) (ts : Forest) (rs : List Record) (m : N) → read policy sheet (μ sheet job) job notes ≡ done end ts rs m → (b : Bool) → end is length (sheet .kinds) ≡ b
+    at-place : (end : ℕ) (ts : Forest) (rs : List Record) (m : N) → read policy sheet (plenty sheet) job notes ≡ done end ts rs m → (b : Bool) → end is length (sheet .kinds) ≡ b
         → (if b then whole ts (rs ++ unconverteds ts) m else refused-whole (Cause.Unexpected end)) ≡ whole trees records after → Came policy sheet job notes trees records after
     at-place end ts rs m d true t e =
         let a : end ≡ length (sheet .kinds) = eqb-true _ _ t in
@@ -123,7 +123,7 @@ came {N} policy sheet job notes {trees} {records} {after} e = go (read policy sh
         record { said = rs; done-at-end = cc; then-unconverted = cc }
     at-place end ts rs m d false t e = let z : _≡_ {A = ℕ} 0 1 = cc in absurd (omega arith)
 
-    go : (out : Out N) → read policy sheet (μ sheet job) job notes ≡ out → at-end (length (sheet .kinds)) out ≡ whole trees records after
+    go : (out : Out N) → read policy sheet (plenty sheet) job notes ≡ out → at-end (length (sheet .kinds)) out ≡ whole trees records after
         → Came policy sheet job notes trees records after
     go (done end ts rs m) d e = at-place end ts rs m d (end is length (sheet .kinds)) refl e
     go (fail cause m) d e = let z : _≡_ {A = ℕ} 0 1 = cc in absurd (omega arith)
@@ -131,28 +131,28 @@ came {N} policy sheet job notes {trees} {records} {after} e = go (read policy sh
 
 -- and the other way round
 pub whole-from : {N : Type 0} (policy : Policy N) (sheet : Sheet) (job : Job) (notes : N) {trees : Forest} {said : List Record} {after : N}
-    → read policy sheet (μ sheet job) job notes ≡ done (length (sheet .kinds)) trees said after → reading policy sheet job notes ≡ whole trees (said ++ unconverteds trees) after
+    → read policy sheet (plenty sheet) job notes ≡ done (length (sheet .kinds)) trees said after → reading policy sheet job notes ≡ whole trees (said ++ unconverteds trees) after
 unfolding reading at-end
 whole-from policy sheet job notes e = rw (e, eq-eqb (length (sheet .kinds)) (length (sheet .kinds)) refl)
 
 -- a whole reading that is refused: the nonterminal failed, or something stands after it
 pub data Refused {N : Type 0} (policy : Policy N) (sheet : Sheet) (job : Job) (notes : N) (cause : Cause) : Type 0 where
-  failed : (after : N) → read policy sheet (μ sheet job) job notes ≡ fail cause after → Refused policy sheet job notes cause
-  followed : (end : ℕ) (trees : Forest) (records : List Record) (after : N) → read policy sheet (μ sheet job) job notes ≡ done end trees records after
+  failed : (after : N) → read policy sheet (plenty sheet) job notes ≡ fail cause after → Refused policy sheet job notes cause
+  followed : (end : ℕ) (trees : Forest) (records : List Record) (after : N) → read policy sheet (plenty sheet) job notes ≡ done end trees records after
       → cause ≡ Cause.Unexpected end → Refused policy sheet job notes cause
-  stopped : read policy sheet (μ sheet job) job notes ≡ stuck → cause ≡ Cause.Unexpected 0 → Refused policy sheet job notes cause
+  stopped : read policy sheet (plenty sheet) job notes ≡ stuck → cause ≡ Cause.Unexpected 0 → Refused policy sheet job notes cause
 
 pub refused-by : {N : Type 0} (policy : Policy N) (sheet : Sheet) (job : Job) (notes : N) {cause : Cause} → reading policy sheet job notes ≡ refused-whole cause
     → Refused policy sheet job notes cause
 unfolding reading at-end
-refused-by {N} policy sheet job notes {cause} e = go (read policy sheet (μ sheet job) job notes) refl e
+refused-by {N} policy sheet job notes {cause} e = go (read policy sheet (plenty sheet) job notes) refl e
   where
-    at-place : (end : ℕ) (ts : Forest) (rs : List Record) (m : N) → read policy sheet (μ sheet job) job notes ≡ done end ts rs m → (b : Bool)
+    at-place : (end : ℕ) (ts : Forest) (rs : List Record) (m : N) → read policy sheet (plenty sheet) job notes ≡ done end ts rs m → (b : Bool)
         → (if b then whole ts (rs ++ unconverteds ts) m else refused-whole (Cause.Unexpected end)) ≡ refused-whole cause → Refused policy sheet job notes cause
     at-place end ts rs m d true e = let z : _≡_ {A = ℕ} 0 1 = cc in absurd (omega arith)
     at-place end ts rs m d false e = let a : cause ≡ Cause.Unexpected end = cc in followed end ts rs m d a
 
-    go : (out : Out N) → read policy sheet (μ sheet job) job notes ≡ out → at-end (length (sheet .kinds)) out ≡ refused-whole cause → Refused policy sheet job notes cause
+    go : (out : Out N) → read policy sheet (plenty sheet) job notes ≡ out → at-end (length (sheet .kinds)) out ≡ refused-whole cause → Refused policy sheet job notes cause
     go (done end ts rs m) d e = at-place end ts rs m d (end is length (sheet .kinds)) e
     go (fail c m) d e = let a : c ≡ cause = cc in failed m (rw a at d)
     go stuck d e = let a : cause ≡ Cause.Unexpected 0 = cc in stopped d a

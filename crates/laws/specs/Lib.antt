@@ -1,3 +1,4 @@
+pub mod Settles
 pub mod Sheets
 pub mod Good
 pub mod Owed
@@ -6,6 +7,7 @@ pub mod Rel
 pub mod Steady
 pub mod Places
 pub mod Abandoned
+pub mod Kinds
 pub mod Formed
 pub mod WellFormed
 pub mod Promises

@@ -28,7 +28,7 @@ use Rattle.grammar.specs.LeftHandSide.{left-hand-side-of, links-of, arguments-o
 use Rattle.grammar.specs.Primary.{parenthesized-of, primary-of, spread-of, elements-of, properties-of, shorthand-of, property-of, key-of}
 use Rattle.grammar.specs.Binding.{binding-of, binding-element-of, binding-rest-of, binding-elements-of, argument-of, binding-properties-of, binding-shorthand-of, binding-property-of}
 use Rattle.grammar.specs.Arrow.{Policy, arrow-of, assignment-of, parenthesized-head-of, head-of, parameters-of, body-of}
-use Rattle.grammar.specs.Step.{step, read, μ}
+use Rattle.grammar.specs.Step.{step, read, plenty}
 use Rattle.grammar.specs.Reading.{whole, refused as refused-whole, reading}
 use Rattle.laws.specs.Good.{came, Refused, failed, followed, stopped, refused-by, Meaning, Reads, Answers, good-given, good-done, good-fail, yields, refuses, says, follows, tries, test, token-test, chooses, notes, converts, so, both, inside, and-right}
 use Rattle.laws.specs.Bounds.{Any, Nothing, limits, Bound, all-bounded, bounded-at, fee, fee-comma, fee-one}
@@ -533,7 +533,7 @@ module _ {N : Type 0} (sheet : Sheet) {ask : Asks N} (g : Answers Any (λ job. B
       (token-test sheet _ _
       (λ t. follows (asked (binding-rest at) (t .here))
       (λ rest rs b. token-test sheet _ _
-      (λ t. test (kind-of (argument-of sheet ask (tree rest)) is Row.BindingName) (λ _. yields _ _ (lie-one (row (omega arith) (omega arith) (omega arith) (omega arith) (lie-join (fit .2) (lie-wide (b .1) (omega arith) (omega arith)))))) (λ _. refuses _ (omega arith)))
+      (λ t. test (kind-of (argument-of (tree rest)) is Row.BindingName) (λ _. yields _ _ (lie-one (row (omega arith) (omega arith) (omega arith) (omega arith) (lie-join (fit .2) (lie-wide (b .1) (omega arith) (omega arith)))))) (λ _. refuses _ (omega arith)))
       (refuses _ (omega arith))))
       (follows (asked (binding-property at) (omega arith))
       (λ part rs b. token-test sheet _ _
@@ -660,25 +660,25 @@ module _ {N : Type 0} (policy : Policy N) (sheet : Sheet) where
 
   -- the trees of a whole reading lie in the list
   pub whole-lies : (notes : N) {trees : Forest} {records : List Record} {after : N} → reading policy sheet (expression 0) notes ≡ whole trees records after → Lie 0 (length (sheet .kinds)) trees
-  whole-lies notes e = lies-at (μ sheet (expression 0)) (expression 0) (omega arith) notes (came policy sheet (expression 0) notes e .done-at-end)
+  whole-lies notes e = lies-at (plenty sheet) (expression 0) (omega arith) notes (came policy sheet (expression 0) notes e .done-at-end)
 
   pub pattern-lies : (notes : N) {trees : Forest} {records : List Record} {after : N} → reading policy sheet (binding-element 0) notes ≡ whole trees records after
       → Lie 0 (length (sheet .kinds)) trees
-  pattern-lies notes e = lies-at (μ sheet (binding-element 0)) (binding-element 0) (omega arith) notes (came policy sheet (binding-element 0) notes e .done-at-end)
+  pattern-lies notes e = lies-at (plenty sheet) (binding-element 0) (omega arith) notes (came policy sheet (binding-element 0) notes e .done-at-end)
 
   -- and its refusal stands at a token of the list, or at its end
   pub refusal-inside : (notes : N) {cause : Cause} → reading policy sheet (expression 0) notes ≡ refused-whole cause → Inside sheet cause
   refusal-inside notes {cause} e = go (refused-by policy sheet (expression 0) notes e)
     where
       go : Refused policy sheet (expression 0) notes cause → Inside sheet cause
-      go (failed after d) = refused-inside (μ sheet (expression 0)) (expression 0) (omega arith) notes d
-      go (followed end trees records after d c) = rw c (let b = bounded-at policy sheet (μ sheet (expression 0)) (expression 0) notes d in omega arith)
+      go (failed after d) = refused-inside (plenty sheet) (expression 0) (omega arith) notes d
+      go (followed end trees records after d c) = rw c (let b = bounded-at policy sheet (plenty sheet) (expression 0) notes d in omega arith)
       go (stopped d c) = rw c (omega arith)
 
   pub pattern-refusal-inside : (notes : N) {cause : Cause} → reading policy sheet (binding-element 0) notes ≡ refused-whole cause → Inside sheet cause
   pattern-refusal-inside notes {cause} e = go (refused-by policy sheet (binding-element 0) notes e)
     where
       go : Refused policy sheet (binding-element 0) notes cause → Inside sheet cause
-      go (failed after d) = refused-inside (μ sheet (binding-element 0)) (binding-element 0) (omega arith) notes d
-      go (followed end trees records after d c) = rw c (let b = bounded-at policy sheet (μ sheet (binding-element 0)) (binding-element 0) notes d in omega arith)
+      go (failed after d) = refused-inside (plenty sheet) (binding-element 0) (omega arith) notes d
+      go (followed end trees records after d c) = rw c (let b = bounded-at policy sheet (plenty sheet) (binding-element 0) notes d in omega arith)
       go (stopped d c) = rw c (omega arith)

@@ -13,7 +13,8 @@ use Rattle.rows.specs.Record.{Record}
 use Rattle.grammar.specs.Sheet.{Sheet, Out, stuck}
 use Rattle.grammar.specs.Job.{Job, expression, binding-element}
 use Rattle.grammar.specs.Arrow.{Policy}
-use Rattle.grammar.specs.Step.{read, μ, Settles}
+use Rattle.grammar.specs.Step.{read, plenty}
+use Rattle.laws.specs.Settles.{μ, Settles, in-plenty}
 use Rattle.grammar.specs.Reading.{whole, refused, box, cleared, box-reading, box-pattern}
 use Rattle.laws.specs.Bounds as Bounds
 use Rattle.laws.specs.Rel.{looked-at}
@@ -42,6 +43,11 @@ abbrev pub NeverStuck : Type 1
 NeverStuck =
     (N : Type 0) (policy : Policy N) (sheet : Sheet) (job : Job) (notes : N) (steps : ℕ) → looked-at job ≤ length (sheet .kinds) → μ sheet job ≤ steps
     → read policy sheet steps job notes ≡ stuck → ⊥
+
+-- nor with as many as the definition allows
+abbrev pub PlentyIsEnough : Type 1
+PlentyIsEnough =
+    (N : Type 0) (policy : Policy N) (sheet : Sheet) (job : Job) (notes : N) → looked-at job ≤ length (sheet .kinds) → read policy sheet (plenty sheet) job notes ≡ stuck → ⊥
 
 -- OF THE BOX'S READER
 -- what is said of the reading of a list as a whole, as one Expression and as one pattern
@@ -92,6 +98,9 @@ every-settles N policy sheet job notes there = Steady.settles policy sheet job t
 
 pub never-stuck : NeverStuck
 never-stuck N policy sheet job notes steps there enough e = Steady.never-stuck policy sheet job there notes steps enough e
+
+pub plenty-is-enough : PlentyIsEnough
+plenty-is-enough N policy sheet job notes there e = Steady.never-stuck policy sheet job there notes (plenty sheet) (in-plenty sheet job) e
 
 pub one-outcome : OneOutcome
 one-outcome N policy sheet job notes out out′ s s′ = Steady.one-outcome s s′

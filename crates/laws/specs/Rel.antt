@@ -29,7 +29,8 @@ use Rattle.grammar.specs.LeftHandSide.{left-hand-side-of, links-of, arguments-o
 use Rattle.grammar.specs.Primary.{parenthesized-of, primary-of, spread-of, elements-of, properties-of, shorthand-of, property-of, key-of}
 use Rattle.grammar.specs.Binding.{binding-of, binding-element-of, binding-rest-of, binding-elements-of, argument-of, binding-properties-of, binding-shorthand-of, binding-property-of}
 use Rattle.grammar.specs.Arrow.{Way, pass, attempt, commit, Policy, by-way, choose, noting, arrow-of, assignment-of, parenthesized-head-of, head-of, parameters-of, body-of}
-use Rattle.grammar.specs.Step.{step, read, μ}
+use Rattle.grammar.specs.Step.{step, read}
+use Rattle.laws.specs.Settles.{μ}
 use Rattle.laws.specs.Good.{Meaning, Stands, inside, and-right}
 use Rattle.laws.specs.Bounds.{reads, limits, Bound, bounded-at}
 
@@ -444,7 +445,7 @@ module _ {N N′ : Type 0} {Sim : N → N′ → Type 0} {Alike : Cause → Caus
       (both-token sheet _ _
       (λ t. both-follow (asked (binding-rest at) (omega arith))
       (λ rest rs b. both-token sheet _ _
-      (λ t. both-test (kind-of (argument-of sheet ask (tree rest)) is Row.BindingName) (λ _. both-yield _ _) (λ _. no _))
+      (λ t. both-test (kind-of (argument-of (tree rest)) is Row.BindingName) (λ _. both-yield _ _) (λ _. no _))
       (no _)))
       (both-follow (asked (binding-property at) (omega arith))
       (λ part rs b. both-token sheet _ _ (λ t. last (binding-properties first (part .end + 1) (join so-far (part .trees))) (omega arith))
@@ -526,46 +527,49 @@ positive sheet (head at) = omega arith
 positive sheet (parameters at so-far) = omega arith
 positive sheet (body kind first at so-far) = omega arith
 
+-- EVERY PRODUCTION, with any two policies and any two ways to answer what is asked, from what is special to the policies
+module _ {N N′ : Type 0} {Sim : N → N′ → Type 0} {Alike : Cause → Cause → Type 0} (alike : (cause : Cause) → Alike cause cause) (sheet : Sheet) (low : ℕ) (A : Policy N) (B : Policy N′) {n : ℕ}
+    {ask : Asks N} {ask′ : Asks N′} (h : Near Sim Alike sheet low n ask ask′)
+    (assignment-rel : (at : ℕ) → Ready sheet low (suc n) (assignment at) → Agree Sim Alike Whatever (assignment-of A sheet ask at) (assignment-of B sheet ask′ at)) where
+  pub step-rel : (job : Job) → Ready sheet low (suc n) job → Agree Sim Alike Whatever (step A sheet ask job) (step B sheet ask′ job)
+  unfolding step
+  step-rel (expression at) r = expression-rel alike sheet h at r
+  step-rel (sequence first comma at so-far) r = sequence-rel alike sheet h first comma at so-far r
+  step-rel (assignment at) r = assignment-rel at r
+  step-rel (value at) r = value-rel alike sheet h at r
+  step-rel (assign first at left) r = assign-rel alike sheet h first at left r
+  step-rel (conditional first at left) r = conditional-rel alike sheet h first at left r
+  step-rel (binary floor at) r = binary-rel alike sheet h floor at r
+  step-rel (operators floor first at left) r = operators-rel alike sheet h floor first at left r
+  step-rel (unary at) r = unary-rel alike sheet h at r
+  step-rel (postfix at) r = postfix-rel alike sheet h at r
+  step-rel (left-hand-side at) r = left-hand-side-rel alike sheet h at r
+  step-rel (links first at left) r = links-rel alike sheet h first at left r
+  step-rel (arguments first at so-far) r = arguments-rel alike sheet h first at so-far r
+  step-rel (primary at) r = primary-rel alike sheet h at r
+  step-rel (elements first at kind so-far) r = elements-rel alike sheet h first at kind so-far r
+  step-rel (properties first at kind so-far) r = properties-rel alike sheet h first at kind so-far r
+  step-rel (property at) r = property-rel alike sheet h at r
+  step-rel (key at) r = key-rel alike sheet h at r
+  step-rel (spread at) r = spread-rel alike sheet h at r
+  step-rel (binding at) r = binding-rel alike sheet h at r
+  step-rel (binding-element at) r = binding-element-rel alike sheet h at r
+  step-rel (binding-elements first at so-far) r = binding-elements-rel alike sheet h first at so-far r
+  step-rel (binding-properties first at so-far) r = binding-properties-rel alike sheet h first at so-far r
+  step-rel (binding-property at) r = binding-property-rel alike sheet h at r
+  step-rel (binding-rest at) r = binding-rest-rel alike sheet h at r
+  step-rel (head at) r = head-rel alike sheet h at r
+  step-rel (parameters at so-far) r = parameters-rel alike sheet h at so-far r
+  step-rel (body kind first at so-far) r = body-rel alike sheet h kind first at so-far r
+
 -- THE TWO READERS, from what is special to their policies
 module _ {N N′ : Type 0} {Sim : N → N′ → Type 0} {Alike : Cause → Cause → Type 0} (alike : (cause : Cause) → Alike cause cause) (sheet : Sheet) (low : ℕ) (A : Policy N) (B : Policy N′)
     (assignment-rel : (n f f′ : ℕ) → n ≤ f → n ≤ f′ → Near Sim Alike sheet low n (read A sheet f) (read B sheet f′) → (at : ℕ) → Ready sheet low (suc n) (assignment at)
     → Agree Sim Alike Whatever (assignment-of A sheet (read A sheet f) at) (assignment-of B sheet (read B sheet f′) at)) where
-  step-rel : (n f f′ : ℕ) → n ≤ f → n ≤ f′ → Near Sim Alike sheet low n (read A sheet f) (read B sheet f′) → (job : Job) → Ready sheet low (suc n) job
-      → Agree Sim Alike Whatever (step A sheet (read A sheet f) job) (step B sheet (read B sheet f′) job)
-  unfolding step
-  step-rel n f f′ l l′ h (expression at) r = expression-rel alike sheet h at r
-  step-rel n f f′ l l′ h (sequence first comma at so-far) r = sequence-rel alike sheet h first comma at so-far r
-  step-rel n f f′ l l′ h (assignment at) r = assignment-rel n f f′ l l′ h at r
-  step-rel n f f′ l l′ h (value at) r = value-rel alike sheet h at r
-  step-rel n f f′ l l′ h (assign first at left) r = assign-rel alike sheet h first at left r
-  step-rel n f f′ l l′ h (conditional first at left) r = conditional-rel alike sheet h first at left r
-  step-rel n f f′ l l′ h (binary floor at) r = binary-rel alike sheet h floor at r
-  step-rel n f f′ l l′ h (operators floor first at left) r = operators-rel alike sheet h floor first at left r
-  step-rel n f f′ l l′ h (unary at) r = unary-rel alike sheet h at r
-  step-rel n f f′ l l′ h (postfix at) r = postfix-rel alike sheet h at r
-  step-rel n f f′ l l′ h (left-hand-side at) r = left-hand-side-rel alike sheet h at r
-  step-rel n f f′ l l′ h (links first at left) r = links-rel alike sheet h first at left r
-  step-rel n f f′ l l′ h (arguments first at so-far) r = arguments-rel alike sheet h first at so-far r
-  step-rel n f f′ l l′ h (primary at) r = primary-rel alike sheet h at r
-  step-rel n f f′ l l′ h (elements first at kind so-far) r = elements-rel alike sheet h first at kind so-far r
-  step-rel n f f′ l l′ h (properties first at kind so-far) r = properties-rel alike sheet h first at kind so-far r
-  step-rel n f f′ l l′ h (property at) r = property-rel alike sheet h at r
-  step-rel n f f′ l l′ h (key at) r = key-rel alike sheet h at r
-  step-rel n f f′ l l′ h (spread at) r = spread-rel alike sheet h at r
-  step-rel n f f′ l l′ h (binding at) r = binding-rel alike sheet h at r
-  step-rel n f f′ l l′ h (binding-element at) r = binding-element-rel alike sheet h at r
-  step-rel n f f′ l l′ h (binding-elements first at so-far) r = binding-elements-rel alike sheet h first at so-far r
-  step-rel n f f′ l l′ h (binding-properties first at so-far) r = binding-properties-rel alike sheet h first at so-far r
-  step-rel n f f′ l l′ h (binding-property at) r = binding-property-rel alike sheet h at r
-  step-rel n f f′ l l′ h (binding-rest at) r = binding-rest-rel alike sheet h at r
-  step-rel n f f′ l l′ h (head at) r = head-rel alike sheet h at r
-  step-rel n f f′ l l′ h (parameters at so-far) r = parameters-rel alike sheet h at so-far r
-  step-rel n f f′ l l′ h (body kind first at so-far) r = body-rel alike sheet h kind first at so-far r
-
   one-step : (n f f′ : ℕ) → n ≤ f → n ≤ f′ → Near Sim Alike sheet low n (read A sheet f) (read B sheet f′) → (job : Job) → Ready sheet low (suc n) job → (m : N) (m′ : N′) → Sim m m′
       → Rel Sim Alike Whatever (read A sheet (suc f) job m) (read B sheet (suc f′) job m′)
   unfolding read
-  one-step n f f′ l l′ h job r m m′ s = step-rel n f f′ l l′ h job r .with m m′ s
+  one-step n f f′ l l′ h job r m m′ s = step-rel alike sheet low A B h (assignment-rel n f f′ l l′ h) job r .with m m′ s
 
   -- what is known of the first is known of both
   with-bound : (f : ℕ) (job : Job) (m : N) {y : Out N′} → Rel Sim Alike Whatever (read A sheet f job m) y → Rel Sim Alike (Bound (limits sheet job)) (read A sheet f job m) y

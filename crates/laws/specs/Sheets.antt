@@ -1,6 +1,6 @@
--- The sheets to prove by, P1 to P10 of document 01: one statement over the table, exact to the last word of both buffers.
+-- The sheets to prove by, P1 to P10 of document 01: one statement over the table, exact to the last word of the tree and the records.
 -- Assumes nothing.
-use Prim.Native.Nat.{ℕ, _*_, _+_}
+use Prim.Native.Nat.{ℕ}
 use mathlib.Core.Path.{_≡_, refl}
 use mathlib.Core.List.{List, [], _∷_, _++_}
 use lib.ListN.{length, replicate}
@@ -21,14 +21,14 @@ use Rattle.grammar.specs.Comma.{expression-of, sequence-of}
 use Rattle.grammar.specs.Binding.{binding-of, binding-element-of, binding-rest-of, binding-elements-of, binding-properties-of, binding-shorthand-of, binding-property-of}
 use Rattle.grammar.specs.Arrow.{by-way, choose, noting, arrow-of, assignment-of, parenthesized-head-of, head-of, parameters-of, body-of}
 use Rattle.grammar.specs.Step.{step, read}
-use Rattle.grammar.specs.Reading.{way-of, noted-places, unconverted, unconverteds, at-end, reading}
-use Rattle.grammar.specs.Entry.{check-row-room, check-record-room, checks, padded, answered, checked, entry}
+use Rattle.grammar.specs.Reading.{way-of, noted-places, unconverted, unconverteds, at-end, reading, checks, after-checks}
 use Rattle.rows.specs.Tree.{row}
 use Rattle.tokens.specs.declared.cause.Answer.{Answer}
 use Rattle.tokens.specs.declared.cause.Cause.{Cause}
-use Rattle.grammar.specs.Entry.{read-entry}
+use Rattle.grammar.specs.Sheet.{Sheet}
+use Rattle.grammar.specs.Reading.{Whole, whole, refused, read-sheet, answer-of}
 
--- a sheet with no line breaks, and what the reader answers: the answer, the rows, the records
+-- a sheet with no line breaks, and what the reader gives: the answer, the words of the rows and of the records
 pub record Case : Type 0 where
   pub kinds : List ℕ
   pub answer : Answer
@@ -141,17 +141,28 @@ P10 =
 abbrev pub sheets : List Case
 sheets = P1 ∷ P2 ∷ P3 ∷ P4 ∷ P5 ∷ P6 ∷ P7 ∷ P8 ∷ P9 ∷ P10 ∷ []
 
--- read with two words more than asked in each buffer, all 7 before, a case gives its answer, and its words and then 0
+-- the words of what was read; a refusal has none
+abbrev pub row-words : Whole (List ℕ) → List ℕ
+row-words (whole trees records notes) = flats trees
+row-words (refused cause) = []
+
+abbrev pub said-words : Whole (List ℕ) → List ℕ
+said-words (whole trees records notes) = record-words records
+said-words (refused cause) = []
+
+abbrev pub sheet-of : Case → Sheet
+sheet-of case = record { kinds = case .kinds; flags = replicate (length (case .kinds)) 0 }
+
+-- what the reader gives is the case
 abbrev pub Holds : Case → Type 0
 Holds case =
-    let tokens = length (case .kinds) in
-    read-entry (record { kinds = case .kinds; flags = replicate tokens 0 }) (replicate (6 * tokens + 2) 7) (replicate (2 * tokens + 2) 7)
-    ≡ record { answer = case .answer; rows = padded (case .rows) (6 * tokens + 2); records = padded (case .records) (2 * tokens + 2) }
+    let read = read-sheet (sheet-of case) in
+    record { kinds = case .kinds; answer = answer-of read; rows = row-words read; records = said-words read } ≡ case
 
 abbrev pub All : (Case → Type 0) → List Case → Type 0
 All P [] = Unit {0}
 All P (case ∷ cases) = P case × All P cases
 
 pub sheets-hold : All Holds sheets
-unfolding check-length check-flag-length first-such check-flags check-kinds depth-after nesting check-nesting is-name is-word is-literal is-binding-identifier is-modifier-kind level expression-level no-parameters rest-parameter modified-name after-name first-parameter after-paren type-parameter names-type after-angle after-open three-way join count size sizes flat flats kind-of mark-of first-of end-of kids-of record-words inner-kind inner-kinds seen as-simple as-any as-value as-element as-last-element as-property as-last-property as-name change roles over both convert-as convert-kids first-tree after-records and-then or-else _>>=_ try yield refuse say parenthesized-of primary-of spread-of elements-of properties-of shorthand-of property-of key-of left-hand-side-of links-of arguments-of is-unary-operator is-update-operator converted-to unary-of postfix-of operation-kind right-floor is-or-and operation-records binary-of operators-of is-assignment-operator is-async-name assign-of conditional-of after-binary value-of expression-of sequence-of binding-of binding-element-of binding-rest-of binding-elements-of binding-properties-of binding-shorthand-of binding-property-of by-way choose noting arrow-of assignment-of parenthesized-head-of head-of parameters-of body-of step read way-of noted-places unconverted unconverteds at-end reading check-row-room check-record-room checks padded answered checked entry
+unfolding check-length check-flag-length first-such check-flags check-kinds depth-after nesting check-nesting is-name is-word is-literal is-binding-identifier is-modifier-kind level expression-level no-parameters rest-parameter modified-name after-name first-parameter after-paren type-parameter names-type after-angle after-open three-way join count size sizes flat flats kind-of mark-of first-of end-of kids-of record-words inner-kind inner-kinds seen as-simple as-any as-value as-element as-last-element as-property as-last-property as-name change roles over both convert-as convert-kids first-tree after-records and-then or-else _>>=_ try yield refuse say parenthesized-of primary-of spread-of elements-of properties-of shorthand-of property-of key-of left-hand-side-of links-of arguments-of is-unary-operator is-update-operator converted-to unary-of postfix-of operation-kind right-floor is-or-and operation-records binary-of operators-of is-assignment-operator is-async-name assign-of conditional-of after-binary value-of expression-of sequence-of binding-of binding-element-of binding-rest-of binding-elements-of binding-properties-of binding-shorthand-of binding-property-of by-way choose noting arrow-of assignment-of parenthesized-head-of head-of parameters-of body-of step read way-of noted-places unconverted unconverteds at-end reading checks after-checks
 sheets-hold = (refl, (refl, (refl, (refl, (refl, (refl, (refl, (refl, (refl, (refl, tt))))))))))

@@ -16,7 +16,8 @@ use Rattle.rows.specs.Record.{Record}
 use Rattle.grammar.specs.Sheet.{Sheet, token, Out, done, fail, stuck}
 use Rattle.grammar.specs.Job.{Job, assignment, value, head}
 use Rattle.grammar.specs.Arrow.{Policy, assignment-of}
-use Rattle.grammar.specs.Step.{read, μ, Settles}
+use Rattle.grammar.specs.Step.{read}
+use Rattle.laws.specs.Settles.{μ, Settles}
 use Rattle.laws.specs.Good.{inside}
 use Rattle.laws.specs.Bounds.{limits, Bound}
 use Rattle.laws.specs.Rel.{looked-at, first-noted, Ready, Whatever, Rel, both-done, both-fail, Agree, Near, forget, both-follow, both-try, both-note, both-choose, both-test, arrow-rel, related}

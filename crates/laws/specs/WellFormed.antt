@@ -15,8 +15,8 @@ use Rattle.tokens.specs.Kind.{Async, As, Satisfies, Str, Number, LParen, LCurly
 use Rattle.tokens.specs.Token.{is-name, is-word, is-literal}
 use Rattle.operators.specs.Precedence.{tiers, among, level-from, level, expression-level}
 use Rattle.rows.specs.Row as Row
-use Rattle.rows.specs.Shape as shape
-use Rattle.rows.specs.Shape.{is-listed, is-left-hand-side, is-unary, is-binary, is-logical, is-assignment, is-expression, is-binding, is-parameter, is-simple-target, is-target, is-element, is-key, is-value, is-argument, is-body, is-binding-element, is-property, is-binding-property, nothing, only, exactly, any-closed, table, is-one-of, look-up, shape-of, may-end, last-kind, well-formed}
+use Rattle.rows.specs.Shape.{is-listed, is-left-hand-side, is-unary, is-binary, is-logical, is-assignment, is-expression, is-binding, is-parameter, is-simple-target, is-target, is-body, nothing, only, exactly, shape-of, may-end, last-kind, well-formed}
+use Rattle.laws.specs.Kinds.{is-element, is-key, is-value, is-argument, is-binding-element, is-property, is-binding-property, any-closed, any-number}
 use Rattle.rows.specs.Tree.{Tree, Forest, node, nil, cons, one, join, count, kind-of, kids-of}
 use Rattle.rows.specs.Record.{Record}
 use Rattle.rows.proofs.Rows.{count-join}
@@ -31,7 +31,7 @@ use Rattle.grammar.specs.LeftHandSide.{left-hand-side-of, links-of, arguments-o
 use Rattle.grammar.specs.Primary.{parenthesized-of, primary-of, spread-of, elements-of, properties-of, shorthand-of, property-of, key-of}
 use Rattle.grammar.specs.Binding.{binding-of, binding-element-of, binding-rest-of, binding-elements-of, argument-of, binding-properties-of, binding-shorthand-of, binding-property-of}
 use Rattle.grammar.specs.Arrow.{Policy, arrow-of, assignment-of, parenthesized-head-of, head-of, parameters-of, body-of}
-use Rattle.grammar.specs.Step.{step, read, μ}
+use Rattle.grammar.specs.Step.{step, read, plenty}
 use Rattle.grammar.specs.Reading.{whole, reading}
 use Rattle.laws.specs.Good.{came, Meaning, Reads, Answers, Preserved, good, good-done, yields, refuses, says, follows, tries, test, token-test, chooses, notes, converts, so, and-left, and-right}
 use Rattle.laws.specs.Bounds.{Nothing, fee, fee-comma, fee-one}
@@ -210,19 +210,19 @@ unfolding in-class is-expression
 expression-of-assignment i = record { holds = or-left _ _ (i .holds) }
 
 element-of-assignment : {t : Tree} → In (of is-assignment) t → In (of is-element) t
-unfolding in-class is-element
+unfolding in-class only
 element-of-assignment i = record { holds = or-left _ _ (i .holds) }
 
 argument-of-assignment : {t : Tree} → In (of is-assignment) t → In (of is-argument) t
-unfolding in-class is-argument
+unfolding in-class only
 argument-of-assignment i = record { holds = or-left _ _ (i .holds) }
 
 value-of-assignment : {t : Tree} → In (of is-assignment) t → In (of is-value) t
-unfolding in-class is-value
+unfolding in-class only
 value-of-assignment i = record { holds = or-left _ _ (i .holds) }
 
 value-of-parameter : {t : Tree} → In (of is-parameter) t → In (of is-value) t
-unfolding in-class is-value
+unfolding in-class only
 value-of-parameter {t} i = record { holds = go (is-assignment (kind-of t)) (i .holds) }
   where
     go : (a : Bool) {b : Bool} → b ≡ true → a or b ≡ true
@@ -234,7 +234,7 @@ unfolding in-class is-parameter
 parameter-of-binding i = record { holds = or-left _ _ (i .holds) }
 
 binding-element-of-parameter : {t : Tree} → In (of is-parameter) t → In (of is-binding-element) t
-unfolding in-class is-binding-element
+unfolding in-class only
 binding-element-of-parameter i = record { holds = or-left _ _ (i .holds) }
 
 -- of one kind
@@ -243,15 +243,15 @@ unfolding in-class only
 spread-is i = eqb-true _ _ (i .holds)
 
 element-of-spread : {t : Tree} → In (of (only Row.Spread)) t → In (of is-element) t
-unfolding in-class is-left-hand-side is-unary is-binary is-logical is-assignment is-element
+unfolding in-class is-left-hand-side is-unary is-binary is-logical is-assignment only
 element-of-spread i = record { holds = rw (spread-is i) }
 
 argument-of-spread : {t : Tree} → In (of (only Row.Spread)) t → In (of is-argument) t
-unfolding in-class is-left-hand-side is-unary is-binary is-logical is-assignment is-argument
+unfolding in-class is-left-hand-side is-unary is-binary is-logical is-assignment only
 argument-of-spread i = record { holds = rw (spread-is i) }
 
 property-of-spread : {t : Tree} → In (of (only Row.Spread)) t → In (within (may-end Row.Object) is-property) t
-unfolding in-class may-end is-property
+unfolding in-class may-end only
 property-of-spread i = record { holds = rw (spread-is i) }
 
 -- ROWS
@@ -301,7 +301,7 @@ row-of-three {a} {b} {c} {kind} e l w (sole v) (sole u) =
     (rw e (in-front (held kind (and-left _ _ f) (w .fits)) (in-front (held kind (and-left _ _ g) (v .fits)) (in-front (held kind (and-right (free kind b) _ g) (u .fits)) nothing-more))))
     (all-cons (w .formed) (all-cons (v .formed) (all-cons (u .formed) all-nil)))
 
-row-of-many : {a : Kinds} {kind mark first end : ℕ} {ts : Forest} → shape-of kind ≡ shape.any a → is-listed kind ≡ true → All (Well (within (may-end kind) a)) ts
+row-of-many : {a : Kinds} {kind mark first end : ℕ} {ts : Forest} → shape-of kind ≡ any-number a → is-listed kind ≡ true → All (Well (within (may-end kind) a)) ts
     → Formed (node kind mark first end ts)
 row-of-many e l w = make l (rw e (then-rest (all-middle w))) (all-formed w)
 
@@ -322,12 +322,12 @@ sequence-kids (and-tree w (and-tree v a)) l =
     in-front (held Row.Sequence refl (w .fits)) (in-front (held Row.Sequence refl (v .fits)) (then-rest (all-middle (all-held Row.Sequence refl a))))
 
 sequence-row : {mark first end : ℕ} {ts : Forest} → All (Well (of is-assignment)) ts → 2 ≤ count ts → Well (of is-expression) (node Row.Sequence mark first end ts)
-unfolding shape-of look-up table is-one-of is-listed in-class free may-end only is-left-hand-side is-unary is-binary is-logical is-assignment is-expression is-binding is-parameter is-simple-target is-target is-element is-key is-value is-argument is-body is-binding-element is-property is-binding-property kind-of kids-of last-kind
+unfolding shape-of is-listed in-class free may-end only is-left-hand-side is-unary is-binary is-logical is-assignment is-expression is-binding is-parameter is-simple-target is-target is-body kind-of kids-of last-kind
 sequence-row a l = record { formed = make refl (sequence-kids a l) (all-formed a); fits = record { holds = refl } }
 
 -- a Call
 call-row : (sheet : Sheet) {mark at first end : ℕ} {ts : Forest} → Called ts → Term sheet (of is-left-hand-side) at (node Row.Call mark first end ts)
-unfolding shape-of look-up table is-one-of is-listed in-class free may-end only is-left-hand-side is-unary is-binary is-logical is-assignment is-expression is-binding is-parameter is-simple-target is-target is-element is-key is-value is-argument is-body is-binding-element is-property is-binding-property kind-of kids-of last-kind
+unfolding shape-of is-listed in-class free may-end only is-left-hand-side is-unary is-binary is-logical is-assignment is-expression is-binding is-parameter is-simple-target is-target is-body kind-of kids-of last-kind
 call-row sheet (called w a) =
     record {
       well = record { formed = make refl (in-front (held Row.Call refl (w .fits)) (then-rest (all-middle (all-held Row.Call refl a)))) (all-cons (w .formed) (all-formed a)); fits = record { holds = refl } };
@@ -348,12 +348,12 @@ spread-formed a (sole w) = formed-join (all-formed a) (all-cons (w .formed) all-
 
 -- arrays may be closed
 array-closes : (sheet : Sheet) (first : ℕ) {ts : Forest} → All (Well (of is-element)) ts → Closes sheet first Row.Array ts
-unfolding shape-of look-up table is-one-of is-listed in-class free may-end only is-left-hand-side is-unary is-binary is-logical is-assignment is-expression is-binding is-parameter is-simple-target is-target is-element is-key is-value is-argument is-body is-binding-element is-property is-binding-property kind-of kids-of last-kind
+unfolding shape-of is-listed in-class free may-end only is-left-hand-side is-unary is-binary is-logical is-assignment is-expression is-binding is-parameter is-simple-target is-target is-body kind-of kids-of last-kind
 array-closes sheet first a end =
     record { well = record { formed = row-of-many refl refl (all-held Row.Array refl a); fits = record { holds = refl } }; braced = λ e. let z : _≡_ {A = ℕ} 0 1 = cc in absurd (omega arith) }
 
 array-comma-closes : (sheet : Sheet) (first : ℕ) {ts us : Forest} → All (Well (of is-element)) ts → Sole (Well (of (only Row.Spread))) us → Closes sheet first Row.ArrayRestComma (join ts us)
-unfolding shape-of look-up table is-one-of is-listed in-class free may-end only is-left-hand-side is-unary is-binary is-logical is-assignment is-expression is-binding is-parameter is-simple-target is-target is-element is-key is-value is-argument is-body is-binding-element is-property is-binding-property kind-of kids-of last-kind
+unfolding shape-of is-listed in-class free may-end only is-left-hand-side is-unary is-binary is-logical is-assignment is-expression is-binding is-parameter is-simple-target is-target is-body kind-of kids-of last-kind
 array-comma-closes sheet first a s end =
     record {
       well = record { formed = make refl (then-rest (spread-last Row.ArrayRestComma refl (all-held Row.ArrayRestComma refl a) s)) (spread-formed a s); fits = record { holds = refl } };
@@ -362,12 +362,12 @@ array-comma-closes sheet first a s end =
 
 -- and so may objects
 object-closes : (sheet : Sheet) (first : ℕ) {ts : Forest} → token sheet first ≡ LCurly → All (Well (within (may-end Row.Object) is-property)) ts → Closes sheet first Row.Object ts
-unfolding shape-of look-up table is-one-of is-listed in-class free may-end only is-left-hand-side is-unary is-binary is-logical is-assignment is-expression is-binding is-parameter is-simple-target is-target is-element is-key is-value is-argument is-body is-binding-element is-property is-binding-property kind-of kids-of last-kind
+unfolding shape-of is-listed in-class free may-end only is-left-hand-side is-unary is-binary is-logical is-assignment is-expression is-binding is-parameter is-simple-target is-target is-body kind-of kids-of last-kind
 object-closes sheet first t a end = record { well = record { formed = row-of-many refl refl a; fits = record { holds = refl } }; braced = λ e. t }
 
 object-comma-closes : (sheet : Sheet) (first : ℕ) {ts us : Forest} → token sheet first ≡ LCurly → All (Well (within (may-end Row.Object) is-property)) ts → Sole (Well (of (only Row.Spread))) us
     → Closes sheet first Row.ObjectRestComma (join ts us)
-unfolding shape-of look-up table is-one-of is-listed in-class free may-end only is-left-hand-side is-unary is-binary is-logical is-assignment is-expression is-binding is-parameter is-simple-target is-target is-element is-key is-value is-argument is-body is-binding-element is-property is-binding-property kind-of kids-of last-kind
+unfolding shape-of is-listed in-class free may-end only is-left-hand-side is-unary is-binary is-logical is-assignment is-expression is-binding is-parameter is-simple-target is-target is-body kind-of kids-of last-kind
 object-comma-closes sheet first t a s end =
     record { well = record { formed = make refl (then-rest (spread-last Row.ObjectRestComma refl a s)) (spread-formed a s); fits = record { holds = refl } }; braced = λ e. t }
 
@@ -389,7 +389,7 @@ arrow-middle (no-more no-ending) b = no-more (one-ending (held Row.Arrow refl b)
 
 arrow-row : (sheet : Sheet) (at place : ℕ) {kind mark first end : ℕ} {ts us : Forest} → IsArrow kind → Parameters ts → token sheet place is LCurly ≡ false
     → Sole (Term sheet (of is-assignment) place) us → Term sheet (of is-assignment) at (node kind mark first end (join ts us))
-unfolding shape-of look-up table is-one-of is-listed in-class free may-end only is-left-hand-side is-unary is-binary is-logical is-assignment is-expression is-binding is-parameter is-simple-target is-target is-element is-key is-value is-argument is-body is-binding-element is-property is-binding-property kind-of kids-of last-kind
+unfolding shape-of is-listed in-class free may-end only is-left-hand-side is-unary is-binary is-logical is-assignment is-expression is-binding is-parameter is-simple-target is-target is-body kind-of kids-of last-kind
 arrow-row sheet at place {kind} {mark} {first} {end} {ts} k p n (sole {t} e) = go k
   where
     made : AllFormed (join ts (one t))
@@ -465,7 +465,7 @@ operation-row : (sheet : Sheet) (floor first at end : ℕ) (left : Tree) (right 
     → Operand sheet floor first left → (3 < expression-level (token sheet at) → In (of is-binary) left)
     → Sole (Operand sheet (right-floor (token sheet at)) (at + 1)) right → expression-level (token sheet end) ≤ right-floor (token sheet at)
     → Fit sheet (operators floor first end (node (operation-kind (token sheet at)) at first end (cons left right)))
-unfolding shape-of look-up table is-one-of is-listed in-class free may-end only is-left-hand-side is-unary is-binary is-logical is-assignment is-expression is-binding is-parameter is-simple-target is-target is-element is-key is-value is-argument is-body is-binding-element is-property is-binding-property kind-of kids-of last-kind operation-kind
+unfolding shape-of is-listed in-class free may-end only is-left-hand-side is-unary is-binary is-logical is-assignment is-expression is-binding is-parameter is-simple-target is-target is-body kind-of kids-of last-kind operation-kind
 operation-row sheet floor first at end left right l o b r n = go (between Question2 Amp2 (token sheet at)) refl
   where
     go : (q : Bool) → between Question2 Amp2 (token sheet at) ≡ q → Fit sheet (operators floor first end (node (if q then Row.Logical else Row.Binary) at first end (cons left right)))
@@ -544,7 +544,7 @@ module _ {N : Type 0} (sheet : Sheet) {ask : Asks N} (h : Answers (Fit sheet) (I
 
   -- 13.15 and 13.14
   parameter-leaf : (at : ℕ) → Parameters (one (leaf Row.BindingName at))
-  unfolding shape-of look-up table is-one-of is-listed in-class free may-end only is-left-hand-side is-unary is-binary is-logical is-assignment is-expression is-binding is-parameter is-simple-target is-target is-element is-key is-value is-argument is-body is-binding-element is-property is-binding-property kind-of kids-of last-kind
+  unfolding shape-of is-listed in-class free may-end only is-left-hand-side is-unary is-binary is-logical is-assignment is-expression is-binding is-parameter is-simple-target is-target is-body kind-of kids-of last-kind
   parameter-leaf at = record { are-formed = all-cons (leaf-row refl refl) all-nil; are-parameters = one-more (record { holds = refl }) (no-more no-ending) }
 
   value-well : (at : ℕ) → Reads (Is sheet (value at)) Nothing (value-of sheet ask at)
@@ -575,7 +575,7 @@ module _ {N : Type 0} (sheet : Sheet) {ask : Asks N} (h : Answers (Fit sheet) (I
 
   assign-row : (plain : Bool) {first at mark end : ℕ} {ts us : Forest} → Sole (Well (if plain then (of is-target) else (of is-simple-target))) ts → Sole (Well (of is-assignment)) us
       → Term sheet (of is-assignment) first (node (if plain then Row.Assign else Row.CompoundAssign) at mark end (join ts us))
-  unfolding shape-of look-up table is-one-of is-listed in-class free may-end only is-left-hand-side is-unary is-binary is-logical is-assignment is-expression is-binding is-parameter is-simple-target is-target is-element is-key is-value is-argument is-body is-binding-element is-property is-binding-property kind-of kids-of last-kind
+  unfolding shape-of is-listed in-class free may-end only is-left-hand-side is-unary is-binary is-logical is-assignment is-expression is-binding is-parameter is-simple-target is-target is-body kind-of kids-of last-kind
   assign-row true w v = term-of (row-of-two refl refl w v) refl refl
   assign-row false w v = term-of (row-of-two refl refl w v) refl refl
 
@@ -586,7 +586,7 @@ module _ {N : Type 0} (sheet : Sheet) {ask : Asks N} (h : Answers (Fit sheet) (I
       (λ target rs b. follows (asked (assignment (at + 1)) tt) (λ right more c. yields _ _ (sole (assign-row (token sheet at is Eq) b (wells c)))))
 
   conditional-well : (first at : ℕ) (left : Tree) → Well (of is-logical) left → Reads (Is sheet (conditional first at left)) Nothing (conditional-of sheet ask first at left)
-  unfolding shape-of look-up table is-one-of is-listed in-class free may-end only is-left-hand-side is-unary is-binary is-logical is-assignment is-expression is-binding is-parameter is-simple-target is-target is-element is-key is-value is-argument is-body is-binding-element is-property is-binding-property kind-of kids-of last-kind conditional-of
+  unfolding shape-of is-listed in-class free may-end only is-left-hand-side is-unary is-binary is-logical is-assignment is-expression is-binding is-parameter is-simple-target is-target is-body kind-of kids-of last-kind conditional-of
   conditional-well first at left w =
       follows (asked (assignment (at + 1)) tt)
       (λ if-true rs b. token-test sheet _ _
@@ -614,7 +614,7 @@ module _ {N : Type 0} (sheet : Sheet) {ask : Asks N} (h : Answers (Fit sheet) (I
 
   -- 13.5 and 13.4
   unary-well : (at : ℕ) → Reads (Is sheet (unary at)) Nothing (unary-of sheet ask at)
-  unfolding shape-of look-up table is-one-of is-listed in-class free may-end only is-left-hand-side is-unary is-binary is-logical is-assignment is-expression is-binding is-parameter is-simple-target is-target is-element is-key is-value is-argument is-body is-binding-element is-property is-binding-property kind-of kids-of last-kind unary-of
+  unfolding shape-of is-listed in-class free may-end only is-left-hand-side is-unary is-binary is-logical is-assignment is-expression is-binding is-parameter is-simple-target is-target is-body kind-of kids-of last-kind unary-of
   unary-well at =
       test (is-unary-operator (token sheet at))
       (λ t. follows (asked (unary (at + 1)) tt) (λ operand rs b. yields _ _ (sole (term-of (row-of-one refl refl (wells b)) refl refl))))
@@ -625,7 +625,7 @@ module _ {N : Type 0} (sheet : Sheet) {ask : Asks N} (h : Answers (Fit sheet) (I
       (λ _. asked (postfix at) tt))
 
   postfix-well : (at : ℕ) → Reads (Is sheet (postfix at)) Nothing (postfix-of sheet ask at)
-  unfolding shape-of look-up table is-one-of is-listed in-class free may-end only is-left-hand-side is-unary is-binary is-logical is-assignment is-expression is-binding is-parameter is-simple-target is-target is-element is-key is-value is-argument is-body is-binding-element is-property is-binding-property kind-of kids-of last-kind postfix-of
+  unfolding shape-of is-listed in-class free may-end only is-left-hand-side is-unary is-binary is-logical is-assignment is-expression is-binding is-parameter is-simple-target is-target is-body kind-of kids-of last-kind postfix-of
   postfix-well at =
       follows (asked (left-hand-side at) tt)
       (λ operand rs b. test (is-update-operator (token sheet (operand .end)) and not (break-before sheet (operand .end)))
@@ -639,7 +639,7 @@ module _ {N : Type 0} (sheet : Sheet) {ask : Asks N} (h : Answers (Fit sheet) (I
   left-hand-side-well at = follows (asked (primary at) tt) (λ base rs b. asked (links at (base .end) (tree base)) (sole-first b))
 
   links-well : (first at : ℕ) (left : Tree) → Fit sheet (links first at left) → Reads (Is sheet (links first at left)) Nothing (links-of sheet ask first at left)
-  unfolding shape-of look-up table is-one-of is-listed in-class free may-end only is-left-hand-side is-unary is-binary is-logical is-assignment is-expression is-binding is-parameter is-simple-target is-target is-element is-key is-value is-argument is-body is-binding-element is-property is-binding-property kind-of kids-of last-kind links-of
+  unfolding shape-of is-listed in-class free may-end only is-left-hand-side is-unary is-binary is-logical is-assignment is-expression is-binding is-parameter is-simple-target is-target is-body kind-of kids-of last-kind links-of
   links-well first at left fit =
       token-test sheet _ _
       (λ t. test (is-word (token sheet (at + 1)))
@@ -668,7 +668,7 @@ module _ {N : Type 0} (sheet : Sheet) {ask : Asks N} (h : Answers (Fit sheet) (I
 
   -- 13.2
   primary-well : (at : ℕ) → Reads (Is sheet (primary at)) Nothing (primary-of sheet ask at)
-  unfolding shape-of look-up table is-one-of is-listed in-class free may-end only is-left-hand-side is-unary is-binary is-logical is-assignment is-expression is-binding is-parameter is-simple-target is-target is-element is-key is-value is-argument is-body is-binding-element is-property is-binding-property kind-of kids-of last-kind primary-of parenthesized-of
+  unfolding shape-of is-listed in-class free may-end only is-left-hand-side is-unary is-binary is-logical is-assignment is-expression is-binding is-parameter is-simple-target is-target is-body kind-of kids-of last-kind primary-of parenthesized-of
   primary-well at =
       test (is-name (token sheet at)) (λ t. yields _ _ (sole (term-of (leaf-row refl refl) refl refl)))
       (λ _. token-test sheet _ _ (λ t. yields _ _ (sole (term-of (leaf-row refl refl) refl refl)))
@@ -681,7 +681,7 @@ module _ {N : Type 0} (sheet : Sheet) {ask : Asks N} (h : Answers (Fit sheet) (I
       (refuses _ tt))))))
 
   spread-well : (at : ℕ) → Reads (Is sheet (spread at)) Nothing (spread-of sheet ask at)
-  unfolding shape-of look-up table is-one-of is-listed in-class free may-end only is-left-hand-side is-unary is-binary is-logical is-assignment is-expression is-binding is-parameter is-simple-target is-target is-element is-key is-value is-argument is-body is-binding-element is-property is-binding-property kind-of kids-of last-kind spread-of
+  unfolding shape-of is-listed in-class free may-end only is-left-hand-side is-unary is-binary is-logical is-assignment is-expression is-binding is-parameter is-simple-target is-target is-body kind-of kids-of last-kind spread-of
   spread-well at = follows (asked (assignment (at + 1)) tt) (λ argument rs b. yields _ _ (sole (well-of (row-of-one refl refl (wells b)) refl)))
 
   -- an element, and if it has dots a Spread
@@ -698,7 +698,7 @@ module _ {N : Type 0} (sheet : Sheet) {ask : Asks N} (h : Answers (Fit sheet) (I
   array-goes-on first false a s d = array-closes sheet first (all-join a (all-sole s))
 
   elements-well : (first at kind : ℕ) (so-far : Forest) → Fit sheet (elements first at kind so-far) → Reads (Is sheet (elements first at kind so-far)) Nothing (elements-of sheet ask first at kind so-far)
-  unfolding shape-of look-up table is-one-of is-listed in-class free may-end only is-left-hand-side is-unary is-binary is-logical is-assignment is-expression is-binding is-parameter is-simple-target is-target is-element is-key is-value is-argument is-body is-binding-element is-property is-binding-property kind-of kids-of last-kind elements-of
+  unfolding shape-of is-listed in-class free may-end only is-left-hand-side is-unary is-binary is-logical is-assignment is-expression is-binding is-parameter is-simple-target is-target is-body kind-of kids-of last-kind elements-of
   elements-well first at kind so-far fit =
       token-test sheet _ _ (λ t. yields _ _ (sole (fit .1 (at + 1))))
       (token-test sheet _ _
@@ -732,12 +732,12 @@ module _ {N : Type 0} (sheet : Sheet) {ask : Asks N} (h : Answers (Fit sheet) (I
 
   -- a Property, whose class depends on its value
   property-row : {mark first end : ℕ} {ts us : Forest} → Sole (Well (of is-key)) ts → Sole (Well (of is-assignment)) us → Well (within (may-end Row.Object) is-property) (node Row.Property mark first end (join ts us))
-  unfolding shape-of look-up table is-one-of is-listed in-class free may-end only is-left-hand-side is-unary is-binary is-logical is-assignment is-expression is-binding is-parameter is-simple-target is-target is-element is-key is-value is-argument is-body is-binding-element is-property is-binding-property kind-of kids-of last-kind join
+  unfolding shape-of is-listed in-class free may-end only is-left-hand-side is-unary is-binary is-logical is-assignment is-expression is-binding is-parameter is-simple-target is-target is-body kind-of kids-of last-kind join
   property-row (sole k) (sole w) =
       well-of (row-of-two refl refl (sole k) (sole (well-so w value-of-assignment))) (w .fits .holds)
 
   property-well : (at : ℕ) → Reads (Is sheet (property at)) Nothing (property-of sheet ask at)
-  unfolding shape-of look-up table is-one-of is-listed in-class free may-end only is-left-hand-side is-unary is-binary is-logical is-assignment is-expression is-binding is-parameter is-simple-target is-target is-element is-key is-value is-argument is-body is-binding-element is-property is-binding-property kind-of kids-of last-kind property-of shorthand-of
+  unfolding shape-of is-listed in-class free may-end only is-left-hand-side is-unary is-binary is-logical is-assignment is-expression is-binding is-parameter is-simple-target is-target is-body kind-of kids-of last-kind property-of shorthand-of
   property-well at =
       test (is-name (token sheet at) and not (token sheet (at + 1) is Colon))
       (λ n. token-test sheet _ _
@@ -750,7 +750,7 @@ module _ {N : Type 0} (sheet : Sheet) {ask : Asks N} (h : Answers (Fit sheet) (I
       (refuses _ tt)))
 
   key-well : (at : ℕ) → Reads (Is sheet (key at)) Nothing (key-of sheet ask at)
-  unfolding shape-of look-up table is-one-of is-listed in-class free may-end only is-left-hand-side is-unary is-binary is-logical is-assignment is-expression is-binding is-parameter is-simple-target is-target is-element is-key is-value is-argument is-body is-binding-element is-property is-binding-property kind-of kids-of last-kind key-of
+  unfolding shape-of is-listed in-class free may-end only is-left-hand-side is-unary is-binary is-logical is-assignment is-expression is-binding is-parameter is-simple-target is-target is-body kind-of kids-of last-kind key-of
   key-well at =
       test (is-word (token sheet at) or token sheet at is Str or token sheet at is Number) (λ t. yields _ _ (sole (well-of (leaf-row refl refl) refl)))
       (λ _. token-test sheet _ _
@@ -760,14 +760,14 @@ module _ {N : Type 0} (sheet : Sheet) {ask : Asks N} (h : Answers (Fit sheet) (I
 
   -- 14.3.3
   binding-well : (at : ℕ) → Reads (Is sheet (binding at)) Nothing (binding-of sheet ask at)
-  unfolding shape-of look-up table is-one-of is-listed in-class free may-end only is-left-hand-side is-unary is-binary is-logical is-assignment is-expression is-binding is-parameter is-simple-target is-target is-element is-key is-value is-argument is-body is-binding-element is-property is-binding-property kind-of kids-of last-kind binding-of
+  unfolding shape-of is-listed in-class free may-end only is-left-hand-side is-unary is-binary is-logical is-assignment is-expression is-binding is-parameter is-simple-target is-target is-body kind-of kids-of last-kind binding-of
   binding-well at =
       test (is-name (token sheet at)) (λ t. yields _ _ (sole (well-of (leaf-row refl refl) refl)))
       (λ _. token-test sheet _ _ (λ t. asked (binding-elements at (at + 1) nil) no-tree)
       (token-test sheet _ _ (λ t. asked (binding-properties at (at + 1) nil) no-tree) (refuses _ tt)))
 
   binding-element-well : (at : ℕ) → Reads (Is sheet (binding-element at)) Nothing (binding-element-of sheet ask at)
-  unfolding shape-of look-up table is-one-of is-listed in-class free may-end only is-left-hand-side is-unary is-binary is-logical is-assignment is-expression is-binding is-parameter is-simple-target is-target is-element is-key is-value is-argument is-body is-binding-element is-property is-binding-property kind-of kids-of last-kind binding-element-of
+  unfolding shape-of is-listed in-class free may-end only is-left-hand-side is-unary is-binary is-logical is-assignment is-expression is-binding is-parameter is-simple-target is-target is-body kind-of kids-of last-kind binding-element-of
   binding-element-well at =
       follows (asked (binding at) tt)
       (λ target rs b. token-test sheet _ _
@@ -778,11 +778,11 @@ module _ {N : Type 0} (sheet : Sheet) {ask : Asks N} (h : Answers (Fit sheet) (I
   rest-over-sole (sole w) = rest-over w
 
   rest-well : {ts : Forest} → Sole Rest ts → Sole (Well (of (only Row.BindingRest))) ts
-  unfolding shape-of look-up table is-one-of is-listed in-class free may-end only is-left-hand-side is-unary is-binary is-logical is-assignment is-expression is-binding is-parameter is-simple-target is-target is-element is-key is-value is-argument is-body is-binding-element is-property is-binding-property kind-of kids-of last-kind
+  unfolding shape-of is-listed in-class free may-end only is-left-hand-side is-unary is-binary is-logical is-assignment is-expression is-binding is-parameter is-simple-target is-target is-body kind-of kids-of last-kind
   rest-well (sole (rest-over w)) = sole (well-of (row-of-one refl refl (sole w)) refl)
 
-  name-rest-well : {ts : Forest} → Sole Rest ts → kind-of (argument-of sheet ask (first-tree ts)) is Row.BindingName ≡ true → Sole (Well (within (may-end Row.BindingObject) (only Row.BindingRest))) ts
-  unfolding shape-of look-up table is-one-of is-listed in-class free may-end only is-left-hand-side is-unary is-binary is-logical is-assignment is-expression is-binding is-parameter is-simple-target is-target is-element is-key is-value is-argument is-body is-binding-element is-property is-binding-property kind-of kids-of last-kind first-tree
+  name-rest-well : {ts : Forest} → Sole Rest ts → kind-of (argument-of (first-tree ts)) is Row.BindingName ≡ true → Sole (Well (within (may-end Row.BindingObject) (only Row.BindingRest))) ts
+  unfolding shape-of is-listed in-class free may-end only is-left-hand-side is-unary is-binary is-logical is-assignment is-expression is-binding is-parameter is-simple-target is-target is-body kind-of kids-of last-kind first-tree
   name-rest-well (sole (rest-over w)) e = sole (well-of (row-of-one refl refl (sole w)) e)
 
   binding-rest-well : (at : ℕ) → Reads (Is sheet (binding-rest at)) Nothing (binding-rest-of sheet ask at)
@@ -794,7 +794,7 @@ module _ {N : Type 0} (sheet : Sheet) {ask : Asks N} (h : Answers (Fit sheet) (I
 
   binding-elements-well : (first at : ℕ) (so-far : Forest) → All (Well (of is-binding-element)) so-far
       → Reads (Is sheet (binding-elements first at so-far)) Nothing (binding-elements-of sheet ask first at so-far)
-  unfolding shape-of look-up table is-one-of is-listed in-class free may-end only is-left-hand-side is-unary is-binary is-logical is-assignment is-expression is-binding is-parameter is-simple-target is-target is-element is-key is-value is-argument is-body is-binding-element is-property is-binding-property kind-of kids-of last-kind binding-elements-of
+  unfolding shape-of is-listed in-class free may-end only is-left-hand-side is-unary is-binary is-logical is-assignment is-expression is-binding is-parameter is-simple-target is-target is-body kind-of kids-of last-kind binding-elements-of
   binding-elements-well first at so-far a =
       token-test sheet _ _ (λ t. yields _ _ (sole (well-of (row-closable refl refl (all-held Row.BindingArray refl a)) refl)))
       (token-test sheet _ _
@@ -808,13 +808,13 @@ module _ {N : Type 0} (sheet : Sheet) {ask : Asks N} (h : Answers (Fit sheet) (I
 
   binding-properties-well : (first at : ℕ) (so-far : Forest) → All (Well (within (may-end Row.BindingObject) is-binding-property)) so-far
       → Reads (Is sheet (binding-properties first at so-far)) Nothing (binding-properties-of sheet ask first at so-far)
-  unfolding shape-of look-up table is-one-of is-listed in-class free may-end only is-left-hand-side is-unary is-binary is-logical is-assignment is-expression is-binding is-parameter is-simple-target is-target is-element is-key is-value is-argument is-body is-binding-element is-property is-binding-property kind-of kids-of last-kind binding-properties-of
+  unfolding shape-of is-listed in-class free may-end only is-left-hand-side is-unary is-binary is-logical is-assignment is-expression is-binding is-parameter is-simple-target is-target is-body kind-of kids-of last-kind binding-properties-of
   binding-properties-well first at so-far a =
       token-test sheet _ _ (λ t. yields _ _ (sole (well-of (row-closable refl refl a) refl)))
       (token-test sheet _ _
       (λ t. follows (asked (binding-rest at) tt)
       (λ rest rs b. token-test sheet _ _
-      (λ t. test (kind-of (argument-of sheet ask (tree rest)) is Row.BindingName)
+      (λ t. test (kind-of (argument-of (tree rest)) is Row.BindingName)
       (λ e. yields _ _ (sole (well-of (row-closed refl refl a (name-rest-well b e)) refl)))
       (λ _. refuses _ tt))
       (refuses _ tt)))
@@ -824,11 +824,11 @@ module _ {N : Type 0} (sheet : Sheet) {ask : Asks N} (h : Answers (Fit sheet) (I
 
   binding-property-row : {mark first end : ℕ} {ts us : Forest} → Sole (Well (of is-key)) ts → Sole (Well (of is-parameter)) us
       → Well (within (may-end Row.BindingObject) is-binding-property) (node Row.Property mark first end (join ts us))
-  unfolding shape-of look-up table is-one-of is-listed in-class free may-end only is-left-hand-side is-unary is-binary is-logical is-assignment is-expression is-binding is-parameter is-simple-target is-target is-element is-key is-value is-argument is-body is-binding-element is-property is-binding-property kind-of kids-of last-kind join
+  unfolding shape-of is-listed in-class free may-end only is-left-hand-side is-unary is-binary is-logical is-assignment is-expression is-binding is-parameter is-simple-target is-target is-body kind-of kids-of last-kind join
   binding-property-row (sole k) (sole w) = well-of (row-of-two refl refl (sole k) (sole (well-so w value-of-parameter))) (w .fits .holds)
 
   binding-property-well : (at : ℕ) → Reads (Is sheet (binding-property at)) Nothing (binding-property-of sheet ask at)
-  unfolding shape-of look-up table is-one-of is-listed in-class free may-end only is-left-hand-side is-unary is-binary is-logical is-assignment is-expression is-binding is-parameter is-simple-target is-target is-element is-key is-value is-argument is-body is-binding-element is-property is-binding-property kind-of kids-of last-kind binding-property-of binding-shorthand-of
+  unfolding shape-of is-listed in-class free may-end only is-left-hand-side is-unary is-binary is-logical is-assignment is-expression is-binding is-parameter is-simple-target is-target is-body kind-of kids-of last-kind binding-property-of binding-shorthand-of
   binding-property-well at =
       test (is-name (token sheet at) and not (token sheet (at + 1) is Colon))
       (λ n. token-test sheet _ _
@@ -961,9 +961,9 @@ module _ {N : Type 0} (policy : Policy N) (sheet : Sheet) where
   -- a list that is read as a whole is one well-formed Expression
   pub whole-is-well-formed : (notes : N) {trees : Forest} {records : List Record} {after : N} → reading policy sheet (expression 0) notes ≡ whole trees records after
       → OneTree (of is-expression) trees
-  whole-is-well-formed notes e = one-tree (formed-at (μ sheet (expression 0)) (expression 0) tt notes (came policy sheet (expression 0) notes e .done-at-end))
+  whole-is-well-formed notes e = one-tree (formed-at (plenty sheet) (expression 0) tt notes (came policy sheet (expression 0) notes e .done-at-end))
 
   -- and a pattern one well-formed Binding, with or without an initializer
   pub pattern-is-well-formed : (notes : N) {trees : Forest} {records : List Record} {after : N} → reading policy sheet (binding-element 0) notes ≡ whole trees records after
       → OneTree (of is-parameter) trees
-  pattern-is-well-formed notes e = one-tree (formed-at (μ sheet (binding-element 0)) (binding-element 0) tt notes (came policy sheet (binding-element 0) notes e .done-at-end))
+  pattern-is-well-formed notes e = one-tree (formed-at (plenty sheet) (binding-element 0) tt notes (came policy sheet (binding-element 0) notes e .done-at-end))

@@ -4,3 +4,4 @@ pub mod Ends
 pub mod Makes
 pub mod Converts
 pub mod Steps
+pub mod Lent

@@ -29,7 +29,8 @@ use Rattle.grammar.specs.LeftHandSide.{left-hand-side-of, links-of, arguments-o
 use Rattle.grammar.specs.Primary.{parenthesized-of, primary-of, spread-of, elements-of, properties-of, shorthand-of, property-of, key-of}
 use Rattle.grammar.specs.Binding.{binding-of, binding-element-of, binding-rest-of, binding-elements-of, binding-properties-of, binding-shorthand-of, binding-property-of}
 use Rattle.grammar.specs.Arrow.{head-of, parenthesized-head-of, parameters-of, body-of}
-use Rattle.grammar.specs.Step.{step, read, μ, rank, Settles}
+use Rattle.grammar.specs.Step.{step, read}
+use Rattle.laws.specs.Settles.{μ, rank, Settles}
 use Rattle.grammar.specs.Reading.{box}
 use Rattle.laws.specs.Bounds.{bounded}
 use Rattle.making.specs.Post.{sheet-of, Comes}

@@ -2,3 +2,4 @@ pub mod Post
 pub mod Heads
 pub mod Keys
 pub mod Operation
+pub mod Lent

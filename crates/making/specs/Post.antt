@@ -11,7 +11,7 @@ use Rattle.rows.specs.Record.{Record}
 use Rattle.rows.specs.Post.{Pushed, PushedRecord, Grown, Kept, GrownRecords, KeptRecords}
 use Rattle.grammar.specs.Sheet.{Sheet, Out, done, fail}
 use Rattle.grammar.specs.Job.{Job, assignment}
-use Rattle.grammar.specs.Step.{Settles}
+use Rattle.laws.specs.Settles.{Settles}
 use Rattle.grammar.specs.Reading.{box}
 use Rattle.laws.specs.Owed.{owed}
 use Rattle.making.specs.declared.cursor.Cursor.{Cursor}

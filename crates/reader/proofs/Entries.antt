@@ -12,7 +12,8 @@ use Rattle.grammar.specs.Sheet.{Out}
 use Rattle.grammar.specs.Job.{Job}
 use Rattle.grammar.specs.Step as Step
 use Rattle.grammar.specs.Reading.{Whole, whole, refused, box, cleared, at-end, reading}
-use Rattle.grammar.specs.Entry.{answered, checked, entry}
+use Rattle.making.specs.Lent.{answered, checked, entry}
+use Rattle.laws.specs.Settles.{in-plenty}
 use Rattle.laws.specs.Owed.{pays-lasts}
 use Rattle.laws.specs.Bounds.{limits, reads}
 use Rattle.laws.specs.Rel.{looked-at}
@@ -38,7 +39,7 @@ ends {ks} {fs} {r₀} {s₀} e q u v =
 
 -- what the nonterminal comes to
 pub outcome : Job → (ks fs : List ℕ) → Out (List ℕ)
-outcome job ks fs = Step.read (box (sheet-of ks fs)) (sheet-of ks fs) (Step.μ (sheet-of ks fs) job) job cleared
+outcome job ks fs = Step.read (box (sheet-of ks fs)) (sheet-of ks fs) (Step.plenty (sheet-of ks fs)) job cleared
 
 -- a nonterminal of one tree, read from the first token on, came to what it comes to
 pub came : {ks fs r₀ s₀ r s m : List ℕ} {got : Made.Step} (job : Job) → looked-at job ≡ 0 → limits (sheet-of ks fs) job ≡ reads (sheet-of ks fs) 0 0 0
@@ -48,7 +49,7 @@ came {ks} {fs} {m = m} job start lone h =
     record {
       done-to = λ d e.
           let g = h .done-to d e in
-          let a = g .comes .settles .with (Step.μ (sheet-of ks fs) job) (omega arith) in
+          let a = g .comes .settles .with (Step.plenty (sheet-of ks fs)) (in-plenty (sheet-of ks fs) job) in
           let b = moved 0 g lone in
           record {
             trees = g .trees;
@@ -60,7 +61,7 @@ came {ks} {fs} {m = m} job start lone h =
             paid = omega (arith, b, pays-lasts (g .trees));
             fine = notes-stay (sheet-of ks fs) job (omega (arith, start)) fine-cleared a;
           };
-      fail-at = λ cause e. h .fail-at cause e .comes .settles .with (Step.μ (sheet-of ks fs) job) (omega arith);
+      fail-at = λ cause e. h .fail-at cause e .comes .settles .with (Step.plenty (sheet-of ks fs)) (in-plenty (sheet-of ks fs) job);
     }
 
 pub came-out : {ks fs r₀ s₀ r s m : List ℕ} {got : Made.Step} (job : Job) → looked-at job ≡ 0 → limits (sheet-of ks fs) job ≡ reads (sheet-of ks fs) 0 0 0

@@ -15,7 +15,7 @@ use Rattle.rows.proofs.Flat.{length-flats}
 use Rattle.rows.proofs.Records.{length-record-words, grown-records-join}
 use Rattle.rows.proofs.Changed.{cleared-all, cleared-rows, cleared-records}
 use Rattle.grammar.specs.Reading.{noted-places, unconverteds, at-end}
-use Rattle.grammar.specs.Entry.{padded, answered}
+use Rattle.making.specs.Lent.{padded, answered}
 use Rattle.making.specs.declared.cursor.Cursor.{Cursor}
 use Rattle.making.specs.declared.cursor.Step.{Step}
 use Rattle.reader.specs.Post.{unconverted-rows, LastRoom, Ready, CameOut, Emptied, Finished}

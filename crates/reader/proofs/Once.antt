@@ -5,7 +5,7 @@ use mathlib.Core.Path.{_≡_, sym, _∙_}
 use mathlib.Core.List.{List}
 use Rattle.tokens.specs.declared.cause.Answer.{Answer}
 use Rattle.grammar.specs.Sheet.{Sheet}
-use Rattle.grammar.specs.Entry.{Given, read-entry, pattern-entry}
+use Rattle.making.specs.Lent.{Given, read-entry, pattern-entry}
 use Rattle.reader.specs.Entry.{Answers}
 
 answers-once : {g : Given} {r r′ s s′ : List ℕ} {x y : Answer} → Answers g r s x → Answers g r′ s′ y → (x ≡ y) × (r ≡ r′) × (s ≡ s′)

@@ -15,7 +15,7 @@ use Rattle.rows.specs.Record.{Record, shorthand-initializer}
 use Rattle.rows.specs.Post.{Cleared, Grown, GrownRecords}
 use Rattle.grammar.specs.Sheet.{Out, done, fail}
 use Rattle.grammar.specs.Reading.{unconverteds, at-end}
-use Rattle.grammar.specs.Entry.{checks, answered}
+use Rattle.making.specs.Lent.{checks, answered}
 use Rattle.laws.specs.Abandoned.{Fine}
 use Rattle.making.specs.Post.{sheet-of}
 use Rattle.making.specs.declared.cursor.Cursor.{Cursor}

@@ -4,7 +4,7 @@ ghost use mathlib.Core.Path.{_≡_};
 ghost use lib.ListN.{length};
 ghost use Rattle.rows.specs.Post.{GrownRecords};
 ghost use Rattle.grammar.specs.Reading.{noted-places};
-ghost use Rattle.grammar.specs.Entry.{check-row-room, check-record-room, read-entry, pattern-entry};
+ghost use Rattle.making.specs.Lent.{check-row-room, check-record-room, read-entry, pattern-entry};
 ghost use Rattle.laws.specs.Abandoned.{Fine};
 ghost use Rattle.making.specs.Post.{sheet-of};
 ghost use Rattle.reader.specs.Entry.{Answers};

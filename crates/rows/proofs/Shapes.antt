@@ -11,7 +11,7 @@ use lib.ListN.{length, getD}
 use borrow.Author.Tests.{lt-ltb, le-ltb, le-leb, lt-leb, leb-true, eq-eqb, ne-eqb}
 use Rattle.tokens.specs.Bool.{_or_, _and_}
 use Rattle.rows.specs.Mask.{has, mask, cells, Cell}
-use Rattle.rows.specs.Shape.{Shape, nothing, may-be, least, shape-of, table, look-up, is-one-of}
+use Rattle.rows.specs.Shape.{Shape, nothing, may-be, least, shape-of}
 use Rattle.rows.proofs.Masks.{has-mask, numbers, at-place}
 
 -- what a test says of each number below n, if it says so of all of them together
@@ -21,11 +21,11 @@ all-below f n e k h =
 
 -- no row has more than three fixed kids in front, and one at the end
 pub front-few : (kind : ℕ) → kind < 51 → length (shape-of kind .front) ≤ 3
-unfolding numbers shape-of look-up is-one-of table
+unfolding numbers shape-of
 front-few kind h = leb-true _ _ (all-below (λ (k : ℕ). leb (length (shape-of k .front)) 3) 51 refl kind h)
 
 pub ending-few : (kind : ℕ) → kind < 51 → length (shape-of kind .ending) ≤ 1
-unfolding numbers shape-of look-up is-one-of table
+unfolding numbers shape-of
 ending-few kind h = leb-true _ _ (all-below (λ (k : ℕ). leb (length (shape-of k .ending)) 1) 51 refl kind h)
 
 -- the fixed kids are in front and at the end

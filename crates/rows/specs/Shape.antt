@@ -3,12 +3,13 @@
 use Prim.Native.Nat.{ℕ, _+_}
 use mathlib.Core.Bool.{Bool, true, false}
 use mathlib.Core.List.{List, [], _∷_}
-use lib.Dec.{eqb, leb, ltb}
+use lib.Dec.{leb, ltb}
 use lib.ListN.{length, getD}
-use Rattle.tokens.specs.Bool.{_or_, _and_, if_then_else_, between}
+use Rattle.tokens.specs.Bool.{_or_, _and_, _is_, if_then_else_, between}
 use Rattle.rows.specs.Row.{Identifier, Paren, Array, ArrayRestComma, Object, ObjectRestComma, Hole, Spread, Shorthand, ShorthandInit, Property, Key, ComputedKey, Member, Index, Call, Unary, PrefixUpdate, PostfixUpdate, Binary, Logical, Conditional, Assign, CompoundAssign, Sequence, Arrow, AsyncArrow, BindingName, BindingArray, BindingObject, BindingRest, BindingDefault, BindingShorthand, BindingShorthandInit, TargetName, TargetParen, TargetArray, TargetObject, TargetRest, TargetDefault, TargetMember, TargetIndex, TargetProperty, TargetShorthand, TargetShorthandInit}
 use Rattle.rows.specs.Tree.{Tree, Forest, node, nil, cons, count, kind-of, kids-of}
 
+infixr 30 _∪_
 -- the listed kinds: 1 to 36 and 40 to 50
 unfoldable pub is-listed : ℕ → Bool
 is-listed kind = between Identifier BindingShorthandInit kind or between TargetName TargetShorthandInit kind
@@ -23,11 +24,11 @@ is-unary kind = is-left-hand-side kind or between Unary PostfixUpdate kind
 
 -- B: an operand of a Binary: U, 22
 unfoldable pub is-binary : ℕ → Bool
-is-binary kind = is-unary kind or eqb kind Binary
+is-binary kind = is-unary kind or kind is Binary
 
 -- G: an operand of a Logical, and what stands before `?`: B, 23
 unfoldable pub is-logical : ℕ → Bool
-is-logical kind = is-binary kind or eqb kind Logical
+is-logical kind = is-binary kind or kind is Logical
 
 -- S: an AssignmentExpression: G, 24 to 26, 28, 29
 unfoldable pub is-assignment : ℕ → Bool
@@ -35,7 +36,11 @@ is-assignment kind = is-logical kind or between Conditional CompoundAssign kind 
 
 -- E: an Expression: S, 27
 unfoldable pub is-expression : ℕ → Bool
-is-expression kind = is-assignment kind or eqb kind Sequence
+is-expression kind = is-assignment kind or kind is Sequence
+
+-- the body of an arrow: S, but no 7 or 8
+unfoldable pub is-body : ℕ → Bool
+is-body kind = if between Object ObjectRestComma kind then false else is-assignment kind
 
 -- a Binding: 30 to 32
 unfoldable pub is-binding : ℕ → Bool
@@ -43,7 +48,7 @@ is-binding kind = between BindingName BindingObject kind
 
 -- a Binding with or without an initializer: 30 to 32, 34
 unfoldable pub is-parameter : ℕ → Bool
-is-parameter kind = is-binding kind or eqb kind BindingDefault
+is-parameter kind = is-binding kind or kind is BindingDefault
 
 -- a simple target: 40, 41, 46, 47
 unfoldable pub is-simple-target : ℕ → Bool
@@ -53,57 +58,15 @@ is-simple-target kind = between TargetName TargetParen kind or between TargetMem
 unfoldable pub is-target : ℕ → Bool
 is-target kind = is-simple-target kind or between TargetArray TargetObject kind
 
--- in an Array: S, 9, 10
-unfoldable pub is-element : ℕ → Bool
-is-element kind = is-assignment kind or between Hole Spread kind
-
--- of a Property: 14, 15
-unfoldable pub is-key : ℕ → Bool
-is-key kind = between Key ComputedKey kind
-
--- of a Property: S, Binding, 34
-unfoldable pub is-value : ℕ → Bool
-is-value kind = is-assignment kind or is-parameter kind
-
--- of a Call: S, 10
-unfoldable pub is-argument : ℕ → Bool
-is-argument kind = is-assignment kind or eqb kind Spread
-
--- of an arrow: S, but no 7 or 8
-unfoldable pub is-body : ℕ → Bool
-is-body kind = if between Object ObjectRestComma kind then false else is-assignment kind
-
--- in a BindingArray: Binding, 34, 9
-unfoldable pub is-binding-element : ℕ → Bool
-is-binding-element kind = is-parameter kind or eqb kind Hole
-
--- in a TargetArray: target, 9, 45
-unfoldable pub is-target-element : ℕ → Bool
-is-target-element kind = is-target kind or eqb kind Hole or eqb kind TargetDefault
-
--- in a TargetObject: 48 to 50
-unfoldable pub is-target-property : ℕ → Bool
-is-target-property kind = between TargetProperty TargetShorthandInit kind
-
--- of a TargetProperty: target, 45
-unfoldable pub is-target-value : ℕ → Bool
-is-target-value kind = is-target kind or eqb kind TargetDefault
-
--- in an Object: 10 to 13
-unfoldable pub is-property : ℕ → Bool
-is-property kind = between Spread Property kind
-
--- in a BindingObject: 35, 36, 13
-unfoldable pub is-binding-property : ℕ → Bool
-is-binding-property kind = between BindingShorthand BindingShorthandInit kind or eqb kind Property
-
--- the one kind k
+-- the one kind k; no kind; the kinds of two sets
 unfoldable pub only : ℕ → ℕ → Bool
-only k kind = eqb kind k
+only k kind = kind is k
 
--- no kind
 unfoldable pub nothing : ℕ → Bool
 nothing kind = false
+
+abbrev pub _∪_ : (ℕ → Bool) → (ℕ → Bool) → ℕ → Bool
+_∪_ these those kind = these kind or those kind
 
 -- the kids of a row, each by the kinds that it may have: fixed ones in front, then any number of the same kinds, then at most one
 -- closing kid, then fixed ones at the end (the last kid first)
@@ -113,102 +76,71 @@ pub record Shape : Type 0 where
   pub closing : ℕ → Bool
   pub ending : List (ℕ → Bool)
 
+abbrev pub shape : List (ℕ → Bool) → (ℕ → Bool) → (ℕ → Bool) → List (ℕ → Bool) → Shape
+shape front many closing ending = record { front = front; many = many; closing = closing; ending = ending }
+
 -- these kids and no others
 abbrev pub exactly : List (ℕ → Bool) → Shape
-exactly front = record { front = front; many = nothing; closing = nothing; ending = [] }
+exactly front = shape front nothing nothing []
 
--- any number of kids of these kinds
-abbrev pub any : (ℕ → Bool) → Shape
-any kinds = record { front = []; many = kinds; closing = nothing; ending = [] }
-
--- these kids, then any number of these kinds
-abbrev pub any-after : List (ℕ → Bool) → (ℕ → Bool) → Shape
-any-after front kinds = record { front = front; many = kinds; closing = nothing; ending = [] }
-
--- any number of kids of these kinds, then at most one closing kid
-abbrev pub any-closed : (ℕ → Bool) → (ℕ → Bool) → Shape
-any-closed kinds closing = record { front = []; many = kinds; closing = closing; ending = [] }
-
--- any number of kids of these kinds, then at most one closing kid, then these at the end
-abbrev pub any-before : (ℕ → Bool) → (ℕ → Bool) → List (ℕ → Bool) → Shape
-any-before kinds closing ending = record { front = []; many = kinds; closing = closing; ending = ending }
-
--- a line of the table: kinds, and the kids of a row of each of them
-pub data Line : Type 0 where
-  line : List ℕ → Shape → Line
-
--- the kids of each kind; a kind that has no line has none
-unfoldable pub table : List Line
-table =
-    line (Paren ∷ []) (exactly (is-expression ∷ []))
-    ∷ line (Array ∷ []) (any is-element)
-    ∷ line (ArrayRestComma ∷ []) (any-before is-element nothing (only Spread ∷ []))
-    ∷ line (Object ∷ []) (any is-property)
-    ∷ line (ObjectRestComma ∷ []) (any-before is-property nothing (only Spread ∷ []))
-    ∷ line (Spread ∷ ComputedKey ∷ []) (exactly (is-assignment ∷ []))
-    ∷ line (Shorthand ∷ []) (exactly (only Identifier ∷ []))
-    ∷ line (ShorthandInit ∷ []) (exactly (only Identifier ∷ is-assignment ∷ []))
-    ∷ line (Property ∷ []) (exactly (is-key ∷ is-value ∷ []))
-    ∷ line (Member ∷ TargetMember ∷ []) (exactly (is-left-hand-side ∷ []))
-    ∷ line (Index ∷ TargetIndex ∷ []) (exactly (is-left-hand-side ∷ is-expression ∷ []))
-    ∷ line (Call ∷ []) (any-after (is-left-hand-side ∷ []) is-argument)
-    ∷ line (Unary ∷ []) (exactly (is-unary ∷ []))
-    ∷ line (PrefixUpdate ∷ PostfixUpdate ∷ []) (exactly (is-simple-target ∷ []))
-    ∷ line (Binary ∷ []) (exactly (is-binary ∷ is-binary ∷ []))
-    ∷ line (Logical ∷ []) (exactly (is-logical ∷ is-logical ∷ []))
-    ∷ line (Conditional ∷ []) (exactly (is-logical ∷ is-assignment ∷ is-assignment ∷ []))
-    ∷ line (Assign ∷ []) (exactly (is-target ∷ is-assignment ∷ []))
-    ∷ line (CompoundAssign ∷ []) (exactly (is-simple-target ∷ is-assignment ∷ []))
-    ∷ line (Sequence ∷ []) (any-after (is-assignment ∷ is-assignment ∷ []) is-assignment)
-    ∷ line (Arrow ∷ AsyncArrow ∷ []) (any-before is-parameter (only BindingRest) (is-body ∷ []))
-    ∷ line (BindingArray ∷ []) (any-closed is-binding-element (only BindingRest))
-    ∷ line (BindingObject ∷ []) (any-closed is-binding-property (only BindingRest))
-    ∷ line (BindingRest ∷ []) (exactly (is-parameter ∷ []))
-    ∷ line (BindingDefault ∷ []) (exactly (is-binding ∷ is-assignment ∷ []))
-    ∷ line (BindingShorthand ∷ []) (exactly (only BindingName ∷ []))
-    ∷ line (BindingShorthandInit ∷ []) (exactly (only BindingName ∷ is-assignment ∷ []))
-    ∷ line (TargetParen ∷ []) (exactly (is-simple-target ∷ []))
-    ∷ line (TargetArray ∷ []) (any-closed is-target-element (only TargetRest))
-    ∷ line (TargetObject ∷ []) (any-closed is-target-property (only TargetRest))
-    ∷ line (TargetRest ∷ []) (exactly (is-target ∷ []))
-    ∷ line (TargetDefault ∷ []) (exactly (is-target ∷ is-assignment ∷ []))
-    ∷ line (TargetProperty ∷ []) (exactly (is-key ∷ is-target-value ∷ []))
-    ∷ line (TargetShorthand ∷ []) (exactly (only TargetName ∷ []))
-    ∷ line (TargetShorthandInit ∷ []) (exactly (only TargetName ∷ is-assignment ∷ []))
-    ∷ []
-
--- the kind is one of these
-unfoldable pub is-one-of : List ℕ → ℕ → Bool
-is-one-of [] kind = false
-is-one-of (k ∷ ks) kind = eqb kind k or is-one-of ks kind
-
--- the shape in the first line that names the kind
-unfoldable pub look-up : List Line → ℕ → Shape
-look-up [] kind = exactly []
-look-up (line kinds shape ∷ lines) kind = if is-one-of kinds kind then shape else look-up lines kind
-
--- the kids that a row of this kind has
+-- the kids of each kind; a kind that is not here has none
 unfoldable pub shape-of : ℕ → Shape
-shape-of kind = look-up table kind
+shape-of kind =
+    if kind is Paren then exactly (is-expression ∷ [])
+    else if kind is Array then shape [] (is-assignment ∪ only Hole ∪ only Spread) nothing []
+    else if kind is ArrayRestComma then shape [] (is-assignment ∪ only Hole ∪ only Spread) nothing (only Spread ∷ [])
+    else if kind is Object then shape [] (only Spread ∪ only Shorthand ∪ only ShorthandInit ∪ only Property) nothing []
+    else if kind is ObjectRestComma then shape [] (only Spread ∪ only Shorthand ∪ only ShorthandInit ∪ only Property) nothing (only Spread ∷ [])
+    else if kind is Spread or kind is ComputedKey then exactly (is-assignment ∷ [])
+    else if kind is Shorthand then exactly (only Identifier ∷ [])
+    else if kind is ShorthandInit then exactly (only Identifier ∷ is-assignment ∷ [])
+    else if kind is Property then exactly ((only Key ∪ only ComputedKey) ∷ (is-assignment ∪ is-parameter) ∷ [])
+    else if kind is Member or kind is TargetMember then exactly (is-left-hand-side ∷ [])
+    else if kind is Index or kind is TargetIndex then exactly (is-left-hand-side ∷ is-expression ∷ [])
+    else if kind is Call then shape (is-left-hand-side ∷ []) (is-assignment ∪ only Spread) nothing []
+    else if kind is Unary then exactly (is-unary ∷ [])
+    else if kind is PrefixUpdate or kind is PostfixUpdate then exactly (is-simple-target ∷ [])
+    else if kind is Binary then exactly (is-binary ∷ is-binary ∷ [])
+    else if kind is Logical then exactly (is-logical ∷ is-logical ∷ [])
+    else if kind is Conditional then exactly (is-logical ∷ is-assignment ∷ is-assignment ∷ [])
+    else if kind is Assign then exactly (is-target ∷ is-assignment ∷ [])
+    else if kind is CompoundAssign then exactly (is-simple-target ∷ is-assignment ∷ [])
+    else if kind is Sequence then shape (is-assignment ∷ is-assignment ∷ []) is-assignment nothing []
+    else if kind is Arrow or kind is AsyncArrow then shape [] is-parameter (only BindingRest) (is-body ∷ [])
+    else if kind is BindingArray then shape [] (is-parameter ∪ only Hole) (only BindingRest) []
+    else if kind is BindingObject then shape [] (only BindingShorthand ∪ only BindingShorthandInit ∪ only Property) (only BindingRest) []
+    else if kind is BindingRest then exactly (is-parameter ∷ [])
+    else if kind is BindingDefault then exactly (is-binding ∷ is-assignment ∷ [])
+    else if kind is BindingShorthand then exactly (only BindingName ∷ [])
+    else if kind is BindingShorthandInit then exactly (only BindingName ∷ is-assignment ∷ [])
+    else if kind is TargetParen then exactly (is-simple-target ∷ [])
+    else if kind is TargetArray then shape [] (is-target ∪ only Hole ∪ only TargetDefault) (only TargetRest) []
+    else if kind is TargetObject then shape [] (only TargetProperty ∪ only TargetShorthand ∪ only TargetShorthandInit) (only TargetRest) []
+    else if kind is TargetRest then exactly (is-target ∷ [])
+    else if kind is TargetDefault then exactly (is-target ∷ is-assignment ∷ [])
+    else if kind is TargetProperty then exactly ((only Key ∪ only ComputedKey) ∷ (is-target ∪ only TargetDefault) ∷ [])
+    else if kind is TargetShorthand then exactly (only TargetName ∷ [])
+    else if kind is TargetShorthandInit then exactly (only TargetName ∷ is-assignment ∷ [])
+    else exactly []
 
 -- the kids of the shape are at least so many
 unfoldable pub least : Shape → ℕ
-least shape = length (shape .front) + length (shape .ending)
+least s = length (s .front) + length (s .ending)
 
 -- a kid with so many kids before it and so many after it may be of this kind
 unfoldable pub may-be : Shape → ℕ → ℕ → ℕ → Bool
-may-be shape before after kid =
-    if ltb before (length (shape .front)) then getD (shape .front) before nothing kid else
-    if ltb after (length (shape .ending)) then getD (shape .ending) after nothing kid else
-    ((shape .many) kid or (eqb after (length (shape .ending)) and (shape .closing) kid))
+may-be s before after kid =
+    if ltb before (length (s .front)) then getD (s .front) before nothing kid
+    else if ltb after (length (s .ending)) then getD (s .ending) after nothing kid
+    else (s .many) kid or (after is length (s .ending) and (s .closing) kid)
 
 -- what the last kid of a kid may be: the value of a Property is an S in an Object, and a Binding or 34 in a BindingObject, in which
 -- a rest is over a bare name
 unfoldable pub may-end : ℕ → ℕ → ℕ → Bool
 may-end kind kid last =
-    if eqb kid Property then (if eqb kind BindingObject then is-parameter last else is-assignment last) else
-    if eqb kid BindingRest and eqb kind BindingObject then eqb last BindingName else
-    true
+    if kid is Property then (if kind is BindingObject then is-parameter last else is-assignment last)
+    else if kid is BindingRest and kind is BindingObject then last is BindingName
+    else true
 
 -- a row of this kind may have a kid of kind `kid`, with so many kids before it and so many after it, its own last kid of kind `last`
 -- (0 if it has none)

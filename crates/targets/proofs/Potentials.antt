@@ -14,7 +14,8 @@ use Rattle.tokens.specs.declared.cause.Cause.{Cause}
 use Rattle.rows.specs.Row as row
 use Rattle.rows.specs.Tree.{Tree, Forest, node, nil, cons, one, count, kind-of, first-of, kids-of, size, sizes}
 use Rattle.rows.specs.Record.{Record, rest-argument, rest-comma, compound-default}
-use Rattle.targets.specs.Conversion.{Outcome, turned, refused, Role, Change, refuse, keep, turn, only, elements, properties, key-and-value, name-and-initializer, is, is-with, is-closed, is-array-or-object, is-reference, last-of, inner-kind, array-argument, object-argument, Seen, seen, as-simple, as-any, as-value, as-element, as-last-element, as-property, as-last-property, as-name, change, roles, over, both, convert-as, convert-kids}
+use Rattle.targets.specs.Conversion.{Outcome, turned, refused, Role, Change, refuse, keep, turn, only, is-with, is-closed, is-array-or-object, is-reference, last-of, inner-kind, array-argument, object-argument, Seen, seen, as-simple, as-any, as-value, as-element, as-last-element, as-property, as-last-property, as-name, change, roles, over, both, convert-as, convert-kids}
+use Rattle.targets.specs.KidRoles.{elements, properties, key-and-value, name-and-initializer}
 use Rattle.targets.specs.Potential.{may-record, potential, potentials}
 use Rattle.targets.specs.RuleHolds.{both-true, refused-turned, follows}
 
@@ -80,9 +81,9 @@ quiet-only role e n = e
 fair-simple : (r : Seen) (w : ℕ) → Fair w (as-simple r)
 unfolding as-simple
 fair-simple r w =
-    fair-if (is r row.Identifier) (λ _. plain row.TargetName refl)
-    (fair-if (is r row.Member) (λ _. plain row.TargetMember refl)
-    (fair-if (is r row.Index) (λ _. plain row.TargetIndex refl)
+    fair-if (eqb (r .kind) row.Identifier) (λ _. plain row.TargetName refl)
+    (fair-if (eqb (r .kind) row.Member) (λ _. plain row.TargetMember refl)
+    (fair-if (eqb (r .kind) row.Index) (λ _. plain row.TargetIndex refl)
     (fair-if (is-with r row.Paren 1 and not (is-array-or-object (r .last)))
     (λ _. over-kids row.TargetParen {each = only Role.simple} refl (omega arith) (quiet-only Role.simple refl))
     refuses)))
@@ -90,13 +91,13 @@ fair-simple r w =
 fair-any : (r : Seen) (w : ℕ) → weight (r .kind) ≤ w → Fair w (as-any r)
 unfolding as-any
 fair-any r w h =
-    fair-if (is r row.Array) (λ _. over-kids row.TargetArray {each = elements []} refl (omega arith) (quiet-elements []))
+    fair-if (eqb (r .kind) row.Array) (λ _. over-kids row.TargetArray {each = elements []} refl (omega arith) (quiet-elements []))
     (fair-if (is-closed r row.ArrayRestComma)
     (λ is.
     let k = eqb-true (r .kind) row.ArrayRestComma (both-true (eqb (r .kind) row.ArrayRestComma) _ is .0) in
     let some : 1 ≤ w = rw k at h in
     over-kids row.TargetArray {each = elements (rest-comma (r .first) ∷ [])} refl some (quiet-elements (rest-comma (r .first) ∷ [])))
-    (fair-if (is r row.Object) (λ _. over-kids row.TargetObject {each = properties []} refl (omega arith) (quiet-properties []))
+    (fair-if (eqb (r .kind) row.Object) (λ _. over-kids row.TargetObject {each = properties []} refl (omega arith) (quiet-properties []))
     (fair-if (is-closed r row.ObjectRestComma)
     (λ is.
     let k = eqb-true (r .kind) row.ObjectRestComma (both-true (eqb (r .kind) row.ObjectRestComma) _ is .0) in
@@ -107,8 +108,8 @@ fair-any r w h =
 fair-value : (r : Seen) (w : ℕ) → weight (r .kind) ≤ w → Fair w (as-value r)
 unfolding as-value
 fair-value r w h =
-    fair-if (is r row.Assign) (λ _. plain row.TargetDefault refl)
-    (fair-if (is r row.CompoundAssign)
+    fair-if (eqb (r .kind) row.Assign) (λ _. plain row.TargetDefault refl)
+    (fair-if (eqb (r .kind) row.CompoundAssign)
     (λ is.
     let some : 1 ≤ w = rw (eqb-true (r .kind) row.CompoundAssign is) at h in
     keeps {kind = row.TargetDefault} {records = compound-default (r .mark) ∷ []} some)
@@ -116,7 +117,7 @@ fair-value r w h =
 
 fair-element : (r : Seen) (w : ℕ) → weight (r .kind) ≤ w → Fair w (as-element r)
 unfolding as-element
-fair-element r w h = fair-if (is r row.Hole) (λ _. plain row.Hole refl) (fair-if (is r row.Spread) (λ _. refuses) (fair-value r w h))
+fair-element r w h = fair-if (eqb (r .kind) row.Hole) (λ _. plain row.Hole refl) (fair-if (eqb (r .kind) row.Spread) (λ _. refuses) (fair-value r w h))
 
 fair-property : (r : Seen) (w : ℕ) → Fair w (as-property r)
 unfolding as-property
@@ -124,7 +125,7 @@ fair-property r w =
     fair-if (is-with r row.Shorthand 1) (λ _. over-kids row.TargetShorthand {each = only Role.name} refl (omega arith) (quiet-only Role.name refl))
     (fair-if (is-with r row.ShorthandInit 2) (λ _. over-kids row.TargetShorthandInit {each = name-and-initializer} refl (omega arith) quiet-name)
     (fair-if (is-with r row.Property 2) (λ _. over-kids row.TargetProperty {each = key-and-value} refl (omega arith) quiet-pair)
-    (fair-if (is r row.Spread) (λ _. refuses) refuses)))
+    (fair-if (eqb (r .kind) row.Spread) (λ _. refuses) refuses)))
 
 spread-weight : (r : Seen) → is-with r row.Spread 1 ≡ true → weight (r .kind) ≡ 1
 spread-weight r is = rw (eqb-true (r .kind) row.Spread (both-true (eqb (r .kind) row.Spread) _ is .0))
@@ -151,7 +152,7 @@ fair (Role.last-property comma) r a o =
     turns {before = r .in-object ++ comma} {each = only Role.any} {after = []} few (quiet-only Role.any refl))
     (fair-property r _)
 fair Role.value r a o = fair-value r _ (omega arith)
-fair Role.name r a o = fair-if (is r row.Identifier) (λ _. plain row.TargetName refl) refuses
+fair Role.name r a o = fair-if (eqb (r .kind) row.Identifier) (λ _. plain row.TargetName refl) refuses
 fair Role.same r a o =
     let few : length {A = Record} [] + weight (r .kind) ≤ weight (r .kind) + 0 = omega arith in
     keeps {kind = r .kind} {records = []} few

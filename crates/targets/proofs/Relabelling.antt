@@ -6,12 +6,13 @@ use mathlib.Core.Bool.{Bool, true, false, not}
 use mathlib.Core.List.{List, [], _∷_, _++_}
 use native.Mathlib.Omega.{arith}
 use borrow.Author.Tests.{eqb-true}
+use lib.Dec.{eqb}
 use Rattle.tokens.specs.Bool.{if_then_else_, _and_, _or_}
 use Rattle.tokens.specs.declared.cause.Cause.{Cause}
 use Rattle.rows.specs.Row as row
 use Rattle.rows.specs.Tree.{Tree, Forest, node, nil, cons, count}
 use Rattle.rows.specs.Record.{Record}
-use Rattle.targets.specs.Conversion.{Outcome, turned, refused, Role, Change, refuse, keep, turn, is, is-with, is-closed, is-array-or-object, Seen, seen, as-simple, as-any, as-value, as-element, as-last-element, as-property, as-last-property, as-name, change, roles, over, both, convert-as, convert-kids}
+use Rattle.targets.specs.Conversion.{Outcome, turned, refused, Role, Change, refuse, keep, turn, is-with, is-closed, is-array-or-object, Seen, seen, as-simple, as-any, as-value, as-element, as-last-element, as-property, as-last-property, as-name, change, roles, over, both, convert-as, convert-kids}
 use Rattle.targets.specs.Relabelled.{Relabel, kept, target, Relabelled, relabelled, AllRelabelled, no-more, one-more}
 use Rattle.targets.specs.RuleHolds.{refused-turned}
 use Rattle.targets.proofs.Potentials.{turned-is}
@@ -30,24 +31,24 @@ labels-if false p q = q
 all-simple : (r : Seen) → Labels (r .kind) (as-simple r)
 unfolding as-simple
 all-simple r =
-    labels-if (is r row.Identifier) (λ _. keeps (target (omega arith) (omega arith)))
-    (labels-if (is r row.Member) (λ _. keeps (target (omega arith) (omega arith)))
-    (labels-if (is r row.Index) (λ _. keeps (target (omega arith) (omega arith)))
+    labels-if (eqb (r .kind) row.Identifier) (λ _. keeps (target (omega arith) (omega arith)))
+    (labels-if (eqb (r .kind) row.Member) (λ _. keeps (target (omega arith) (omega arith)))
+    (labels-if (eqb (r .kind) row.Index) (λ _. keeps (target (omega arith) (omega arith)))
     (labels-if (is-with r row.Paren 1 and not (is-array-or-object (r .last))) (λ _. turns (target (omega arith) (omega arith))) refuses)))
 
 all-any : (r : Seen) → Labels (r .kind) (as-any r)
 unfolding as-any
 all-any r =
-    labels-if (is r row.Array) (λ _. turns (target (omega arith) (omega arith)))
+    labels-if (eqb (r .kind) row.Array) (λ _. turns (target (omega arith) (omega arith)))
     (labels-if (is-closed r row.ArrayRestComma) (λ _. turns (target (omega arith) (omega arith)))
-    (labels-if (is r row.Object) (λ _. turns (target (omega arith) (omega arith)))
+    (labels-if (eqb (r .kind) row.Object) (λ _. turns (target (omega arith) (omega arith)))
     (labels-if (is-closed r row.ObjectRestComma) (λ _. turns (target (omega arith) (omega arith))) (all-simple r))))
 
 all-value : (r : Seen) → Labels (r .kind) (as-value r)
 unfolding as-value
 all-value r =
-    labels-if (is r row.Assign) (λ _. keeps (target (omega arith) (omega arith)))
-    (labels-if (is r row.CompoundAssign) (λ _. keeps (target (omega arith) (omega arith))) (all-any r))
+    labels-if (eqb (r .kind) row.Assign) (λ _. keeps (target (omega arith) (omega arith)))
+    (labels-if (eqb (r .kind) row.CompoundAssign) (λ _. keeps (target (omega arith) (omega arith))) (all-any r))
 
 hole : (k : ℕ) → k ≡ row.Hole → Relabel k row.Hole
 hole k e = rw (sym e) kept
@@ -55,7 +56,7 @@ hole k e = rw (sym e) kept
 all-element : (r : Seen) → Labels (r .kind) (as-element r)
 unfolding as-element
 all-element r =
-    labels-if (is r row.Hole) (λ q. keeps (hole (r .kind) (eqb-true (r .kind) row.Hole q))) (labels-if (is r row.Spread) (λ _. refuses) (all-value r))
+    labels-if (eqb (r .kind) row.Hole) (λ q. keeps (hole (r .kind) (eqb-true (r .kind) row.Hole q))) (labels-if (eqb (r .kind) row.Spread) (λ _. refuses) (all-value r))
 
 all-property : (r : Seen) → Labels (r .kind) (as-property r)
 unfolding as-property
@@ -63,7 +64,7 @@ all-property r =
     labels-if (is-with r row.Shorthand 1) (λ _. turns (target (omega arith) (omega arith)))
     (labels-if (is-with r row.ShorthandInit 2) (λ _. turns (target (omega arith) (omega arith)))
     (labels-if (is-with r row.Property 2) (λ _. turns (target (omega arith) (omega arith)))
-    (labels-if (is r row.Spread) (λ _. refuses) refuses)))
+    (labels-if (eqb (r .kind) row.Spread) (λ _. refuses) refuses)))
 
 labels : (role : Role) (r : Seen) → Labels (r .kind) (change role r)
 unfolding change as-last-element as-last-property as-name
@@ -74,7 +75,7 @@ labels (Role.last-element comma) r = labels-if (is-with r row.Spread 1) (λ _. t
 labels Role.property r = all-property r
 labels (Role.last-property comma) r = labels-if (is-with r row.Spread 1) (λ _. turns (target (omega arith) (omega arith))) (all-property r)
 labels Role.value r = all-value r
-labels Role.name r = labels-if (is r row.Identifier) (λ _. keeps (target (omega arith) (omega arith))) refuses
+labels Role.name r = labels-if (eqb (r .kind) row.Identifier) (λ _. keeps (target (omega arith) (omega arith))) refuses
 labels Role.same r = keeps kept
 
 over-labels : (ch : Change) (k m f e : ℕ) (kids : Forest) (out : Outcome Forest) (t′ : Tree) (rs : List Record) → Labels k ch → AllRelabelled kids kids

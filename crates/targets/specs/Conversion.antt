@@ -3,10 +3,9 @@
 -- already a target included, is 9; so is a row whose kids are not as document 01 has them, of which a well-formed tree has none.
 -- Assumes nothing: these are definitions.
 use Prim.Native.Nat.{ℕ}
-use mathlib.Core.Bool.{Bool, true, false, not}
+use mathlib.Core.Bool.{Bool, not}
 use mathlib.Core.List.{List, [], _∷_, _++_}
-use lib.Dec.{eqb}
-use Rattle.tokens.specs.Bool.{if_then_else_, _and_, _or_, between}
+use Rattle.tokens.specs.Bool.{if_then_else_, _and_, _or_, _is_, between}
 use Rattle.tokens.specs.declared.cause.Cause.{Cause}
 use Rattle.tokens.specs.declared.cause.Cause.the-variants.{Target as NoTarget, Spread as SpreadNotLast}
 use Rattle.rows.specs.Row as row
@@ -18,27 +17,17 @@ pub data Outcome (A : Type 0) : Type 0 where
   turned : A → List Record → Outcome A
   refused : Cause → Outcome A
 
-abbrev pub Converted : Type 0
-Converted = Outcome Tree
-
 -- What a row is to become. A `comma` is the record of a comma after the literal's rest: one record 4, or none.
 pub data Role : Type 0 where
-  -- any target: 13.15.5 DestructuringAssignmentTarget
-  any : Role
-  -- a simple target: 13.15.1, AssignmentTargetType simple
-  simple : Role
-  -- an element of an array that another follows, and the last one: AssignmentElement, elision, AssignmentRestElement
-  element : Role
-  last-element : List Record → Role
-  -- a property of an object that another follows, and the last one: AssignmentProperty, AssignmentRestProperty
-  property : Role
-  last-property : List Record → Role
-  -- the value of a property: AssignmentElement
-  value : Role
-  -- the name of a shorthand: IdentifierReference
-  name : Role
-  -- a key or an initializer: it stays as it is
-  same : Role
+  any : Role  -- any target: 13.15.5 DestructuringAssignmentTarget
+  simple : Role  -- a simple target: 13.15.1, AssignmentTargetType simple
+  element : Role  -- an element of an array that another follows: AssignmentElement, elision
+  last-element : List Record → Role  -- the last element of an array: these, or AssignmentRestElement
+  property : Role  -- a property of an object that another follows: AssignmentProperty
+  last-property : List Record → Role  -- the last property of an object: this, or AssignmentRestProperty
+  value : Role  -- the value of a property: AssignmentElement
+  name : Role  -- the name of a shorthand: IdentifierReference
+  same : Role  -- a key or an initializer: it stays as it is
 
 -- what a row becomes: nothing, for a cause; another kind over the same kids, with records; or another kind over kids that are
 -- converted, each in the role given by the number of kids after it, with the records before theirs and after theirs
@@ -47,25 +36,12 @@ pub data Change : Type 0 where
   keep : ℕ → List Record → Change
   turn : ℕ → List Record → (ℕ → Role) → List Record → Change
 
--- the roles of kids, by the number of kids after one
+-- the role of a kid by the number of kids after it: the same for all; or one for the last kid, and one for the others
 abbrev pub only : Role → ℕ → Role
 only role after = role
 
--- ArrayAssignmentPattern
-abbrev pub elements : List Record → ℕ → Role
-elements comma after = if eqb after 0 then last-element comma else element
-
--- ObjectAssignmentPattern
-abbrev pub properties : List Record → ℕ → Role
-properties comma after = if eqb after 0 then last-property comma else property
-
--- PropertyName : AssignmentElement
-abbrev pub key-and-value : ℕ → Role
-key-and-value after = if eqb after 0 then value else same
-
--- IdentifierReference Initializer
-abbrev pub name-and-initializer : ℕ → Role
-name-and-initializer after = if eqb after 0 then same else name
+abbrev pub each : Role → Role → ℕ → Role
+each others last after = if after is 0 then last else others
 
 -- an Array or Object literal, with or without a comma after its closing spread
 abbrev pub is-array-or-object : ℕ → Bool
@@ -73,7 +49,7 @@ is-array-or-object kind = between row.Array row.ObjectRestComma kind
 
 -- a name, a Member or an Index
 abbrev pub is-reference : ℕ → Bool
-is-reference kind = eqb kind row.Identifier or eqb kind row.Member or eqb kind row.Index
+is-reference kind = kind is row.Identifier or kind is row.Member or kind is row.Index
 
 -- the last of some rows; a row of nothing where there is none
 abbrev pub last-or : Tree → Forest → Tree
@@ -86,7 +62,7 @@ last-of ts = last-or (node 0 0 0 0 nil) ts
 -- the kind of what stands in Parens
 unfoldable mutual
   pub inner-kind : Tree → ℕ
-  inner-kind (node kind mark first end kids) = if eqb kind row.Paren then inner-kinds kids else kind
+  inner-kind (node kind mark first end kids) = if kind is row.Paren then inner-kinds kids else kind
 
   pub inner-kinds : Forest → ℕ
   inner-kinds nil = 0
@@ -112,35 +88,22 @@ pub record Seen : Type 0 where
 
 unfoldable pub seen : Tree → Seen
 seen (node kind mark first end kids) =
-    record {
-      kind = kind;
-      mark = mark;
-      first = first;
-      kids = count kids;
-      last = kind-of (last-of kids);
-      in-array = array-argument (last-of kids);
-      in-object = object-argument (last-of kids);
-    }
+    record { kind = kind; mark = mark; first = first; kids = count kids; last = kind-of (last-of kids); in-array = array-argument (last-of kids); in-object = object-argument (last-of kids) }
 
--- the row is of a kind
-abbrev pub is : Seen → ℕ → Bool
-is r kind = eqb (r .kind) kind
-
--- and has so many kids
+-- the row is of a kind and has so many kids; or its last kid is a Spread
 abbrev pub is-with : Seen → ℕ → ℕ → Bool
-is-with r kind kids = eqb (r .kind) kind and eqb (r .kids) kids
+is-with r kind kids = r .kind is kind and r .kids is kids
 
--- and its last kid is a Spread
 abbrev pub is-closed : Seen → ℕ → Bool
-is-closed r kind = eqb (r .kind) kind and eqb (r .last) row.Spread
+is-closed r kind = r .kind is kind and r .last is row.Spread
 
 -- 13.15.1, AssignmentTargetType simple: Name, Member and Index become targets; Paren becomes TargetParen over a simple target.
 -- Paren directly over Array or Object is 9 at that Paren, and all else is 9 at that row.
 unfoldable pub as-simple : Seen → Change
 as-simple r =
-    if is r row.Identifier then keep row.TargetName []
-    else if is r row.Member then keep row.TargetMember []
-    else if is r row.Index then keep row.TargetIndex []
+    if r .kind is row.Identifier then keep row.TargetName []
+    else if r .kind is row.Member then keep row.TargetMember []
+    else if r .kind is row.Index then keep row.TargetIndex []
     else if is-with r row.Paren 1 and not (is-array-or-object (r .last)) then turn row.TargetParen [] (only simple) []
     else refuse (NoTarget (r .first))
 
@@ -148,54 +111,50 @@ as-simple r =
 -- comma after its closing spread hands the record of that comma to its last kid.
 unfoldable pub as-any : Seen → Change
 as-any r =
-    if is r row.Array then turn row.TargetArray [] (elements []) []
-    else if is-closed r row.ArrayRestComma then turn row.TargetArray [] (elements (rest-comma (r .first) ∷ [])) []
-    else if is r row.Object then turn row.TargetObject [] (properties []) []
-    else if is-closed r row.ObjectRestComma then turn row.TargetObject [] (properties (rest-comma (r .first) ∷ [])) []
+    if r .kind is row.Array then turn row.TargetArray [] (each element (last-element [])) []
+    else if is-closed r row.ArrayRestComma then turn row.TargetArray [] (each element (last-element (rest-comma (r .first) ∷ []))) []
+    else if r .kind is row.Object then turn row.TargetObject [] (each property (last-property [])) []
+    else if is-closed r row.ObjectRestComma then turn row.TargetObject [] (each property (last-property (rest-comma (r .first) ∷ []))) []
     else as-simple r
 
 -- 13.15.5 AssignmentElement : DestructuringAssignmentTarget Initializer opt
 -- Assign becomes TargetDefault; CompoundAssign too, with record 5 at its operator. The left kid is a target already.
 unfoldable pub as-value : Seen → Change
 as-value r =
-    if is r row.Assign then keep row.TargetDefault []
-    else if is r row.CompoundAssign then keep row.TargetDefault (compound-default (r .mark) ∷ [])
+    if r .kind is row.Assign then keep row.TargetDefault []
+    else if r .kind is row.CompoundAssign then keep row.TargetDefault (compound-default (r .mark) ∷ [])
     else as-any r
 
 -- an element that another follows: a Hole stays, and a Spread is 10
 unfoldable pub as-element : Seen → Change
 as-element r =
-    if is r row.Hole then keep row.Hole []
-    else if is r row.Spread then refuse (SpreadNotLast (r .first))
+    if r .kind is row.Hole then keep row.Hole []
+    else if r .kind is row.Spread then refuse (SpreadNotLast (r .first))
     else as-value r
 
 -- 13.15.5 AssignmentRestElement : ... DestructuringAssignmentTarget
 -- A last Spread is a rest. Arrays: record 3, argument, record 4.
 unfoldable pub as-last-element : List Record → Seen → Change
-as-last-element comma r =
-    if is-with r row.Spread 1 then turn row.TargetRest (r .in-array) (only any) comma
-    else as-element r
+as-last-element comma r = if is-with r row.Spread 1 then turn row.TargetRest (r .in-array) (only any) comma else as-element r
 
 -- 13.15.5 AssignmentProperty : IdentifierReference Initializer opt, or PropertyName : AssignmentElement
 -- a property that another follows: a Spread is 10
 unfoldable pub as-property : Seen → Change
 as-property r =
     if is-with r row.Shorthand 1 then turn row.TargetShorthand [] (only name) []
-    else if is-with r row.ShorthandInit 2 then turn row.TargetShorthandInit [] name-and-initializer []
-    else if is-with r row.Property 2 then turn row.TargetProperty [] key-and-value []
-    else if is r row.Spread then refuse (SpreadNotLast (r .first))
+    else if is-with r row.ShorthandInit 2 then turn row.TargetShorthandInit [] (each name same) []
+    else if is-with r row.Property 2 then turn row.TargetProperty [] (each same value) []
+    else if r .kind is row.Spread then refuse (SpreadNotLast (r .first))
     else refuse (NoTarget (r .first))
 
 -- 13.15.5 AssignmentRestProperty : ... DestructuringAssignmentTarget
 -- A last Spread is a rest. Objects: record 3, record 4, argument.
 unfoldable pub as-last-property : List Record → Seen → Change
-as-last-property comma r =
-    if is-with r row.Spread 1 then turn row.TargetRest (r .in-object ++ comma) (only any) []
-    else as-property r
+as-last-property comma r = if is-with r row.Spread 1 then turn row.TargetRest (r .in-object ++ comma) (only any) [] else as-property r
 
 -- the name of a shorthand
 unfoldable pub as-name : Seen → Change
-as-name r = if is r row.Identifier then keep row.TargetName [] else refuse (NoTarget (r .first))
+as-name r = if r .kind is row.Identifier then keep row.TargetName [] else refuse (NoTarget (r .first))
 
 -- what a row becomes in a role
 unfoldable pub change : Role → Seen → Change
@@ -216,22 +175,21 @@ roles (keep kind records) = only same
 roles (turn kind before kids after) = kids
 
 -- a row of that change, over what came of its kids
-unfoldable pub over : Change → Tree → Outcome Forest → Converted
+unfoldable pub over : Change → Tree → Outcome Forest → Outcome Tree
 over (refuse cause) t kids = refused cause
 over (keep kind′ records) (node kind mark first end kids) _ = turned (node kind′ mark first end kids) records
-over (turn kind′ before _ after) (node kind mark first end kids) (turned kids′ records) =
-    turned (node kind′ mark first end kids′) (before ++ records ++ after)
+over (turn kind′ before _ after) (node kind mark first end kids) (turned kids′ records) = turned (node kind′ mark first end kids′) (before ++ records ++ after)
 over (turn kind′ before _ after) (node kind mark first end kids) (refused cause) = refused cause
 
 -- left to right, each wholly: the first refusal is given, and the records stand in order
-unfoldable pub both : Converted → Outcome Forest → Outcome Forest
+unfoldable pub both : Outcome Tree → Outcome Forest → Outcome Forest
 both (refused cause) rest = refused cause
 both (turned t records) (refused cause) = refused cause
 both (turned t records) (turned ts more) = turned (cons t ts) (records ++ more)
 
 unfoldable mutual
   -- a row in a role
-  pub convert-as : Tree → Role → Converted
+  pub convert-as : Tree → Role → Outcome Tree
   convert-as (node kind mark first end kids) role =
       over (change role (seen (node kind mark first end kids))) (node kind mark first end kids)
       (convert-kids kids (roles (change role (seen (node kind mark first end kids)))))
@@ -242,9 +200,5 @@ unfoldable mutual
   convert-kids (cons t ts) roles = both (convert-as t (roles (count ts))) (convert-kids ts roles)
 
 -- left of `=`: to any target
-abbrev pub convert : Tree → Converted
+abbrev pub convert : Tree → Outcome Tree
 convert t = convert-as t any
-
--- left of a compound operator, and the operand of an update: to a simple target
-abbrev pub convert-simple : Tree → Converted
-convert-simple t = convert-as t simple

@@ -13,7 +13,7 @@ use Rattle.rows.specs.Tree.{Tree, size, flat}
 use Rattle.rows.specs.Record.{Record, record-words}
 use Rattle.rows.specs.Words.{WellFormed}
 use Rattle.rows.specs.Part.{subtree}
-use Rattle.targets.specs.Conversion.{Outcome, turned, refused, Converted, convert}
+use Rattle.targets.specs.Conversion.{Outcome, turned, refused, convert}
 
 -- the answer, and both buffers after it
 pub record Result : Type 0 where
@@ -37,7 +37,7 @@ module _ (words records : List ℕ) (row : ℕ) where
   unchanged cause = record { answer = Refused cause; words = words; records = records }
 
   -- accepted, the rows of the subtree become those of its conversion; the records are written, and the record words past them are 0
-  unfoldable pub done : Tree → Converted → Result
+  unfoldable pub done : Tree → Outcome Tree → Result
   done t (refused cause) = unchanged cause
   done t (turned t′ new) =
       record {

@@ -7,7 +7,7 @@ use Rattle.tokens.specs.declared.cause.Cause.the-variants.{Target as NoTarget, 
 use Rattle.rows.specs.Row as row
 use Rattle.rows.specs.Tree.{Tree, Forest, node, nil, cons, one, count, kind-of, first-of}
 use Rattle.rows.specs.Record.{Record, says}
-use Rattle.targets.specs.Conversion.{Outcome, turned, refused, change, roles, over, both, inner-kind, inner-kinds, seen, as-any, as-simple, as-value, as-element, as-last-element, as-property, as-last-property, as-name, convert-as, convert-kids, convert, convert-simple}
+use Rattle.targets.specs.Conversion.{simple, Outcome, turned, refused, change, roles, over, both, inner-kind, inner-kinds, seen, as-any, as-simple, as-value, as-element, as-last-element, as-property, as-last-property, as-name, convert-as, convert-kids, convert}
 
 -- a row whose mark is its first token
 abbrev plain : ℕ → ℕ → ℕ → Forest → Tree
@@ -70,11 +70,11 @@ unfolding convert-as convert-kids change as-any as-simple as-value as-element as
 paren-array = refl
 
 -- `[a]` and `([a])` where a simple target is wanted
-simple-array : convert-simple (plain row.Array 0 3 (one (leaf row.Identifier 1))) ≡ refused (NoTarget 0)
+simple-array : convert-as (plain row.Array 0 3 (one (leaf row.Identifier 1))) simple ≡ refused (NoTarget 0)
 unfolding convert-as convert-kids change as-any as-simple as-value as-element as-last-element as-property as-last-property as-name seen roles over both count kind-of inner-kind inner-kinds first-of
 simple-array = refl
 
-simple-paren-array : convert-simple (plain row.Paren 0 5 (one (plain row.Array 1 4 (one (leaf row.Identifier 2))))) ≡ refused (NoTarget 0)
+simple-paren-array : convert-as (plain row.Paren 0 5 (one (plain row.Array 1 4 (one (leaf row.Identifier 2))))) simple ≡ refused (NoTarget 0)
 unfolding convert-as convert-kids change as-any as-simple as-value as-element as-last-element as-property as-last-property as-name seen roles over both count kind-of inner-kind inner-kinds first-of
 simple-paren-array = refl
 

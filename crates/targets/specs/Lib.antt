@@ -1,4 +1,5 @@
 pub mod Conversion
+pub mod KidRoles
 pub mod TargetRule
 pub mod RuleHolds
 pub mod Relabelled

@@ -9,6 +9,7 @@ use lib.ListN.{length}
 use Rattle.tokens.specs.Bool.{if_then_else_}
 use Rattle.rows.specs.Record.{Record, says, rest-argument}
 use Rattle.targets.specs.Conversion as def
+use Rattle.targets.specs.KidRoles as kid-roles
 use Rattle.targets.specs.Conversion.{Outcome, turned, refused}
 use Rattle.targets.specs.declared.Conversion.{Conversion}
 use Rattle.targets.specs.declared.Conversion.the-variants.{Turned, Refused}
@@ -45,10 +46,10 @@ aim false = def.any
 
 abbrev pub kids : Kids → ℕ → def.Role
 kids (Only r) = def.only (role r)
-kids (Elements comma) = def.elements (note comma)
-kids (Properties comma) = def.properties (note comma)
-kids KeyAndValue = def.key-and-value
-kids NameAndInitializer = def.name-and-initializer
+kids (Elements comma) = kid-roles.elements (note comma)
+kids (Properties comma) = kid-roles.properties (note comma)
+kids KeyAndValue = kid-roles.key-and-value
+kids NameAndInitializer = kid-roles.name-and-initializer
 
 -- A rest's argument that can be converted is of a wrong kind only in an object, and only if it is an Array or Object itself
 -- (proofs/Near.antt): so the code looks at the argument alone, and not through Parens.

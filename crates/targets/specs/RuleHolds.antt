@@ -13,7 +13,8 @@ use Rattle.tokens.specs.declared.cause.Cause.{Cause}
 use Rattle.rows.specs.Row as row
 use Rattle.rows.specs.Tree.{Tree, Forest, node, nil, cons, one, count, kind-of, first-of}
 use Rattle.rows.specs.Record.{Record}
-use Rattle.targets.specs.Conversion.{Outcome, turned, refused, Role, Change, refuse, keep, turn, only, elements, properties, key-and-value, name-and-initializer, is-array-or-object, is-reference, last-or, last-of, inner-kind, inner-kinds, array-argument, object-argument, Seen, seen, as-simple, as-any, as-value, as-element, as-last-element, as-property, as-last-property, as-name, change, roles, over, both, convert-as, convert-kids, convert, convert-simple}
+use Rattle.targets.specs.Conversion.{Outcome, turned, refused, Role, Change, refuse, keep, turn, only, is-array-or-object, is-reference, last-or, last-of, inner-kind, inner-kinds, array-argument, object-argument, Seen, seen, as-simple, as-any, as-value, as-element, as-last-element, as-property, as-last-property, as-name, change, roles, over, both, convert-as, convert-kids, convert}
+use Rattle.targets.specs.KidRoles.{elements, properties, key-and-value, name-and-initializer}
 use Rattle.targets.specs.TargetRule.{Simple, identifier, member, index, parenthesized, Target, simple, array, object, Elements, no-elements, elision, next-element, rest-element, Element, bare, initialized, Properties, no-properties, next-property, rest-property, Property, reference, reference-initialized, pair}
 
 abbrev ends-in-spread : Forest → Bool
@@ -527,5 +528,5 @@ pub target-rule : (t : Tree) → ((t′ : Tree) × (convert t ≡ turned t′ []
 target-rule t = ((λ h. ruled t Role.any (h .0) (h .1)), (λ d. let c = target-clean d in (c .made, c .is)))
 
 -- A simple target likewise.
-pub simple-rule : (t : Tree) → ((t′ : Tree) × (convert-simple t ≡ turned t′ [])) ↔ Simple t
+pub simple-rule : (t : Tree) → ((t′ : Tree) × (convert-as t Role.simple ≡ turned t′ [])) ↔ Simple t
 simple-rule t = ((λ h. ruled t Role.simple (h .0) (h .1)), (λ d. let c = simple-clean d in (c .made, c .is)))

@@ -11,11 +11,9 @@ use Rattle.rows.specs.Tree.{Tree, Forest, node, nil, cons, one}
 pub data Simple : Tree → Type 0 where
   -- IdentifierReference : Identifier
   identifier : {mark first end : ℕ} {kids : Forest} → Simple (node row.Identifier mark first end kids)
-  -- MemberExpression : MemberExpression . IdentifierName
-  -- CallExpression : CallExpression . IdentifierName
+  -- MemberExpression : MemberExpression . IdentifierName, CallExpression : CallExpression . IdentifierName
   member : {mark first end : ℕ} {kids : Forest} → Simple (node row.Member mark first end kids)
-  -- MemberExpression : MemberExpression [ Expression ]
-  -- CallExpression : CallExpression [ Expression ]
+  -- MemberExpression : MemberExpression [ Expression ], CallExpression : CallExpression [ Expression ]
   index : {mark first end : ℕ} {kids : Forest} → Simple (node row.Index mark first end kids)
   -- ParenthesizedExpression : ( Expression ), the AssignmentTargetType of the Expression
   parenthesized : {mark first end : ℕ} {t : Tree} → Simple t → Simple (node row.Paren mark first end (one t))
@@ -29,10 +27,8 @@ mutual
     -- AssignmentPattern : ObjectAssignmentPattern
     object : {mark first end : ℕ} {ts : Forest} → Properties ts → Target (node row.Object mark first end ts)
 
-  -- ArrayAssignmentPattern :
-  --   [ Elision opt AssignmentRestElement opt ]
-  --   [ AssignmentElementList ]
-  --   [ AssignmentElementList , Elision opt AssignmentRestElement opt ]
+  -- ArrayAssignmentPattern : [ Elision opt AssignmentRestElement opt ] | [ AssignmentElementList ]
+  --   | [ AssignmentElementList , Elision opt AssignmentRestElement opt ]
   pub data Elements : Forest → Type 0 where
     no-elements : Elements nil
     -- Elision
@@ -48,11 +44,7 @@ mutual
     -- with its Initializer it was read as an Assign, whose left side is a target already
     initialized : {mark first end : ℕ} {kids : Forest} → Element (node row.Assign mark first end kids)
 
-  -- ObjectAssignmentPattern :
-  --   { }
-  --   { AssignmentRestProperty }
-  --   { AssignmentPropertyList }
-  --   { AssignmentPropertyList , AssignmentRestProperty opt }
+  -- ObjectAssignmentPattern : { } | { AssignmentRestProperty } | { AssignmentPropertyList } | { AssignmentPropertyList , AssignmentRestProperty opt }
   pub data Properties : Forest → Type 0 where
     no-properties : Properties nil
     -- AssignmentPropertyList
@@ -60,9 +52,7 @@ mutual
     -- AssignmentRestProperty : ... DestructuringAssignmentTarget, which is no ArrayLiteral or ObjectLiteral (13.15.5.1)
     rest-property : {mark first end : ℕ} {t : Tree} → Simple t → Properties (one (node row.Spread mark first end (one t)))
 
-  -- AssignmentProperty :
-  --   IdentifierReference Initializer opt
-  --   PropertyName : AssignmentElement
+  -- AssignmentProperty : IdentifierReference Initializer opt | PropertyName : AssignmentElement
   pub data Property : Tree → Type 0 where
     reference : {mark first end mark′ first′ end′ : ℕ} {kids : Forest}
         → Property (node row.Shorthand mark first end (one (node row.Identifier mark′ first′ end′ kids)))

@@ -11,7 +11,8 @@ use Rattle.rows.specs.Row as Row
 use Rattle.grammar.specs.Sheet.{Sheet, Out, done, first-tree}
 use Rattle.grammar.specs.Job.{Job, Asks, binding-element, binding-rest}
 use Rattle.grammar.specs.Binding.{binding-rest-of}
-use Rattle.grammar.specs.Step.{step, read, μ}
+use Rattle.grammar.specs.Step.{step, read}
+use Rattle.laws.specs.Settles.{μ}
 use Rattle.grammar.specs.Reading.{box}
 use Rattle.laws.specs.Good.{Reads, Answers, Ends, ends-done, ends-fail, ends-stuck, good, yields, says, follows}
 use Rattle.laws.specs.Bounds.{Bound, limits, step-bound}

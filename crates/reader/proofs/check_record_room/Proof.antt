@@ -3,7 +3,7 @@
 use native.Mathlib.Omega.{arith}
 use borrow.Author.Needs.{needs}
 use borrow.Author.Tests.{lt-ltb, le-ltb}
-use Rattle.grammar.specs.Entry.{check-record-room}
+use Rattle.making.specs.Lent.{check-record-room}
 use Rattle.reader.proofs.check_record_room.Statement.{statement}
 use Rattle.reader.proofs.check_record_room.Tie as tie
 

@@ -7,7 +7,7 @@ use native.Mathlib.Nat.{zero-add}
 use lib.ListN.{getD}
 use borrow.Author.Needs.{needs}
 use Rattle.rows.specs.Mask.{bits, mask, cells}
-use Rattle.rows.specs.Shape.{is-left-hand-side, is-unary, is-binary, is-logical, is-assignment, is-expression, is-binding, is-parameter, is-simple-target, is-target, is-element, is-key, is-value, is-argument, is-body, is-binding-element, is-target-element, is-target-property, is-target-value, is-property, is-binding-property, only, nothing, table, is-one-of, look-up, shape-of}
+use Rattle.rows.specs.Shape.{is-left-hand-side, is-unary, is-binary, is-logical, is-assignment, is-expression, is-body, is-binding, is-parameter, is-simple-target, is-target, only, nothing, shape-of}
 use Rattle.rows.proofs.Masks.{numbers, at-place}
 use Rattle.rows.proofs.shape.cell.Statement.{statement}
 use Rattle.rows.proofs.shape.cell.Tie as tie
@@ -25,7 +25,7 @@ index-2-result : tie.Need-index-2-result
 index-2-result c = search needs
 
 returns : tie.Need-returns
-unfolding numbers bits mask cells is-left-hand-side is-unary is-binary is-logical is-assignment is-expression is-binding is-parameter is-simple-target is-target is-element is-key is-value is-argument is-body is-binding-element is-target-element is-target-property is-target-value is-property is-binding-property only nothing table is-one-of look-up shape-of
+unfolding numbers bits mask cells is-left-hand-side is-unary is-binary is-logical is-assignment is-expression is-body is-binding is-parameter is-simple-target is-target only nothing shape-of
 returns c =
     record {
       is =

@@ -1,4 +1,5 @@
--- What the two entries answer and leave in the lent buffers, for any input: the reader's, and the pattern entry's.
+-- What the two entries answer and leave in the lent buffers, for any input: the definition's answer, the checks of room in their place among
+-- the others, and every word of both buffers. `rows` and `records` are the words that the buffers hold before.
 -- Assumes nothing: these are definitions.
 use Prim.Native.Nat.{ℕ, _-_, _*_}
 use mathlib.Core.List.{List, _++_}
@@ -9,11 +10,11 @@ use Rattle.tokens.specs.Check.{_and-then_, check-length, check-flag-length, che
 use Rattle.tokens.specs.declared.cause.Cause.{Cause}
 use Rattle.tokens.specs.declared.cause.Answer.{Answer}
 use Rattle.tokens.specs.declared.check.Checked.{Checked}
-use Rattle.rows.specs.Tree.{Forest, sizes, flats}
-use Rattle.rows.specs.Record.{Record, record-words}
+use Rattle.rows.specs.Tree.{flats}
+use Rattle.rows.specs.Record.{record-words}
 use Rattle.grammar.specs.Sheet.{Sheet}
 use Rattle.grammar.specs.Job.{Job, expression, binding-element}
-use Rattle.grammar.specs.Reading.{Whole, whole, refused, reading, box, cleared, noted-places}
+use Rattle.grammar.specs.Reading.{Whole, whole, refused, reading, box, cleared, answer-of}
 
 -- what an entry gives: its answer, and what the two lent buffers hold then
 pub record Given : Type 0 where
@@ -48,7 +49,7 @@ padded words size = words ++ replicate (size - length words) 0
 unfoldable pub answered : List ℕ → List ℕ → Whole (List ℕ) → Given
 answered rows records (whole trees said notes) =
     record {
-      answer = Answer.Read (record { rows = sizes trees; records = length said; abandoned = noted-places notes });
+      answer = answer-of (whole trees said notes);
       rows = padded (flats trees) (length rows);
       records = padded (record-words said) (length records);
     }
@@ -63,10 +64,10 @@ checked rows records (Checked.Refused cause) given = record { answer = Answer.Re
 unfoldable pub entry : Job → Sheet → List ℕ → List ℕ → Given
 entry job sheet rows records = checked rows records (checks sheet rows records) (answered rows records (reading (box sheet) sheet job cleared))
 
--- the reader: the list is one Expression, then end
+-- the reader
 abbrev pub read-entry : Sheet → List ℕ → List ℕ → Given
 read-entry sheet rows records = entry (expression 0) sheet rows records
 
--- the pattern entry: the list is one binding with an optional initializer, then end
+-- the pattern entry
 abbrev pub pattern-entry : Sheet → List ℕ → List ℕ → Given
 pattern-entry sheet rows records = entry (binding-element 0) sheet rows records
