@@ -398,8 +398,14 @@ module _ (sheet : Sheet) where
     unfolding primary-of parenthesized-of is-name is-literal
     primary-ended at (blocked (cannot c)) =
         let k = token sheet at in
-        rw (none-of is-name begins-nothing k c refl, none-of (λ l. l is This) begins-nothing k c refl, none-of is-literal begins-nothing k c refl,
-        none-of (λ l. l is LParen) begins-nothing k c refl, none-of (λ l. l is LBrack) begins-nothing k c refl, none-of (λ l. l is LCurly) begins-nothing k c refl)
+        rw (
+          none-of is-name begins-nothing k c refl,
+          none-of (λ l. l is This) begins-nothing k c refl,
+          none-of is-literal begins-nothing k c refl,
+          none-of (λ l. l is LParen) begins-nothing k c refl,
+          none-of (λ l. l is LBrack) begins-nothing k c refl,
+          none-of (λ l. l is LCurly) begins-nothing k c refl,
+        )
         (refuses _ tt)
     primary-ended at (blocked (stops w m a)) = word-primary at w
     primary-ended at (blocked (asks w q c)) = word-primary at w

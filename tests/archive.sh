@@ -1,0 +1,14 @@
+#!/usr/bin/env bash
+# The archive for other languages: builds it (what is proved already is not proved again), and runs the tests in C and in Rust that link it.
+set -euo pipefail
+cd "$(dirname "${BASH_SOURCE[0]}")/.."
+need() { # COMMAND PACKAGE
+    command -v "$1" > /dev/null || apt-get install -y "$2" > /dev/null
+}
+need gcc gcc
+need cargo cargo
+rt staticlib vuolmaset < /dev/null
+gcc -std=c11 -O2 -Wall -Wextra -Wpedantic -Werror bindings/c/sheets.c target/staticlib/libvuolmaset.a -o target/sheets_c
+target/sheets_c
+RUSTFLAGS='-D warnings' cargo test --quiet --offline --manifest-path bindings/rust/Cargo.toml --target-dir target/rust
+echo "Rust: all as expected"
