@@ -7,6 +7,7 @@ pub mod Tests
 pub mod Subtrees
 pub mod Masks
 pub mod Shapes
+pub mod Columns
 pub mod Walks
 pub mod Whole
 pub mod Once

@@ -15,7 +15,7 @@ use Rattle.rows.specs.Shape.{Shape, nothing, may-be, least, shape-of}
 use Rattle.rows.proofs.Masks.{has-mask, numbers, at-place}
 
 -- what a test says of each number below n, if it says so of all of them together
-all-below : (f : ℕ → Bool) (n : ℕ) → map f (numbers n 0) ≡ map (λ (k : ℕ). true) (numbers n 0) → (k : ℕ) → k < n → f k ≡ true
+pub all-below : (f : ℕ → Bool) (n : ℕ) → map f (numbers n 0) ≡ map (λ (k : ℕ). true) (numbers n 0) → (k : ℕ) → k < n → f k ≡ true
 all-below f n e k h =
     ap f (sym (zero-add k)) ∙ sym (at-place f n 0 k true h) ∙ ap (λ (l : List Bool). getD l k true) e ∙ at-place (λ (k : ℕ). true) n 0 k true h
 

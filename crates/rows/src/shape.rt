@@ -1,6 +1,6 @@
 // The kids of a row of each kind: the table of specs/Shape.antt, with a set of kinds as the bits of a number.
 ghost use mathlib.Core.Path.{_≡_};
-ghost use Prim.Native.Nat.{_<_};
+ghost use Prim.Native.Nat.{_+_, _<_};
 ghost use lib.Dec.{leb};
 ghost use Rattle.rows.specs.Mask.{has, Cell};
 ghost use Rattle.rows.specs.Shape.{is-listed as listed, shape-of, least, may-be, may-end, fits as may-stand};
@@ -82,116 +82,6 @@ const ONLY_TARGET_NAME: u64 = 0x100_0000_0000;
 
 const ONLY_TARGET_REST: u64 = 0x1000_0000_0000;
 
-// no kids
-const LEAF: [u64; 8] = [0, 0, 0, 0, 0, 0, 0, 0];
-
-// For each kind: how many kids stand in front and the kinds of three of them, the kinds of any number more, those of one closing kid,
-// how many stand at the end, and the kinds of the last.
-const SHAPES: [[u64; 8]; 51] = [
-    // 0, of no row
-    LEAF,
-    // 1 Identifier
-    LEAF,
-    // 2 This
-    LEAF,
-    // 3 Literal
-    LEAF,
-    // 4 Paren
-    [1, E, 0, 0, 0, 0, 0, 0],
-    // 5 Array
-    [0, 0, 0, 0, ELEMENT, 0, 0, 0],
-    // 6 ArrayRestComma
-    [0, 0, 0, 0, ELEMENT, 0, 1, ONLY_SPREAD],
-    // 7 Object
-    [0, 0, 0, 0, PROPERTY, 0, 0, 0],
-    // 8 ObjectRestComma
-    [0, 0, 0, 0, PROPERTY, 0, 1, ONLY_SPREAD],
-    // 9 Hole
-    LEAF,
-    // 10 Spread
-    [1, S, 0, 0, 0, 0, 0, 0],
-    // 11 Shorthand
-    [1, ONLY_IDENTIFIER, 0, 0, 0, 0, 0, 0],
-    // 12 ShorthandInit
-    [2, ONLY_IDENTIFIER, S, 0, 0, 0, 0, 0],
-    // 13 Property
-    [2, KEY, VALUE, 0, 0, 0, 0, 0],
-    // 14 Key
-    LEAF,
-    // 15 ComputedKey
-    [1, S, 0, 0, 0, 0, 0, 0],
-    // 16 Member
-    [1, L, 0, 0, 0, 0, 0, 0],
-    // 17 Index
-    [2, L, E, 0, 0, 0, 0, 0],
-    // 18 Call
-    [1, L, 0, 0, ARGUMENT, 0, 0, 0],
-    // 19 Unary
-    [1, U, 0, 0, 0, 0, 0, 0],
-    // 20 PrefixUpdate
-    [1, SIMPLE_TARGETS, 0, 0, 0, 0, 0, 0],
-    // 21 PostfixUpdate
-    [1, SIMPLE_TARGETS, 0, 0, 0, 0, 0, 0],
-    // 22 Binary
-    [2, B, B, 0, 0, 0, 0, 0],
-    // 23 Logical
-    [2, G, G, 0, 0, 0, 0, 0],
-    // 24 Conditional
-    [3, G, S, S, 0, 0, 0, 0],
-    // 25 Assign
-    [2, TARGETS, S, 0, 0, 0, 0, 0],
-    // 26 CompoundAssign
-    [2, SIMPLE_TARGETS, S, 0, 0, 0, 0, 0],
-    // 27 Sequence
-    [2, S, S, 0, S, 0, 0, 0],
-    // 28 Arrow
-    [0, 0, 0, 0, PARAMETERS, ONLY_BINDING_REST, 1, BODY],
-    // 29 AsyncArrow
-    [0, 0, 0, 0, PARAMETERS, ONLY_BINDING_REST, 1, BODY],
-    // 30 BindingName
-    LEAF,
-    // 31 BindingArray
-    [0, 0, 0, 0, BINDING_ELEMENT, ONLY_BINDING_REST, 0, 0],
-    // 32 BindingObject
-    [0, 0, 0, 0, BINDING_PROPERTY, ONLY_BINDING_REST, 0, 0],
-    // 33 BindingRest
-    [1, PARAMETERS, 0, 0, 0, 0, 0, 0],
-    // 34 BindingDefault
-    [2, BINDINGS, S, 0, 0, 0, 0, 0],
-    // 35 BindingShorthand
-    [1, ONLY_BINDING_NAME, 0, 0, 0, 0, 0, 0],
-    // 36 BindingShorthandInit
-    [2, ONLY_BINDING_NAME, S, 0, 0, 0, 0, 0],
-    // 37, of no row
-    LEAF,
-    // 38, of no row
-    LEAF,
-    // 39, of no row
-    LEAF,
-    // 40 TargetName
-    LEAF,
-    // 41 TargetParen
-    [1, SIMPLE_TARGETS, 0, 0, 0, 0, 0, 0],
-    // 42 TargetArray
-    [0, 0, 0, 0, TARGET_ELEMENT, ONLY_TARGET_REST, 0, 0],
-    // 43 TargetObject
-    [0, 0, 0, 0, TARGET_PROPERTY, ONLY_TARGET_REST, 0, 0],
-    // 44 TargetRest
-    [1, TARGETS, 0, 0, 0, 0, 0, 0],
-    // 45 TargetDefault
-    [2, TARGETS, S, 0, 0, 0, 0, 0],
-    // 46 TargetMember
-    [1, L, 0, 0, 0, 0, 0, 0],
-    // 47 TargetIndex
-    [2, L, E, 0, 0, 0, 0, 0],
-    // 48 TargetProperty
-    [2, KEY, TARGET_VALUE, 0, 0, 0, 0, 0],
-    // 49 TargetShorthand
-    [1, ONLY_TARGET_NAME, 0, 0, 0, 0, 0, 0],
-    // 50 TargetShorthandInit
-    [2, ONLY_TARGET_NAME, S, 0, 0, 0, 0, 0],
-];
-
 // The listed kinds: 1 to 36, 40 to 50.
 pub fn is_listed(kind: u32) -> bool
     ensures { λ r. ⌜ r ≡ listed kind ⌝ }
@@ -213,12 +103,175 @@ fn holds(kinds: u64, kind: u32) -> bool
     (kinds >> kind) % 2 == 1
 }
 
-// A number of the table.
-fn cell(kind: usize, place: usize) -> u64
-    requires { ⌜ (kind < 51) × (place < 8) ⌝ }
-    ensures { λ r. ⌜ Cell (shape-of kind) place r ⌝ }
+// THE TABLE: for each kind, the kinds of its fixed kids in front, of any number of kids after them, of one closing kid, and of the fixed kid at the
+// end; 0 where a kind has no such kids.
+fn first(kind: u32) -> u64
+    requires { ⌜ kind < 51 ⌝ }
+    ensures { λ r. ⌜ Cell (shape-of kind) 1 r ⌝ }
 {
-    SHAPES[kind][place]
+    match kind {
+        row::PAREN => E,
+        row::SPREAD => S,
+        row::SHORTHAND => ONLY_IDENTIFIER,
+        row::SHORTHAND_INIT => ONLY_IDENTIFIER,
+        row::PROPERTY => KEY,
+        row::COMPUTED_KEY => S,
+        row::MEMBER => L,
+        row::INDEX => L,
+        row::CALL => L,
+        row::UNARY => U,
+        row::PREFIX_UPDATE => SIMPLE_TARGETS,
+        row::POSTFIX_UPDATE => SIMPLE_TARGETS,
+        row::BINARY => B,
+        row::LOGICAL => G,
+        row::CONDITIONAL => G,
+        row::ASSIGN => TARGETS,
+        row::COMPOUND_ASSIGN => SIMPLE_TARGETS,
+        row::SEQUENCE => S,
+        row::BINDING_REST => PARAMETERS,
+        row::BINDING_DEFAULT => BINDINGS,
+        row::BINDING_SHORTHAND => ONLY_BINDING_NAME,
+        row::BINDING_SHORTHAND_INIT => ONLY_BINDING_NAME,
+        row::TARGET_PAREN => SIMPLE_TARGETS,
+        row::TARGET_REST => TARGETS,
+        row::TARGET_DEFAULT => TARGETS,
+        row::TARGET_MEMBER => L,
+        row::TARGET_INDEX => L,
+        row::TARGET_PROPERTY => KEY,
+        row::TARGET_SHORTHAND => ONLY_TARGET_NAME,
+        row::TARGET_SHORTHAND_INIT => ONLY_TARGET_NAME,
+        _ => 0,
+    }
+}
+
+// The second kid.
+fn second(kind: u32) -> u64
+    requires { ⌜ kind < 51 ⌝ }
+    ensures { λ r. ⌜ Cell (shape-of kind) 2 r ⌝ }
+{
+    match kind {
+        row::SHORTHAND_INIT => S,
+        row::PROPERTY => VALUE,
+        row::INDEX => E,
+        row::BINARY => B,
+        row::LOGICAL => G,
+        row::CONDITIONAL => S,
+        row::ASSIGN => S,
+        row::COMPOUND_ASSIGN => S,
+        row::SEQUENCE => S,
+        row::BINDING_DEFAULT => S,
+        row::BINDING_SHORTHAND_INIT => S,
+        row::TARGET_DEFAULT => S,
+        row::TARGET_INDEX => E,
+        row::TARGET_PROPERTY => TARGET_VALUE,
+        row::TARGET_SHORTHAND_INIT => S,
+        _ => 0,
+    }
+}
+
+// The third kid: only a Conditional's is fixed.
+fn third(kind: u32) -> u64
+    requires { ⌜ kind < 51 ⌝ }
+    ensures { λ r. ⌜ Cell (shape-of kind) 3 r ⌝ }
+{
+    match kind {
+        row::CONDITIONAL => S,
+        _ => 0,
+    }
+}
+
+// Any number of kids.
+fn many(kind: u32) -> u64
+    requires { ⌜ kind < 51 ⌝ }
+    ensures { λ r. ⌜ Cell (shape-of kind) 4 r ⌝ }
+{
+    match kind {
+        row::ARRAY => ELEMENT,
+        row::ARRAY_REST_COMMA => ELEMENT,
+        row::OBJECT => PROPERTY,
+        row::OBJECT_REST_COMMA => PROPERTY,
+        row::CALL => ARGUMENT,
+        row::SEQUENCE => S,
+        row::ARROW => PARAMETERS,
+        row::ASYNC_ARROW => PARAMETERS,
+        row::BINDING_ARRAY => BINDING_ELEMENT,
+        row::BINDING_OBJECT => BINDING_PROPERTY,
+        row::TARGET_ARRAY => TARGET_ELEMENT,
+        row::TARGET_OBJECT => TARGET_PROPERTY,
+        _ => 0,
+    }
+}
+
+// One closing kid.
+fn closing(kind: u32) -> u64
+    requires { ⌜ kind < 51 ⌝ }
+    ensures { λ r. ⌜ Cell (shape-of kind) 5 r ⌝ }
+{
+    match kind {
+        row::ARROW => ONLY_BINDING_REST,
+        row::ASYNC_ARROW => ONLY_BINDING_REST,
+        row::BINDING_ARRAY => ONLY_BINDING_REST,
+        row::BINDING_OBJECT => ONLY_BINDING_REST,
+        row::TARGET_ARRAY => ONLY_TARGET_REST,
+        row::TARGET_OBJECT => ONLY_TARGET_REST,
+        _ => 0,
+    }
+}
+
+// The fixed kid at the end.
+fn last(kind: u32) -> u64
+    requires { ⌜ kind < 51 ⌝ }
+    ensures { λ r. ⌜ Cell (shape-of kind) 7 r ⌝ }
+{
+    match kind {
+        row::ARRAY_REST_COMMA => ONLY_SPREAD,
+        row::OBJECT_REST_COMMA => ONLY_SPREAD,
+        row::ARROW => BODY,
+        row::ASYNC_ARROW => BODY,
+        _ => 0,
+    }
+}
+
+// How many kids stand in front.
+fn front(kind: u32) -> u64
+    requires { ⌜ kind < 51 ⌝ }
+    ensures { λ r. ⌜ Cell (shape-of kind) 0 r ⌝ }
+{
+    if third(kind) != 0 {
+        return 3;
+    }
+    if second(kind) != 0 {
+        return 2;
+    }
+    if first(kind) != 0 {
+        return 1;
+    }
+    0
+}
+
+// The kinds of one of the three kids that may stand in front.
+fn front_kinds(kind: u32, before: u64) -> u64
+    requires { ⌜ (kind < 51) × (before < 3) ⌝ }
+    ensures { λ r. ⌜ Cell (shape-of kind) (before + 1) r ⌝ }
+{
+    if before == 0 {
+        return first(kind);
+    }
+    if before == 1 {
+        return second(kind);
+    }
+    third(kind)
+}
+
+// How many kids stand at the end: one or none.
+fn ending(kind: u32) -> u64
+    requires { ⌜ kind < 51 ⌝ }
+    ensures { λ r. ⌜ Cell (shape-of kind) 6 r ⌝ }
+{
+    if last(kind) != 0 {
+        return 1;
+    }
+    0
 }
 
 // Whether a row of this kind may have so many kids: no fewer than the fixed ones.
@@ -226,12 +279,11 @@ pub fn is_enough(kind: u32, kids: u64) -> bool
     requires { ⌜ kind < 51 ⌝ }
     ensures { λ r. ⌜ r ≡ leb (least (shape-of kind)) kids ⌝ }
 {
-    let k = kind as usize;
-    let front = cell(k, 0);
-    if kids < front {
+    let fixed = front(kind);
+    if kids < fixed {
         return false;
     }
-    cell(k, 6) <= kids - front
+    ending(kind) <= kids - fixed
 }
 
 // Whether a row of this kind may have a kid of kind `kid` with so many kids before it and so many after it.
@@ -239,21 +291,20 @@ fn may_be(kind: u32, before: u64, after: u64, kid: u32) -> bool
     requires { ⌜ (kind < 51) × (kid < 64) ⌝ }
     ensures { λ r. ⌜ r ≡ may-be (shape-of kind) before after kid ⌝ }
 {
-    let k = kind as usize;
-    if before < cell(k, 0) {
-        return holds(cell(k, before as usize + 1), kid);
+    if before < front(kind) {
+        return holds(front_kinds(kind, before), kid);
     }
-    let ending = cell(k, 6);
-    if after < ending {
-        return holds(cell(k, 7), kid);
+    let end = ending(kind);
+    if after < end {
+        return holds(last(kind), kid);
     }
-    if holds(cell(k, 4), kid) {
+    if holds(many(kind), kid) {
         return true;
     }
-    if after != ending {
+    if after != end {
         return false;
     }
-    holds(cell(k, 5), kid)
+    holds(closing(kind), kid)
 }
 
 // Whether a kid of kind `kid` may have a last kid of kind `last` under a row of this kind.
