@@ -1,0 +1,28 @@
+//! The row kinds of document 01, "The tree". A row is six words: kind, mark, first, end, kids, size.
+
+macro_rules! rows {
+    ($($name:ident = $number:literal),* $(,)?) => { $(pub const $name: u32 = $number;)* };
+}
+
+rows! {
+    IDENTIFIER = 1, THIS = 2, LITERAL = 3, PAREN = 4, ARRAY = 5, ARRAY_REST_COMMA = 6, OBJECT = 7, OBJECT_REST_COMMA = 8, HOLE = 9,
+    SPREAD = 10, SHORTHAND = 11, SHORTHAND_INIT = 12, PROPERTY = 13, KEY = 14, COMPUTED_KEY = 15, MEMBER = 16, INDEX = 17, CALL = 18,
+    UNARY = 19, PREFIX_UPDATE = 20, POSTFIX_UPDATE = 21, BINARY = 22, LOGICAL = 23, CONDITIONAL = 24, ASSIGN = 25, COMPOUND_ASSIGN = 26,
+    SEQUENCE = 27, ARROW = 28, ASYNC_ARROW = 29, BINDING_NAME = 30, BINDING_ARRAY = 31, BINDING_OBJECT = 32, BINDING_REST = 33,
+    BINDING_DEFAULT = 34, BINDING_SHORTHAND = 35, BINDING_SHORTHAND_INIT = 36, TARGET_NAME = 40, TARGET_PAREN = 41, TARGET_ARRAY = 42,
+    TARGET_OBJECT = 43, TARGET_REST = 44, TARGET_DEFAULT = 45, TARGET_MEMBER = 46, TARGET_INDEX = 47, TARGET_PROPERTY = 48,
+    TARGET_SHORTHAND = 49, TARGET_SHORTHAND_INIT = 50,
+}
+
+pub const WORDS: usize = 6;
+
+/// A row's words.
+pub type Row = [u32; WORDS];
+
+// The words of a row.
+pub const KIND: usize = 0;
+pub const MARK: usize = 1;
+pub const FIRST: usize = 2;
+pub const END: usize = 3;
+pub const KIDS: usize = 4;
+pub const SIZE: usize = 5;

@@ -1,0 +1,254 @@
+// Holds a reader to the outside judges over many lists: clean or not with all of them, every word of every row with acorn and babel, and every
+// reading with the plain reader of demand 3. Each disagreement is put into a class of classes.js; one that fits none is made small, shown, and fails the run.
+//
+//     node judge.js [--reader COMMAND] [--batch N] [--keep FILE] RUN..      RUN: small:LENGTH | matched:LENGTH:ALPHABET | random:SEED:COUNT:LONGEST |
+//                                                                            pattern:SEED:COUNT:LONGEST (the pattern entry)
+//
+// COMMAND reads lines of bench/twin/src/protocol.rs from standard input. --keep writes each list that was judged, with the answer that was agreed on.
+'use strict';
+const fs = require('fs');
+const path = require('path');
+const { execFileSync } = require('child_process');
+const { spell, outside, outsidePattern, balanced } = require('./spell.js');
+const { rowsOf } = require('./estree.js');
+const parsers = require('./parsers.js');
+const { classOf } = require('./classes.js');
+
+const LISTS = path.join(__dirname, 'lists/target/release/lists');
+const PLAIN = path.join(__dirname, '../plain/target/release/plain');
+const BIG = { maxBuffer: 1 << 30, encoding: 'latin1' };
+
+const options = { reader: path.join(__dirname, '../../bench/twin/target/release/twin'), batch: '20000', keep: null };
+const runs = [];
+for (let i = 2; i < process.argv.length; i++) {
+  if (process.argv[i].startsWith('--')) options[process.argv[i].slice(2)] = process.argv[++i];
+  else runs.push(process.argv[i]);
+}
+
+const ask = (command, lines) => execFileSync(command, [], { ...BIG, input: lines.join('\n') + '\n' }).split('\n');
+const bytes = (hex) => Array.from(Buffer.from(hex, 'hex'));
+
+// An answer line taken apart.
+function answerOf(line) {
+  if (line.startsWith('refused')) {
+    const [, number, place] = line.split(' ').map(Number);
+    return { read: false, clean: false, number, place };
+  }
+  if (line === 'long') return { long: true };
+  if (!line.startsWith('read')) throw new Error('the reader said: ' + line);
+  const [head, words, records] = line.split(':');
+  const numbers = (text) => text.trim().split(' ').filter(Boolean).map(Number);
+  const said = numbers(records);
+  return { read: true, clean: said.length === 0, words: numbers(words), records: said, abandoned: Number(head.split(' ')[3]) };
+}
+
+const same = (a, b) => a.length === b.length && a.every((word, i) => word === b[i]);
+const isEarly = (kinds, flags) => kinds.some((k, i) => k === 2 && kinds[i + 1] === 18 && !flags[i + 1] && kinds[i + 2] === 28 && kinds[i + 3] === 1);
+
+// Names of parameters that kinds 2 to 5 would spell alike: one arrow may not have a name twice (15.3.1), and kinds carry no names.
+function twice(kinds, words) {
+  const names = [];
+  for (let at = 0; at < words.length; at += 6) if (words[at] === 30 && kinds[words[at + 2]] > 1) names.push(words[at + 2]);
+  return names.length > 1 ? new Set(names) : null;
+}
+
+// One list before it is judged: what both readers say, and its text.
+function caseOf(line, reader, plain) {
+  const [letter, hexKinds, hexFlags] = line.split(' ');
+  const kinds = bytes(hexKinds);
+  const flags = bytes(hexFlags);
+  const ours = answerOf(reader);
+  const theirs = answerOf(plain);
+  const early = isEarly(kinds, flags);
+  const it = { line, reader, pattern: letter === 'p', kinds, flags, ours, early, standard: early && !theirs.long ? theirs : ours, unlike: [] };
+  if (!theirs.long && !(ours.number <= 7)) {
+    const alike = ours.read === theirs.read && (!ours.read || (same(ours.words, theirs.words) && same(ours.records, theirs.records)));
+    if (!alike && !(early && !ours.read)) it.unlike.push({ judge: 'plain', how: 'reads otherwise' });
+  }
+  it.outside = ours.number <= 7 ? 'refused by a check' : (it.pattern ? outsidePattern : outside)(kinds, flags);
+  if (!it.outside) {
+    it.renamed = it.standard.clean ? twice(kinds, it.standard.words) : null;
+    it.spelled = spell(kinds, flags, it);
+    it.balanced = balanced(kinds);
+  }
+  return it;
+}
+
+// The verdicts of those who run in this process, with their trees held to ours.
+function judge(it) {
+  const { text } = it.spelled;
+  it.verdicts = {};
+  for (const [name, parse] of [['acorn', parsers.acorn && parsers.byAcorn], ['babel', parsers.babel && parsers.byBabel]]) {
+    if (!parse) continue;
+    const tree = parse(text);
+    it.verdicts[name] = tree && true;
+    if (tree === false) it.verdicts[name] = false;
+    if (tree && it.standard.clean && !same(rowsOf(tree, it.spelled, it.pattern), it.standard.words)) it.unlike.push({ judge: name, how: 'another tree' });
+  }
+  it.verdicts.V8 = it.balanced && parsers.byV8(text);
+  if (parsers.typescript) it.verdicts.TypeScript = it.balanced && parsers.byTypescript(text);
+}
+
+// What each judge says otherwise than the reader, once all verdicts are there.
+function compare(it) {
+  for (const [name, verdict] of Object.entries(it.verdicts)) {
+    if (verdict !== null && verdict !== undefined && verdict !== it.standard.clean) it.unlike.push({ judge: name, how: verdict ? 'accepts' : 'refuses' });
+  }
+}
+
+// Lists with the readers' answers, all judged.
+function judged(lines, reader) {
+  const answers = ask(reader, lines);
+  const plains = ask(PLAIN, lines);
+  const cases = lines.map((line, i) => caseOf(line, answers[i], plains[i]));
+  const inside = cases.filter((it) => !it.outside);
+  inside.forEach(judge);
+  if (parsers.hasSpiderMonkey) {
+    const asked = inside.filter((it) => it.balanced);
+    const said = parsers.bySpiderMonkey(asked.map((it) => it.spelled.text));
+    inside.forEach((it) => (it.verdicts.SpiderMonkey = false));
+    asked.forEach((it, i) => (it.verdicts.SpiderMonkey = said[i]));
+  }
+  inside.forEach(compare);
+  return cases;
+}
+
+const hex = (numbers) => numbers.map((n) => n.toString(16).padStart(2, '0')).join('');
+
+// All lists with one to eight neighbouring tokens or a matching pair of brackets left out, or a token replaced by a simpler one.
+function smaller(kinds, flags) {
+  const out = [];
+  const without = (drop) => [kinds.filter((_, i) => !drop(i)), flags.filter((_, i) => !drop(i))];
+  for (const length of [256, 64, 16, 8, 5, 4, 3, 2, 1]) {
+    for (let at = 0; length < kinds.length && at + length <= kinds.length && out.length < 4000; at++) out.push(without((i) => i >= at && i < at + length));
+  }
+  const open = [];
+  kinds.forEach((k, at) => {
+    if (k === 18 || k === 20 || k === 22) open.push(at);
+    if ((k === 19 || k === 21 || k === 23) && open.length) {
+      const from = open.pop();
+      out.push(without((i) => i === from || i === at));
+      out.push([[...kinds.slice(0, from), 1, ...kinds.slice(at + 1)], [...flags.slice(0, from), 0, ...flags.slice(at + 1)]]);
+    }
+  });
+  kinds.forEach((k, at) => {
+    const simple = k > 1 && k <= 15 ? 1 : k >= 39 && k <= 62 && k !== 57 ? 57 : k >= 65 ? 64 : 0;
+    if (simple) out.push([kinds.map((old, i) => (i === at ? simple : old)), flags]);
+    if (flags[at]) out.push([kinds, flags.map((old, i) => (i === at ? 0 : old))]);
+  });
+  return out.filter(([k]) => k.length);
+}
+
+// The smallest list found with the same disagreement that fits no class.
+function minimize(it, unlike) {
+  let best = it;
+  for (;;) {
+    const tries = smaller(best.kinds, best.flags);
+    tries.sort((a, b) => a[0].length - b[0].length);
+    let next = null;
+    for (let at = 0; at < tries.length && !next; at += 300) {
+      const lines = tries.slice(at, at + 300).map(([k, f]) => `${it.pattern ? 'p' : 'r'} ${hex(k)} ${hex(f)}`);
+      next = judged(lines, options.reader).find((one) => one.unlike.some((u) => u.judge === unlike.judge && u.how === unlike.how && !classOf(one, u)));
+    }
+    if (!next) return best;
+    best = next;
+  }
+}
+
+const totals = { lists: 0, clean: 0, trees: 0, refused: 0, records: 0, early: 0, outside: {}, classes: {}, gaveUp: {} };
+const unknown = new Map();
+
+// Puts each disagreement of a list into its class.
+function sort(it) {
+  for (const unlike of it.unlike) {
+    const known = classOf(it, unlike);
+    const name = known || 'UNKNOWN ' + unlike.judge + ' ' + unlike.how + (it.ours.read ? '' : ' ours ' + it.ours.number);
+    const entry = (totals.classes[name] ||= { count: 0, smallest: null });
+    entry.count += 1;
+    if (!entry.smallest || it.kinds.length < entry.smallest.kinds.length) {
+      entry.smallest = { kinds: it.kinds, text: it.spelled ? it.spelled.text.replace(/\n/g, ' ↵ ') : it.line, reader: it.reader.slice(0, 60) };
+    }
+    if (known) continue;
+    const list = unknown.get(name) || [];
+    unknown.set(name, list);
+    if (list.length < 6) list.push([it, unlike]);
+  }
+}
+
+function tally(it) {
+  totals.lists += 1;
+  if (it.outside) totals.outside[it.outside] = (totals.outside[it.outside] || 0) + 1;
+  else {
+    if (it.ours.clean) totals.clean += 1;
+    else if (it.ours.read) totals.records += 1;
+    else totals.refused += 1;
+    if (it.early && it.ours.clean !== it.standard.clean) totals.early += 1;
+    for (const [name, verdict] of Object.entries(it.verdicts)) {
+      if (verdict === null) totals.gaveUp[name] = (totals.gaveUp[name] || 0) + 1;
+    }
+    if (it.standard.clean) totals.trees += ['acorn', 'babel'].filter((name) => it.verdicts[name]).length;
+  }
+  sort(it);
+}
+
+// All strict judges say what the reader says. TypeScript's parser alone is none: it leaves late checks to its checker.
+function agreed(it) {
+  return !it.outside && it.unlike.every((u) => u.judge === 'TypeScript') &&
+    ['acorn', 'babel', 'V8', 'SpiderMonkey'].every((name) => it.verdicts[name] === it.ours.clean);
+}
+
+// The batches of a run, as lines.
+function* batches(run) {
+  const [sort, ...numbers] = run.split(':');
+  const size = Number(options.batch);
+  if (sort === 'random' || sort === 'pattern') {
+    const [seed, count, longest] = numbers.map(Number);
+    const step = Math.max(200, Math.min(size, Math.floor((size * 64) / longest)));
+    for (let from = 0; from < count; from += step) {
+      const args = [sort, seed, from, Math.min(step, count - from), longest].map(String);
+      yield execFileSync(LISTS, args, BIG).trim().split('\n');
+    }
+    return;
+  }
+  const all = execFileSync(LISTS, [sort, ...numbers], BIG).trim().split('\n');
+  for (let from = 0; from < all.length; from += size) yield all.slice(from, from + size);
+}
+
+const keep = options.keep && fs.createWriteStream(options.keep);
+console.log('judges: ' + Object.entries(parsers.versions).map(([name, version]) => `${name} ${version || '(not there)'}`).join(', '));
+for (const run of runs) {
+  const begun = Date.now();
+  let done = 0;
+  for (const lines of batches(run)) {
+    const cases = judged(lines, options.reader);
+    cases.forEach(tally);
+    if (keep) {
+      for (const it of cases) if (agreed(it)) keep.write(it.line + ' > ' + it.reader + '\n');
+    }
+    done += lines.length;
+    process.stderr.write(`\r${run}: ${done} lists, ${Math.round((Date.now() - begun) / 1000)} s, ${[...unknown.values()].flat().length} unknown   `);
+  }
+  process.stderr.write('\n');
+}
+if (keep) keep.end();
+
+console.log(`lists ${totals.lists}; judged: clean ${totals.clean}, with records ${totals.records}, refused ${totals.refused}; trees compared ${totals.trees}; ` +
+  `calls that the early commit refuses ${totals.early}`);
+for (const [why, count] of Object.entries(totals.outside)) console.log(`outside the comparison: ${why}: ${count}`);
+for (const [name, count] of Object.entries(totals.gaveUp)) console.log(`gave up: ${name}: ${count}`);
+for (const [name, { count, smallest }] of Object.entries(totals.classes).sort()) {
+  console.log(`${name}: ${count}; smallest seen: ${smallest.text.slice(0, 160)}   (${smallest.reader})`);
+}
+const fails = [...unknown.entries()];
+for (const [name, list] of fails) {
+  const shown = new Set();
+  for (const [it, unlike] of list) {
+    const least = minimize(it, unlike);
+    const verdicts = least.verdicts ? Object.entries(least.verdicts).map(([judge, v]) => judge + ' ' + v).join(', ') : '';
+    const text = `  ${least.spelled ? least.spelled.text.replace(/\n/g, ' ↵ ') : ''}   ${least.line}   ${least.reader.slice(0, 80)}   [${verdicts}]`;
+    if (!shown.has(text)) console.log((shown.size ? '' : name + ', made small:\n') + text);
+    shown.add(text);
+  }
+}
+console.log(fails.length ? 'FAILED: disagreements of no known class' : 'every disagreement is of a known class');
+process.exitCode = fails.length ? 1 : 0;

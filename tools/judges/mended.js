@@ -1,0 +1,49 @@
+// acorn 8.8.1 with its known faults mended one by one. A disagreement with acorn that a mend takes away is of the class that the mend names.
+'use strict';
+const { acorn } = require('./parsers.js');
+
+const KEYS = ['shorthandAssign', 'trailingComma', 'parenthesizedAssign', 'parenthesizedBind', 'doubleProto'];
+
+// An error that was found first stays.
+function merge(into, from) {
+  for (const key of KEYS) if (into[key] < 0) into[key] = from[key];
+}
+
+// Pending errors of one part of a literal neither hide nor disturb those of another: each part has its own.
+const partsApart = (Parser) => class extends Parser {
+  parseMaybeAssign(forInit, pending, after) {
+    if (!pending) return super.parseMaybeAssign(forInit, pending, after);
+    const own = new pending.constructor();
+    const node = super.parseMaybeAssign(forInit, own, after);
+    merge(pending, own);
+    return node;
+  }
+};
+
+// `{x = 1}` with a member, index or call after it can never become a target.
+const memberOverInit = (Parser) => class extends Parser {
+  parseExprSubscripts(pending, ...more) {
+    if (!pending) return super.parseExprSubscripts(pending, ...more);
+    const own = new pending.constructor();
+    const node = super.parseExprSubscripts(own, ...more);
+    if (node.type === 'MemberExpression' || node.type === 'CallExpression') this.checkExpressionErrors(own, true);
+    merge(pending, own);
+    return node;
+  }
+};
+
+// Only the parentheses right after `async` can be those of an async arrow.
+const asyncAlone = (Parser) => class extends Parser {
+  parseSubscript(base, startPos, startLoc, noCalls, maybeAsyncArrow, ...more) {
+    return super.parseSubscript(base, startPos, startLoc, noCalls, maybeAsyncArrow && base.type === 'Identifier', ...more);
+  }
+};
+
+const MENDS = acorn ? [
+  ['acorn: an error of one part of a literal is lost or disturbs another', partsApart(acorn.Parser)],
+  ['acorn: {x = 1} under a member or index of a target', memberOverInit(acorn.Parser)],
+  ['acorn: async()() => x', asyncAlone(acorn.Parser)],
+  ['acorn: several of its faults at once', asyncAlone(memberOverInit(partsApart(acorn.Parser)))],
+] : [];
+
+module.exports = { MENDS };

@@ -1,0 +1,103 @@
+// The outside judges: each takes a list's text and says whether it is one expression up to the end. true, false, or null if it gave up.
+// acorn and babel give the tree too.
+'use strict';
+const vm = require('vm');
+const fs = require('fs');
+const os = require('os');
+const path = require('path');
+const { execFileSync } = require('child_process');
+
+const WHERE = ['/usr/share/nodejs/', ''];
+
+// A module of Debian's or of Node's own path, or nothing.
+function load(name) {
+  for (const where of WHERE) {
+    try {
+      return require(where + name);
+    } catch (error) {
+      if (error.code !== 'MODULE_NOT_FOUND') throw error;
+    }
+  }
+  return null;
+}
+
+const acorn = load('acorn');
+const babel = load('@babel/parser');
+const typescript = load('typescript');
+
+const gaveUp = (error) => error instanceof RangeError || (error && error.name === 'InternalError');
+
+// Runs a parser that throws where it refuses: its result, false, or null.
+function attempt(parse) {
+  try {
+    return parse();
+  } catch (error) {
+    if (gaveUp(error)) return null;
+    if (error instanceof SyntaxError || error.pos !== undefined || error.loc !== undefined) return false;
+    throw error;
+  }
+}
+
+const ACORN = { ecmaVersion: 'latest', sourceType: 'script', preserveParens: true };
+const BABEL = { sourceType: 'script', createParenthesizedExpressions: true, plugins: ['estree'], attachComment: false };
+
+// acorn stops after the expression: it must have come to the end.
+function byAcorn(text, Parser) {
+  return attempt(() => {
+    const tree = (Parser || acorn.Parser).parseExpressionAt(text, 0, ACORN);
+    return tree.end === text.length ? tree : false;
+  });
+}
+
+const byBabel = (text) => attempt(() => babel.parseExpression(text, BABEL));
+
+// In parentheses, since a list may start with `{`; its brackets match.
+const wrapped = (text) => '(' + text + '\n)';
+
+const byV8 = (text) => attempt(() => !!new vm.Script(wrapped(text)));
+
+function byTypescript(text) {
+  return attempt(() => {
+    const file = typescript.createSourceFile('a.js', wrapped(text), typescript.ScriptTarget.Latest, false, typescript.ScriptKind.JS);
+    return file.parseDiagnostics.length === 0;
+  });
+}
+
+// SpiderMonkey by gjs: many texts at once.
+function bySpiderMonkey(texts) {
+  const folder = fs.mkdtempSync(path.join(os.tmpdir(), 'judges-'));
+  const file = path.join(folder, 'texts');
+  fs.writeFileSync(file, texts.map((text) => JSON.stringify(wrapped(text))).join('\n'));
+  const out = execFileSync('gjs', [path.join(__dirname, 'spidermonkey.js'), file], { maxBuffer: 1 << 28, encoding: 'latin1' });
+  fs.rmSync(folder, { recursive: true });
+  return texts.map((_, i) => ({ 0: false, 1: true })[out[i]] ?? null);
+}
+
+const hasSpiderMonkey = (() => {
+  try {
+    execFileSync('gjs', ['--version'], { stdio: 'ignore' });
+    return true;
+  } catch {
+    return false;
+  }
+})();
+
+// acorn, but a call is a target where a host may put off the error until it runs (13.15.1): V8, SpiderMonkey and TypeScript do.
+const CallsAsTargets = acorn && class extends acorn.Parser {
+  toAssignable(node, ...rest) {
+    return node && node.type === 'CallExpression' ? node : super.toAssignable(node, ...rest);
+  }
+  checkLValSimple(node, ...rest) {
+    return node.type === 'CallExpression' ? undefined : super.checkLValSimple(node, ...rest);
+  }
+};
+
+const versions = {
+  acorn: acorn && acorn.version,
+  babel: babel && JSON.parse(fs.readFileSync(require.resolve(babel === load('@babel/parser') ? '/usr/share/nodejs/@babel/parser/package.json' : '@babel/parser/package.json'))).version,
+  V8: process.versions.v8,
+  TypeScript: typescript && typescript.version,
+  SpiderMonkey: hasSpiderMonkey ? '102 (gjs)' : null,
+};
+
+module.exports = { acorn, babel, typescript, hasSpiderMonkey, byAcorn, byBabel, byV8, byTypescript, bySpiderMonkey, CallsAsTargets, versions };
