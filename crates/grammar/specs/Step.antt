@@ -2,8 +2,8 @@
 -- Assumes nothing: these are definitions.
 use Prim.Native.Nat.{ℕ, zero, suc, _+_, _*_}
 use lib.ListN.{length}
-use Rattle.grammar.specs.Sheet.{Sheet, Out, stuck, Reading}
-use Rattle.grammar.specs.Job.{Job, expression, sequence, assignment, value, assign, conditional, binary, operators, unary, postfix, left-hand-side, links, arguments, primary, elements, properties, property, key, spread, binding, binding-element, binding-elements, binding-properties, binding-property, binding-rest, head, parameters, body, Asks}
+use Rattle.grammar.specs.Sheet.{Sheet, stuck}
+use Rattle.grammar.specs.Job.{expression, sequence, assignment, value, assign, conditional, binary, operators, unary, postfix, left-hand-side, links, arguments, primary, elements, properties, property, key, spread, binding, binding-element, binding-elements, binding-properties, binding-property, binding-rest, head, parameters, body, Asks}
 use Rattle.grammar.specs.Primary.{primary-of, elements-of, properties-of, property-of, key-of, spread-of}
 use Rattle.grammar.specs.LeftHandSide.{left-hand-side-of, links-of, arguments-of}
 use Rattle.grammar.specs.Update.{unary-of, postfix-of}
@@ -50,6 +50,6 @@ module _ {N : Type 0} (policy : Policy N) (sheet : Sheet) where
   read zero job notes = stuck
   read (suc steps) job notes = step (read steps) job notes
 
--- so many steps are always enough: 32 for each token, and 13 more
+-- so many steps are always enough, 32 for each token and 13 more: `PlentyIsEnough` of laws/specs/Promises.antt
 abbrev pub plenty : Sheet → ℕ
 plenty sheet = 32 * length (sheet .kinds) + 13

@@ -73,10 +73,10 @@ noted-set (note ∷ notes) zero l z = omega arith
 noted-set (note ∷ notes) (suc at) l z = omega (arith, noted-set notes at (omega arith) z)
 
 -- what the box's reader and the logging one have in common
-record Alike (sheet : Sheet) (notes : List ℕ) (log : Log) : Type 0 where
-  same : log .notes ≡ notes
-  log-once : Once notes (log .places)
-  room : length (sheet .kinds) ≤ length notes
+pub record Alike (sheet : Sheet) (notes : List ℕ) (log : Log) : Type 0 where
+  pub same : log .notes ≡ notes
+  pub log-once : Once notes (log .places)
+  pub room : length (sheet .kinds) ≤ length notes
 
 -- a place that is not noted is logged
 alike-mark : {sheet : Sheet} {notes : List ℕ} {log : Log} (at : ℕ) → at < length (sheet .kinds) → getD notes at 0 ≡ 0 → Alike sheet notes log
@@ -188,15 +188,16 @@ pub record Logged (sheet : Sheet) (job : Job) (trees : Forest) (records : List R
   pub log-once : Once notes places
 
 module _ (sheet : Sheet) (job : Job) (there : looked-at job ≤ length (sheet .kinds)) (small : length (sheet .kinds) ≤ 2048) where
-  together : Rel (Alike sheet) _≡_ (Bound (limits sheet job)) (read (box sheet) sheet (plenty sheet) job cleared)
-      (read (logging sheet) sheet (plenty sheet) job (record { notes = cleared; places = [] }))
-  together =
-      related (λ c. refl) sheet 0 (box sheet) (logging sheet) (assignment-logged sheet) job (omega arith) there (plenty sheet) (plenty sheet) (in-plenty sheet job) (in-plenty sheet job)
+  -- the two side by side, whether it is read or refused
+  pub together : (steps : ℕ) → μ sheet job ≤ steps
+      → Rel (Alike sheet) _≡_ (Bound (limits sheet job)) (read (box sheet) sheet steps job cleared) (read (logging sheet) sheet steps job (record { notes = cleared; places = [] }))
+  together steps enough =
+      related (λ c. refl) sheet 0 (box sheet) (logging sheet) (assignment-logged sheet) job (omega arith) there steps steps enough enough
       cleared (record { notes = cleared; places = [] }) (alike-start sheet small)
 
   pub logs-the-same : {trees : Forest} {records : List Record} {notes : List ℕ} → reading (box sheet) sheet job cleared ≡ whole trees records notes → Logged sheet job trees records notes
   unfolding reading at-end
-  logs-the-same {trees} {records} {notes} e = go together (came (box sheet) sheet job cleared e)
+  logs-the-same {trees} {records} {notes} e = go (together (plenty sheet) (in-plenty sheet job)) (came (box sheet) sheet job cleared e)
     where
       go : Rel (Alike sheet) _≡_ (Bound (limits sheet job)) (read (box sheet) sheet (plenty sheet) job cleared)
           (read (logging sheet) sheet (plenty sheet) job (record { notes = cleared; places = [] }))
@@ -220,7 +221,7 @@ module _ (sheet : Sheet) (job : Job) (there : looked-at job ≤ length (sheet .k
   -- and it refuses the same
   pub refuses-the-same : {cause : Cause} → reading (box sheet) sheet job cleared ≡ refused cause → reading (logging sheet) sheet job (record { notes = cleared; places = [] }) ≡ refused cause
   unfolding reading at-end
-  refuses-the-same {cause} e = go together e
+  refuses-the-same {cause} e = go (together (plenty sheet) (in-plenty sheet job)) e
     where
       go : {x : Out (List ℕ)} {y : Out Log} → Rel (Alike sheet) _≡_ (Bound (limits sheet job)) x y → at-end (length (sheet .kinds)) x ≡ refused cause → at-end (length (sheet .kinds)) y ≡ refused cause
       go (both-done end ts rs m log e₁ e₂ b s) q = rw e₂ (same-refusal (end is length (sheet .kinds)) ts (rs ++ unconverteds ts) m log (Cause.Unexpected end) (rw e₁ at q))

@@ -2,7 +2,7 @@
 -- Assumes nothing: these are definitions.
 use Prim.Native.Nat.{ℕ}
 use mathlib.Core.Bool.{Bool}
-use mathlib.Core.List.{List, []}
+use mathlib.Core.List.{[]}
 use Rattle.rows.specs.Row as Row
 use Rattle.rows.specs.Shape.{is-assignment, is-parameter, is-target, only, nothing, _∪_, Shape, shape}
 

@@ -1,23 +1,21 @@
 -- With room enough lent, the entries answer what the definition answers; and P1 to P10 of document 01, exact to the last word of both buffers.
 -- Assumes nothing.
-use Prim.Native.Nat.{ℕ, _+_, _-_, _*_, _≤_}
-use mathlib.Core.Path.{_≡_, refl, sym, ap, _∙_}
+use Prim.Native.Nat.{ℕ, _+_, _*_, _≤_}
+use mathlib.Core.Path.{_≡_, refl, ap, _∙_}
 use mathlib.Core.List.{List, [], _∷_}
 use native.Mathlib.Omega.{arith}
 use native.Mathlib.Nat.{sub-zero}
 use lib.ListN.{length, replicate, length-replicate}
 use borrow.Author.Tests.{le-ltb}
-use Rattle.tokens.specs.Check.{_and-then_, check-length, check-flag-length, first-such, check-flags, check-kinds, depth-after, nesting, check-nesting}
-use Rattle.tokens.specs.declared.cause.Cause.{Cause}
+use Rattle.tokens.specs.Check.{check-length, check-flag-length, first-such, check-flags, check-kinds, depth-after, nesting, check-nesting}
 use Rattle.tokens.specs.declared.check.Checked.{Checked}
-use Rattle.rows.specs.Tree.{flats}
 use Rattle.grammar.specs.Sheet.{Sheet}
 use Rattle.grammar.specs.Job.{Job, expression}
 use Rattle.grammar.specs.Reading.{Whole, whole, refused, reading, box, cleared}
 use Rattle.grammar.specs.Reading as Definition
 use Rattle.laws.specs.Sheets as Said
 use Rattle.laws.specs.Sheets.{Case, row-words, said-words, sheet-of, sheets, All}
-use Rattle.making.specs.Lent.{Given, check-row-room, check-record-room, checks, padded, answered, checked, entry, read-entry}
+use Rattle.making.specs.Lent.{check-row-room, check-record-room, checks, padded, answered, checked, entry, read-entry}
 
 -- there is room for a row and a record for each token
 pub record Enough (sheet : Sheet) (rows records : List ℕ) : Type 0 where

@@ -1,4 +1,4 @@
--- The kinds of rows by name, as document 01 numbers them. The code has the same names in src/row.rt.
+-- The kinds of rows by name, as document 01 numbers them.
 -- Assumes nothing: these are definitions.
 use Prim.Native.Nat.{ℕ}
 
