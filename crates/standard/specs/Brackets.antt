@@ -299,10 +299,10 @@ settle {s} (at-async o q) x = async-opening o (λ t. x .no-paren (subst (λ (n :
 settle {s} (at-async-group e o g q) x = async-group-opening e o g (λ t. x .no-arrow (subst (λ (n : ℕ). Tok s n Arrow) (sym q) t))
 
 -- the tokens that go on
-kind-ends : {s : Sheet} {at : ℕ} (k : ℕ) → k is Arrow ≡ false → k is LParen ≡ false → Tok s at k → Ends s at
+pub kind-ends : {s : Sheet} {at : ℕ} (k : ℕ) → k is Arrow ≡ false → k is LParen ≡ false → Tok s at k → Ends s at
 kind-ends k a b t = record { no-arrow = λ u. not-both (eq-eqb k Arrow (same-kind t u)) a; no-paren = λ u. not-both (eq-eqb k LParen (same-kind t u)) b }
 
-test-ends : {s : Sheet} {at : ℕ} (test : ℕ → Bool) → test Arrow ≡ false → test LParen ≡ false → test (token s at) ≡ true → Ends s at
+pub test-ends : {s : Sheet} {at : ℕ} (test : ℕ → Bool) → test Arrow ≡ false → test LParen ≡ false → test (token s at) ≡ true → Ends s at
 test-ends test a b t = record { no-arrow = of-kind test Arrow a t; no-paren = of-kind test LParen b t }
 
 update-ends : {s : Sheet} {at : ℕ} → Of is-update s at → Ends s at
@@ -325,7 +325,7 @@ other-test : {s : Sheet} {i : ℕ} (test : ℕ → Bool) → test LParen ≡ fal
 other-test test a b t = other-opening (of-kind test LParen a t) (of-kind test Async b t)
 
 -- a call
-arguments-group : {w : Width} {s : Sheet} {i j : ℕ} {ts : Forest} → Derives w s Arguments i j ts → (e : ℕ) × Group s i e × (j ≡ e + 1)
+pub arguments-group : {w : Width} {s : Sheet} {i j : ℕ} {ts : Forest} → Derives w s Arguments i j ts → (e : ℕ) × Group s i e × (j ≡ e + 1)
 unfolding side-of
 arguments-group (D.no-arguments {i = i} o c) = (i + 1, record { opens = o; inside = stop; closes = side c }, omega arith)
 arguments-group (D.arguments {p = p} o d c) = (p, record { opens = o; inside = balanced d; closes = side c }, refl)

@@ -54,17 +54,17 @@ never : {A : Type 0} {t : Tree} {records : List Record} {cause : _} → refused 
 never e = let z : _≡_ {A = ℕ} 0 1 = cc in absurd (omega arith)
 
 -- a first tree and the rest
-record Two (first : Outcome Tree) (rest : Outcome Forest) (vs : Forest) (records : List Record) : Type 0 where
-  head : Tree
-  tail : Forest
-  head-said : List Record
-  tail-said : List Record
-  head-turns : first ≡ turned head head-said
-  tail-turns : rest ≡ turned tail tail-said
-  is-forest : vs ≡ cons head tail
-  are : records ≡ head-said ++ tail-said
+pub record Two (first : Outcome Tree) (rest : Outcome Forest) (vs : Forest) (records : List Record) : Type 0 where
+  pub head : Tree
+  pub tail : Forest
+  pub head-said : List Record
+  pub tail-said : List Record
+  pub head-turns : first ≡ turned head head-said
+  pub tail-turns : rest ≡ turned tail tail-said
+  pub is-forest : vs ≡ cons head tail
+  pub are : records ≡ head-said ++ tail-said
 
-two : (first : Outcome Tree) (rest : Outcome Forest) (vs : Forest) (records : List Record) → both first rest ≡ turned vs records → Two first rest vs records
+pub two : (first : Outcome Tree) (rest : Outcome Forest) (vs : Forest) (records : List Record) → both first rest ≡ turned vs records → Two first rest vs records
 unfolding both
 two (refused cause) rest vs records e = let z : _≡_ {A = ℕ} 0 1 = cc in absurd (omega arith)
 two (turned t said) (refused cause) vs records e = let z : _≡_ {A = ℕ} 0 1 = cc in absurd (omega arith)
@@ -233,21 +233,21 @@ data PropertiesTurn (w : Width) (s : Sheet) (i : ℕ) : ℕ → Forest → Type 
 
 -- ELEMENTS
 -- roles in which a hole stays
-data Holey : Role → Type 0 where
+pub data Holey : Role → Type 0 where
   holey-middle : Holey element
   holey-last : (comma : List Record) → Holey (last-element comma)
 
-hole-stays : {role : Role} (at : ℕ) → Holey role → convert-as (leaf Row.Hole at) role ≡ turned (leaf Row.Hole at) []
+pub hole-stays : {role : Role} (at : ℕ) → Holey role → convert-as (leaf Row.Hole at) role ≡ turned (leaf Row.Hole at) []
 unfolding convert-as convert-kids change as-element as-last-element seen over roles count
 hole-stays at holey-middle = refl
 hole-stays at (holey-last comma) = refl
 
-holey : (comma : List Record) (n : ℕ) → Holey (elements comma n)
+pub holey : (comma : List Record) (n : ℕ) → Holey (elements comma n)
 holey comma zero = holey-last comma
 holey comma (suc n) = rw (ne-eqb (suc n) 0 (λ e. omega arith)) holey-middle
 
 -- an element that another follows is in the middle
-followed : (comma : List Record) (more : ℕ) (n : ℕ) → elements comma (n + suc more) ≡ element
+pub followed : (comma : List Record) (more : ℕ) (n : ℕ) → elements comma (n + suc more) ≡ element
 followed comma more n = rw (ne-eqb (n + suc more) 0 (λ e. omega arith))
 
 module _ {w : Width} {s : Sheet} where
@@ -467,7 +467,7 @@ data LastProperties (w : Width) (s : Sheet) (i j : ℕ) (ts : Forest) (comma : L
       → Derives w s AssignmentRestProperty (p + 1) j ys → us ≡ join xs ys → LastProperties w s i j ts comma us
 
 -- a property that another follows is in the middle
-followed-property : (comma : List Record) (n : ℕ) → properties comma (n + 1) ≡ property
+pub followed-property : (comma : List Record) (n : ℕ) → properties comma (n + 1) ≡ property
 followed-property comma n = rw (ne-eqb (n + 1) 0 (λ e. omega arith))
 
 lone-ends : (ts : Forest) (t : Tree) → ts ≡ one t → ends-in-spread ts ≡ kind-of t is Row.Spread
@@ -552,12 +552,12 @@ module _ {w : Width} {s : Sheet} where
 
 -- ROWS
 -- a key or an initializer stays as it is
-same-stays : (t : Tree) → convert-as t same ≡ turned t []
+pub same-stays : (t : Tree) → convert-as t same ≡ turned t []
 unfolding convert-as change seen over
 same-stays (node kind mark first end kids) = refl
 
 -- what is no literal converts to any target as to a simple one
-any-simple : (t : Tree) → is-array-or-object (kind-of t) ≡ false → convert-as t any ≡ convert-as t simple
+pub any-simple : (t : Tree) → is-array-or-object (kind-of t) ≡ false → convert-as t any ≡ convert-as t simple
 unfolding convert-as change as-any seen kind-of
 any-simple (node kind mark first end kids) h =
     rw (differs Row.Array refl, differs Row.ArrayRestComma refl, differs Row.Object refl, differs Row.ObjectRestComma refl)
@@ -574,10 +574,10 @@ literal-argument (node kind mark first end kids) h = rw (differs Row.Paren refl,
     differs a t = ne-eqb kind a (λ q. not-both h (ap is-array-or-object q ∙ t))
 
 -- names, members, indexes and Parens convert alike in each role
-unfoldable simple-kind : ℕ → Bool
+unfoldable pub simple-kind : ℕ → Bool
 simple-kind k = k is Row.Identifier or k is Row.Member or k is Row.Index or k is Row.Paren
 
-alike : {role : Role} (kind mark first end : ℕ) (kids : Forest) → simple-kind kind ≡ true → Expected role → convert-as (node kind mark first end kids) role ≡ convert-as (node kind mark first end kids) simple
+pub alike : {role : Role} (kind mark first end : ℕ) (kids : Forest) → simple-kind kind ≡ true → Expected role → convert-as (node kind mark first end kids) role ≡ convert-as (node kind mark first end kids) simple
 unfolding simple-kind convert-as change as-any as-value as-element as-last-element seen
 alike {role} kind mark first end kids h x = go x
   where

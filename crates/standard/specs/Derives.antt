@@ -120,19 +120,48 @@ MemberExpression = ChainExpression members
 abbrev pub CallExpression : Nonterminal
 CallExpression = ChainExpression calls
 
--- 13.6
+-- The tiers by the standard's names, from the tightest. The operators of a tier are those that the table of levels has at its number.
+-- 13.6 ExponentiationExpression : UnaryExpression | UpdateExpression ** ExponentiationExpression
 abbrev pub ExponentiationExpression : Nonterminal
 ExponentiationExpression = TierExpression 12
 
--- 13.7 to 13.12, from the tightest: MultiplicativeExpression 11, AdditiveExpression 10, ShiftExpression 9, RelationalExpression 8, EqualityExpression 7,
--- BitwiseANDExpression 6, BitwiseXORExpression 5
+-- 13.7 MultiplicativeExpression : ExponentiationExpression | MultiplicativeExpression MultiplicativeOperator ExponentiationExpression; * / %
+abbrev pub MultiplicativeExpression : Nonterminal
+MultiplicativeExpression = TierExpression 11
+
+-- 13.8 AdditiveExpression : MultiplicativeExpression | AdditiveExpression + MultiplicativeExpression | AdditiveExpression - MultiplicativeExpression
+abbrev pub AdditiveExpression : Nonterminal
+AdditiveExpression = TierExpression 10
+
+-- 13.9 ShiftExpression : AdditiveExpression | ShiftExpression << AdditiveExpression | .. >> .. | .. >>> ..
+abbrev pub ShiftExpression : Nonterminal
+ShiftExpression = TierExpression 9
+
+-- 13.10 RelationalExpression : ShiftExpression | RelationalExpression < ShiftExpression | .. > .. | .. <= .. | .. >= .. | .. instanceof .. | .. in ..
+abbrev pub RelationalExpression : Nonterminal
+RelationalExpression = TierExpression 8
+
+-- 13.11 EqualityExpression : RelationalExpression | EqualityExpression == RelationalExpression | .. != .. | .. === .. | .. !== ..
+abbrev pub EqualityExpression : Nonterminal
+EqualityExpression = TierExpression 7
+
+-- 13.12 BitwiseANDExpression : EqualityExpression | BitwiseANDExpression & EqualityExpression
+abbrev pub BitwiseANDExpression : Nonterminal
+BitwiseANDExpression = TierExpression 6
+
+-- 13.12 BitwiseXORExpression : BitwiseANDExpression | BitwiseXORExpression ^ BitwiseANDExpression
+abbrev pub BitwiseXORExpression : Nonterminal
+BitwiseXORExpression = TierExpression 5
+
+-- 13.12 BitwiseORExpression : BitwiseXORExpression | BitwiseORExpression | BitwiseXORExpression, where the second bar is the operator
 abbrev pub BitwiseORExpression : Nonterminal
 BitwiseORExpression = TierExpression 4
 
--- 13.13
+-- 13.13 LogicalANDExpression : BitwiseORExpression | LogicalANDExpression && BitwiseORExpression
 abbrev pub LogicalANDExpression : Nonterminal
 LogicalANDExpression = TierExpression 3
 
+-- 13.13 LogicalORExpression : LogicalANDExpression | LogicalORExpression || LogicalANDExpression
 abbrev pub LogicalORExpression : Nonterminal
 LogicalORExpression = TierExpression 2
 
@@ -256,10 +285,10 @@ pub data Derives (w : Width) (s : Sheet) : Nonterminal → ℕ → ℕ → Fores
   -- not the standard's: UnaryExpression ** ExponentiationExpression, record 7
   power-of-unary : {i p j : ℕ} {ts us : Forest} → w ≡ wider → Derives w s UnaryExpression i p ts → Tok s p Star2 → Derives w s ExponentiationExpression (p + 1) j us
       → Derives w s ExponentiationExpression i j (one (node Row.Binary p i j (join ts us)))
-  -- 13.7 to 13.13, from MultiplicativeExpression, tier 11, down to LogicalORExpression, tier 2: each tier is the one above it, or
-  -- itself, an operator of its own, and the one above it. So 13.7 MultiplicativeExpression : ExponentiationExpression
+  -- 13.7 to 13.13, from MultiplicativeExpression, tier 11, down to LogicalORExpression, tier 2: two productions a tier, the same for all of them.
+  -- So 13.7 MultiplicativeExpression : ExponentiationExpression, and 13.8 AdditiveExpression : MultiplicativeExpression
   tier-up : {tier i j : ℕ} {ts : Forest} → 2 ≤ tier → Derives w s (TierExpression (suc tier)) i j ts → Derives w s (TierExpression tier) i j ts
-  -- and MultiplicativeExpression : MultiplicativeExpression MultiplicativeOperator ExponentiationExpression
+  -- and 13.7 MultiplicativeExpression : MultiplicativeExpression MultiplicativeOperator ExponentiationExpression, 13.8 AdditiveExpression : AdditiveExpression + MultiplicativeExpression
   operation : {tier i p j : ℕ} {ts us : Forest} → 2 ≤ tier → Derives w s (TierExpression tier) i p ts → Operator s p tier → Derives w s (TierExpression (suc tier)) (p + 1) j us
       → Derives w s (TierExpression tier) i j (one (node (tier-row tier) p i j (join ts us)))
   -- 13.13 CoalesceExpressionHead : CoalesceExpression

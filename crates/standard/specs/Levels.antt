@@ -103,3 +103,8 @@ row-of-tier k h = go (between Question2 Amp2 k) refl
     go : (b : Bool) → between Question2 Amp2 k ≡ b → (if b then Row.Logical else Row.Binary) ≡ (if leb (expression-level k) 3 then Row.Logical else Row.Binary)
     go true e = let t = logical (ℕ-discrete k Question2) (ℕ-discrete k Pipe2) (leb-true Question2 k (and-left (leb Question2 k) (leb k Amp2) e)) (leb-true k Amp2 (and-right (leb Question2 k) (leb k Amp2) e)) in rw t
     go false e = rw (binary (expression-level k) refl e h)
+
+-- the assignment operators have no level
+pub past-levels : (k : ℕ) → 63 ≤ k → expression-level k ≡ 0
+unfolding expression-level level
+past-levels k h = rw (ne-eqb k 3 (λ e. omega arith), ne-eqb k 4 (λ e. omega arith), ne-eqb k 38 (λ e. omega arith), ne-eqb k 39 (λ e. omega arith), ne-eqb k 40 (λ e. omega arith), ne-eqb k 41 (λ e. omega arith), ne-eqb k 42 (λ e. omega arith), ne-eqb k 43 (λ e. omega arith), ne-eqb k 44 (λ e. omega arith), ne-eqb k 45 (λ e. omega arith), ne-eqb k 46 (λ e. omega arith), ne-eqb k 47 (λ e. omega arith), ne-eqb k 48 (λ e. omega arith), ne-eqb k 49 (λ e. omega arith), ne-eqb k 50 (λ e. omega arith), ne-eqb k 51 (λ e. omega arith), ne-eqb k 52 (λ e. omega arith), ne-eqb k 53 (λ e. omega arith), ne-eqb k 54 (λ e. omega arith), ne-eqb k 55 (λ e. omega arith), ne-eqb k 56 (λ e. omega arith), ne-eqb k 57 (λ e. omega arith), ne-eqb k 58 (λ e. omega arith), ne-eqb k 59 (λ e. omega arith), ne-eqb k 60 (λ e. omega arith), ne-eqb k 61 (λ e. omega arith), ne-eqb k 62 (λ e. omega arith))

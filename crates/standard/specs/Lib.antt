@@ -6,3 +6,10 @@ pub mod Convert
 pub mod Sound
 pub mod Clean
 pub mod Brackets
+pub mod Rules
+pub mod Follow
+pub mod Parts
+pub mod Sources
+pub mod Complete
+pub mod Unambiguous
+pub mod Examples

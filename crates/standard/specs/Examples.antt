@@ -1,0 +1,94 @@
+-- The sheets P1 to P10 of document 01 in the standard's terms: which of them ECMA-262 derives, with which tree, and which it does not.
+-- Assumes nothing.
+use Prim.Native.Nat.{ℕ}
+use mathlib.Core.Path.{_≡_, refl}
+use mathlib.Core.List.{List, [], _∷_}
+use native.Mathlib.Omega.{arith}
+use lib.ListN.{length, replicate}
+use Rattle.tokens.specs.declared.cause.Cause.{Cause}
+use Rattle.rows.specs.Tree.{Tree, Forest, node, nil, cons, one}
+use Rattle.rows.specs.Record.{Record}
+use Rattle.rows.specs.Row as Row
+use Rattle.grammar.specs.Sheet.{Sheet, leaf}
+use Rattle.tokens.specs.Token.{is-name, is-word, is-literal}
+use Rattle.operators.specs.Precedence.{level, expression-level}
+use Rattle.rows.specs.Tree.{join, count, kind-of, mark-of, first-of, end-of, kids-of}
+use Rattle.targets.specs.Conversion.{inner-kind, inner-kinds, seen, as-simple, as-any, as-value, as-element, as-last-element, as-property, as-last-property, as-name, change, roles, over, both, convert-as, convert-kids}
+use Rattle.grammar.specs.Sheet.{first-tree, after-records, and-then, or-else, _>>=_, try, yield, refuse, say}
+use Rattle.grammar.specs.Primary.{parenthesized-of, primary-of, spread-of, elements-of, properties-of, shorthand-of, property-of, key-of}
+use Rattle.grammar.specs.LeftHandSide.{left-hand-side-of, links-of, arguments-of}
+use Rattle.grammar.specs.Update.{is-unary-operator, is-update-operator, converted-to, unary-of, postfix-of}
+use Rattle.grammar.specs.Binary.{operation-kind, right-floor, is-or-and, operation-records, binary-of, operators-of}
+use Rattle.grammar.specs.Assignment.{is-assignment-operator, is-async-name, assign-of, conditional-of, after-binary, value-of}
+use Rattle.grammar.specs.Comma.{expression-of, sequence-of}
+use Rattle.grammar.specs.Binding.{binding-of, binding-element-of, binding-rest-of, binding-elements-of, binding-properties-of, binding-shorthand-of, binding-property-of}
+use Rattle.grammar.specs.Arrow.{by-way, choose, noting, arrow-of, assignment-of, parenthesized-head-of, head-of, parameters-of, body-of}
+use Rattle.grammar.specs.Step.{step, read}
+use Rattle.grammar.specs.Reading.{unconverted, unconverteds, at-end, reading}
+use Rattle.grammar.specs.Reading.{Whole, whole, refused, plain-reading}
+use Rattle.standard.specs.Derives.{Expression, Derived}
+use Rattle.standard.specs.Unambiguous.{clean-is-derived}
+
+-- a sheet with no line breaks
+abbrev sheet : List ℕ → Sheet
+sheet kinds = record { kinds = kinds; flags = replicate (length kinds) 0 }
+
+-- the standard has the list as an Expression with this tree
+abbrev pub Has : List ℕ → Tree → Type 0
+Has kinds t = Derived (sheet kinds) Expression 0 (length kinds) t
+
+-- the standard does not have the list as an Expression
+abbrev pub HasNot : List ℕ → Type 0
+HasNot kinds = (t : Tree) → Has kinds t → ⊥
+
+-- what is refused, and what is read with a record, the standard does not have
+refused-not : {kinds : List ℕ} {cause : Cause} → plain-reading (sheet kinds) ≡ refused cause → HasNot kinds
+refused-not e t d = let f = clean-is-derived .1 d in let z : _≡_ {A = ℕ} 0 1 = cc in omega arith
+
+said-not : {kinds : List ℕ} {trees : Forest} {r : Record} {records : List Record} → plain-reading (sheet kinds) ≡ whole trees (r ∷ records) tt → HasNot kinds
+said-not e t d = let f = clean-is-derived .1 d in let z : _≡_ {A = ℕ} 0 1 = cc in omega arith
+
+-- a list and its tree, or a list that has none
+pub data Claim : Type 0 where
+  has : List ℕ → Tree → Claim
+  has-not : List ℕ → Claim
+
+abbrev pub Holds : Claim → Type 0
+Holds (has kinds t) = Has kinds t
+Holds (has-not kinds) = HasNot kinds
+
+abbrev pub All : List Claim → Type 0
+All [] = Unit {0}
+All (claim ∷ claims) = Holds claim × All claims
+
+abbrev pub claims : List Claim
+claims =
+    -- P1: `[a, b] = c`
+    has (20 ∷ 1 ∷ 24 ∷ 1 ∷ 21 ∷ 63 ∷ 1 ∷ []) (node Row.Assign 5 0 7 (cons (node Row.TargetArray 0 0 5 (cons (leaf Row.TargetName 1) (one (leaf Row.TargetName 3)))) (one (leaf Row.Identifier 6))))
+    -- P2: `(a, b)`
+    ∷ has (18 ∷ 1 ∷ 24 ∷ 1 ∷ 19 ∷ []) (node Row.Paren 0 0 5 (one (node Row.Sequence 2 1 4 (cons (leaf Row.Identifier 1) (one (leaf Row.Identifier 3))))))
+    -- P3: `(a, b) => a`
+    ∷ has (18 ∷ 1 ∷ 24 ∷ 1 ∷ 19 ∷ 29 ∷ 1 ∷ []) (node Row.Arrow 5 0 7 (cons (leaf Row.BindingName 1) (cons (leaf Row.BindingName 3) (one (leaf Row.Identifier 6)))))
+    -- P4: `((a)) = b`
+    ∷ has (18 ∷ 18 ∷ 1 ∷ 19 ∷ 19 ∷ 63 ∷ 1 ∷ []) (node Row.Assign 5 0 7 (cons (node Row.TargetParen 0 0 5 (one (node Row.TargetParen 1 1 4 (one (leaf Row.TargetName 2))))) (one (leaf Row.Identifier 6))))
+    -- P5: `({a}) = b` is refused
+    ∷ has-not (18 ∷ 22 ∷ 1 ∷ 23 ∷ 19 ∷ 63 ∷ 1 ∷ [])
+    -- P6: `{...[a]} = b` has record 3
+    ∷ has-not (22 ∷ 28 ∷ 20 ∷ 1 ∷ 21 ∷ 23 ∷ 63 ∷ 1 ∷ [])
+    -- P7: `[...a,] = b` has record 4
+    ∷ has-not (20 ∷ 28 ∷ 1 ∷ 24 ∷ 21 ∷ 63 ∷ 1 ∷ [])
+    -- P8: `[...a, b] = c` is refused
+    ∷ has-not (20 ∷ 28 ∷ 1 ∷ 24 ∷ 1 ∷ 21 ∷ 63 ∷ 1 ∷ [])
+    -- P9: `a - b + c`
+    ∷ has (1 ∷ 58 ∷ 1 ∷ 57 ∷ 1 ∷ []) (node Row.Binary 3 0 5 (cons (node Row.Binary 1 0 3 (cons (leaf Row.Identifier 0) (one (leaf Row.Identifier 2)))) (one (leaf Row.Identifier 4))))
+    -- P10: `a ?? b || c` has record 6
+    ∷ has-not (1 ∷ 38 ∷ 1 ∷ 39 ∷ 1 ∷ [])
+    -- `async(...x)`, which the box's reader refuses: the early commit
+    ∷ has (2 ∷ 18 ∷ 28 ∷ 1 ∷ 19 ∷ []) (node Row.Call 0 0 5 (cons (leaf Row.Identifier 0) (one (node Row.Spread 2 2 4 (one (leaf Row.Identifier 3))))))
+    -- `{a = 1}` has record 8
+    ∷ has-not (22 ∷ 1 ∷ 63 ∷ 12 ∷ 23 ∷ [])
+    ∷ []
+
+pub claims-hold : All claims
+unfolding is-name is-word is-literal level expression-level join count kind-of mark-of first-of end-of kids-of inner-kind inner-kinds seen as-simple as-any as-value as-element as-last-element as-property as-last-property as-name change roles over both convert-as convert-kids first-tree after-records and-then or-else _>>=_ try yield refuse say parenthesized-of primary-of spread-of elements-of properties-of shorthand-of property-of key-of left-hand-side-of links-of arguments-of is-unary-operator is-update-operator converted-to unary-of postfix-of operation-kind right-floor is-or-and operation-records binary-of operators-of is-assignment-operator is-async-name assign-of conditional-of after-binary value-of expression-of sequence-of binding-of binding-element-of binding-rest-of binding-elements-of binding-properties-of binding-shorthand-of binding-property-of by-way choose noting arrow-of assignment-of parenthesized-head-of head-of parameters-of body-of step read unconverted unconverteds at-end reading
+claims-hold = (clean-is-derived .0 refl, (clean-is-derived .0 refl, (clean-is-derived .0 refl, (clean-is-derived .0 refl, (refused-not refl, (said-not refl, (said-not refl, (refused-not refl, (clean-is-derived .0 refl, (said-not refl, (clean-is-derived .0 refl, (said-not refl, tt))))))))))))

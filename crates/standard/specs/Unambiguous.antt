@@ -1,0 +1,44 @@
+-- UNAMBIGUOUS: the standard's grammar gives a list one tree at most, as an Expression and as a BindingElement. And the plain reader's clean readings are
+-- exactly the standard's derivations.
+-- Assumes nothing.
+use Prim.Native.Nat.{ℕ}
+use mathlib.Core.Path.{_≡_, refl, sym, ap, _∙_}
+use mathlib.Core.List.{[]}
+use mathlib.Core.Logic.{_↔_}
+use native.Mathlib.Omega.{arith}
+use lib.ListN.{length}
+use Rattle.rows.specs.Tree.{Tree, Forest, one}
+use Rattle.grammar.specs.Sheet.{Sheet, Out, done, first-tree}
+use Rattle.grammar.specs.Job as J
+use Rattle.grammar.specs.Job.{Job}
+use Rattle.grammar.specs.Reading.{Whole, whole, plain, reading, plain-reading, plain-pattern}
+use Rattle.laws.specs.Steady.{one-outcome}
+use Rattle.standard.specs.Derives.{Nonterminal, Expression, BindingElement, standard, Derives, Derived}
+use Rattle.standard.specs.Clean.{Standard, clean-expression, clean-binding}
+use Rattle.standard.specs.Rules.{Reads}
+use Rattle.standard.specs.Complete.{complete, at-the-end, not-comma, complete-expression, complete-binding}
+
+-- a nonterminal is read with one tree at most
+one-reading : {s : Sheet} {job : Job} {j : ℕ} {ts us : Forest} → Reads s job j ts → Reads s job j us → ts ≡ us
+one-reading a b = let e = one-outcome (a .settles) (b .settles) in cc
+
+module _ {s : Sheet} {ts us : Forest} where
+  -- two derivations of an Expression over the same list have the same tree
+  pub one-expression : Derives standard s Expression 0 (length (s .kinds)) ts → Derives standard s Expression 0 (length (s .kinds)) us → ts ≡ us
+  one-expression d e = one-reading (complete d .reads (at-the-end s) (not-comma s)) (complete e .reads (at-the-end s) (not-comma s))
+
+  -- and so have two derivations of a BindingElement
+  pub one-binding : Derives standard s BindingElement 0 (length (s .kinds)) ts → Derives standard s BindingElement 0 (length (s .kinds)) us → ts ≡ us
+  one-binding d e = one-reading (complete d .reads (at-the-end s)) (complete e .reads (at-the-end s))
+
+one-tree : {s : Sheet} {x : Nonterminal} {t : Tree} → Standard s x (one t) → Derived s x 0 (length (s .kinds)) t
+unfolding first-tree
+one-tree {t = t} c = let q : c .tree ≡ t = ap first-tree (sym (c .is-tree)) in rw q at (c .derived)
+
+module _ {s : Sheet} {t : Tree} where
+  -- demand 2 in the standard's own terms: clean with this tree, for the plain reader, is derived with this tree
+  pub clean-is-derived : (plain-reading s ≡ whole (one t) [] tt) ↔ Derived s Expression 0 (length (s .kinds)) t
+  clean-is-derived = (λ e. one-tree (clean-expression plain s tt e), λ d. complete-expression d)
+
+  pub clean-is-bound : (plain-pattern s ≡ whole (one t) [] tt) ↔ Derived s BindingElement 0 (length (s .kinds)) t
+  clean-is-bound = (λ e. one-tree (clean-binding plain s tt e), λ d. complete-binding d)
