@@ -2,12 +2,11 @@
 -- buffers hold what the plain reader reads: its rows and its records, and then 0. With no exception: where an entry answers Read, the plain reader reads that.
 -- The statements, at the end: `entry-agrees`, `read-agrees`, `pattern-agrees`, `entry-read`. Assumes nothing.
 use Prim.Native.Nat.{ℕ, _≤_}
-use mathlib.Core.Path.{_≡_, refl, sym, ap, _∙_}
+use mathlib.Core.Path.{_≡_, refl}
 use mathlib.Core.List.{List}
 use native.Mathlib.Omega.{arith}
 use lib.ListN.{length}
 use Rattle.tokens.specs.declared.cause.Answer.{Answer}
-use Rattle.tokens.specs.declared.cause.Cause.{Cause}
 use Rattle.tokens.specs.declared.cause.Counts.{Counts}
 use Rattle.tokens.specs.declared.check.Checked.{Checked}
 use Rattle.rows.specs.Tree.{Forest, sizes, flats}
@@ -17,8 +16,8 @@ use Rattle.grammar.specs.Job.{Job, expression, binding-element}
 use Rattle.grammar.specs.Reading.{Whole, whole, refused, reading, box, plain, cleared, plain-reading, plain-pattern, noted-places}
 use Rattle.making.specs.Lent.{Given, checks, padded, answered, checked, entry, read-entry, pattern-entry}
 use Rattle.laws.specs.Rel.{looked-at}
-use Rattle.agreement.specs.Notes.{NoEarly}
-use Rattle.agreement.specs.Agreement.{ReadAs, one-way, other-way}
+use Rattle.agreement.specs.Terms.{ReadAs, NoEarly}
+use Rattle.agreement.specs.Whole.{one-way, other-way}
 
 -- what an entry gives shows these trees and records: Read with their numbers and some number of abandoned heads, their words in the two buffers, and then 0
 pub record Shows (given : Given) (rows records : List ℕ) (trees : Forest) (said : List Record) : Type 0 where

@@ -1,16 +1,15 @@
 -- Brackets match: what a nonterminal reads is balanced, with any policy, and an opening bracket has one closing partner. So parentheses that are read as an arrow
 -- function's parameters and as a group or as arguments end at the same place.
 -- The statements: `partner`, and at the end `balanced`. Assumes nothing.
-use Prim.Native.Nat.{ℕ, zero, suc, _+_, _<_}
+use Prim.Native.Nat.{ℕ, _+_}
 use mathlib.Core.Path.{_≡_, refl, sym, ap, _∙_, subst}
 use mathlib.Core.Bool.{Bool, true, false, not}
 use mathlib.Core.List.{List}
 use native.Mathlib.Omega.{arith}
-use native.Mathlib.Decide.{ℕ-discrete}
 use lib.Dec.{ltb}
-use borrow.Author.Tests.{eqb-true, ne-eqb, ltb-true, lt-ltb}
+use borrow.Author.Tests.{ne-eqb, ltb-true, lt-ltb}
 use Rattle.tokens.specs.Bool.{_or_, _and_, _is_, if_then_else_}
-use Rattle.tokens.specs.Kind.{Async, Str, Number, LParen, RParen, LBrack, RBrack, LCurly, RCurly, Comma, Colon, Dot3, Arrow, Eq}
+use Rattle.tokens.specs.Kind.{Async, Str, Number, LParen, RParen, LBrack, RBrack, LCurly, RCurly, Colon, Dot3, Arrow, Eq}
 use Rattle.tokens.specs.Token.{is-name, is-word, is-literal}
 use Rattle.tokens.specs.declared.cause.Cause.{Cause}
 use Rattle.operators.specs.Precedence.{level, expression-level}
@@ -35,6 +34,7 @@ use Rattle.laws.specs.Good.{Meaning, Stands, Reads, Answers, Preserved, good, g
 unfoldable pub side-of : ℕ → ℕ
 side-of k = if k is LParen or k is LBrack or k is LCurly then 1 else if k is RParen or k is RBrack or k is RCurly then 2 else 0
 
+-- the way that the token at a place goes
 pub record Side (sheet : Sheet) (at way : ℕ) : Type 0 where
   pub goes : side-of (token sheet at) ≡ way
 
@@ -98,7 +98,7 @@ pub nested : {sheet : Sheet} {i j : ℕ} → Side sheet i 1 → Closes sheet (i 
 nested s c = rw (c .past) (nest s (c .inner) (c .closer) none)
 
 -- a kind that passes a test which no bracket passes
-flat : (holds : ℕ → Bool) → holds LParen ≡ false → holds LBrack ≡ false → holds LCurly ≡ false → holds RParen ≡ false → holds RBrack ≡ false → holds RCurly ≡ false
+pub flat : (holds : ℕ → Bool) → holds LParen ≡ false → holds LBrack ≡ false → holds LCurly ≡ false → holds RParen ≡ false → holds RBrack ≡ false → holds RCurly ≡ false
     → {sheet : Sheet} {at : ℕ} → holds (token sheet at) ≡ true → Side sheet at 0
 unfolding side-of
 flat holds a b c d e f {sheet} {at} t =
@@ -141,36 +141,41 @@ operator-flat {sheet} {at} floor t =
     flat (λ k. ltb 0 (expression-level k)) refl refl refl refl refl refl (lt-ltb 0 (expression-level (token sheet at)) (omega (arith, ltb-true floor (expression-level (token sheet at)) t)))
 
 -- What a nonterminal that is done has read. Five start at a token that whoever asks has looked at: of them it is said from the token after.
-abbrev pub Shape : Sheet → Job → Meaning
-Shape sheet (expression at) end trees records = Balanced sheet at end
-Shape sheet (sequence first comma at so-far) end trees records = Balanced sheet at end
-Shape sheet (assignment at) end trees records = Balanced sheet at end
-Shape sheet (value at) end trees records = Balanced sheet at end
-Shape sheet (assign first at left) end trees records = Balanced sheet (at + 1) end
-Shape sheet (conditional first at left) end trees records = Balanced sheet (at + 1) end
-Shape sheet (binary floor at) end trees records = Balanced sheet at end
-Shape sheet (operators floor first at left) end trees records = Balanced sheet at end
-Shape sheet (unary at) end trees records = Balanced sheet at end
-Shape sheet (postfix at) end trees records = Balanced sheet at end
-Shape sheet (left-hand-side at) end trees records = Balanced sheet at end
-Shape sheet (links first at left) end trees records = Balanced sheet at end
-Shape sheet (arguments first at so-far) end trees records = Closes sheet at end
-Shape sheet (primary at) end trees records = Balanced sheet at end
-Shape sheet (elements first at kind so-far) end trees records = Closes sheet at end
-Shape sheet (properties first at kind so-far) end trees records = Closes sheet at end
-Shape sheet (property at) end trees records = Balanced sheet at end
-Shape sheet (key at) end trees records = Balanced sheet at end
-Shape sheet (spread at) end trees records = Balanced sheet (at + 1) end
-Shape sheet (binding at) end trees records = Balanced sheet at end
-Shape sheet (binding-element at) end trees records = Balanced sheet at end
-Shape sheet (binding-elements first at so-far) end trees records = Closes sheet at end
-Shape sheet (binding-properties first at so-far) end trees records = Closes sheet at end
-Shape sheet (binding-property at) end trees records = Balanced sheet at end
-Shape sheet (binding-rest at) end trees records = Balanced sheet (at + 1) end
-Shape sheet (head at) end trees records = Headed sheet at end
-Shape sheet (parameters at so-far) end trees records = Closes sheet at end
-Shape sheet (body kind first at so-far) end trees records = Balanced sheet (at + 1) end
+abbrev pub Shape : Sheet → Job → ℕ → Type 0
+Shape sheet (expression at) end = Balanced sheet at end
+Shape sheet (sequence first comma at so-far) end = Balanced sheet at end
+Shape sheet (assignment at) end = Balanced sheet at end
+Shape sheet (value at) end = Balanced sheet at end
+Shape sheet (assign first at left) end = Balanced sheet (at + 1) end
+Shape sheet (conditional first at left) end = Balanced sheet (at + 1) end
+Shape sheet (binary floor at) end = Balanced sheet at end
+Shape sheet (operators floor first at left) end = Balanced sheet at end
+Shape sheet (unary at) end = Balanced sheet at end
+Shape sheet (postfix at) end = Balanced sheet at end
+Shape sheet (left-hand-side at) end = Balanced sheet at end
+Shape sheet (links first at left) end = Balanced sheet at end
+Shape sheet (arguments first at so-far) end = Closes sheet at end
+Shape sheet (primary at) end = Balanced sheet at end
+Shape sheet (elements first at kind so-far) end = Closes sheet at end
+Shape sheet (properties first at kind so-far) end = Closes sheet at end
+Shape sheet (property at) end = Balanced sheet at end
+Shape sheet (key at) end = Balanced sheet at end
+Shape sheet (spread at) end = Balanced sheet (at + 1) end
+Shape sheet (binding at) end = Balanced sheet at end
+Shape sheet (binding-element at) end = Balanced sheet at end
+Shape sheet (binding-elements first at so-far) end = Closes sheet at end
+Shape sheet (binding-properties first at so-far) end = Closes sheet at end
+Shape sheet (binding-property at) end = Balanced sheet at end
+Shape sheet (binding-rest at) end = Balanced sheet (at + 1) end
+Shape sheet (head at) end = Headed sheet at end
+Shape sheet (parameters at so-far) end = Closes sheet at end
+Shape sheet (body kind first at so-far) end = Balanced sheet (at + 1) end
 
+-- the same, of what is read and recorded too, of which nothing is said
+abbrev pub Shaped : Sheet → Job → Meaning
+Shaped sheet job end trees records = Shape sheet job end
+
+-- any nonterminal may be asked, and of a refusal nothing is said
 abbrev Any : Job → Type 0
 Any job = Unit {0}
 
@@ -219,18 +224,18 @@ whole-head {sheet} {at} {end} d = go (d .opening)
     go (after-async a e) = skip {i = at} (record { goes = rw a }) (rw e at list)
 
 -- THE PRODUCTIONS
-module _ {N : Type 0} (sheet : Sheet) {ask : Asks N} (h : Answers Any (Shape sheet) Nothing ask) where
-  asked : (job : Job) → Reads (Shape sheet job) Nothing (ask job)
+module _ {N : Type 0} (sheet : Sheet) {ask : Asks N} (h : Answers Any (Shaped sheet) Nothing ask) where
+  asked : (job : Job) → Reads (Shaped sheet job) Nothing (ask job)
   asked job = h .with job tt
 
   -- 13.16
-  expression-shape : (at : ℕ) → Reads (Shape sheet (expression at)) Nothing (expression-of sheet ask at)
+  expression-shape : (at : ℕ) → Reads (Shaped sheet (expression at)) Nothing (expression-of sheet ask at)
   unfolding expression-of
   expression-shape at =
       follows (asked (assignment at))
       (λ part rs b. token-test sheet _ _ (λ t. so (asked (sequence at (part .end) (part .end) (part .trees))) (λ end trees more c. joined b c)) (yields _ _ b))
 
-  sequence-shape : (first comma at : ℕ) (so-far : Forest) → Reads (Shape sheet (sequence first comma at so-far)) Nothing (sequence-of sheet ask first comma at so-far)
+  sequence-shape : (first comma at : ℕ) (so-far : Forest) → Reads (Shaped sheet (sequence first comma at so-far)) Nothing (sequence-of sheet ask first comma at so-far)
   unfolding sequence-of side-of
   sequence-shape first comma at so-far =
       token-test sheet _ _
@@ -251,7 +256,7 @@ module _ {N : Type 0} (sheet : Sheet) {ask : Asks N} (h : Answers Any (Shape she
       (λ t. so (asked (conditional at (left .end) (tree left))) (λ end trees more c. joined b (before t refl c)))
       (yields _ _ b)))
 
-  value-shape : (at : ℕ) → Reads (Shape sheet (value at)) Nothing (value-of sheet ask at)
+  value-shape : (at : ℕ) → Reads (Shaped sheet (value at)) Nothing (value-of sheet ask at)
   unfolding value-of is-async-name
   value-shape at =
       test (is-async-name sheet at)
@@ -264,13 +269,13 @@ module _ {N : Type 0} (sheet : Sheet) {ask : Asks N} (h : Answers Any (Shape she
       (two at (skip (flat (λ k. k is Arrow) refl refl refl refl refl refl rest) c)))))
       (λ _. follows (asked (binary 0 at)) (λ left rs b. after-binary-shape at left rs b))
 
-  assign-shape : (first at : ℕ) (left : Tree) → Reads (Shape sheet (assign first at left)) Nothing (assign-of sheet ask first at left)
+  assign-shape : (first at : ℕ) (left : Tree) → Reads (Shaped sheet (assign first at left)) Nothing (assign-of sheet ask first at left)
   unfolding assign-of
   assign-shape first at left =
       follows (target (if token sheet at is Eq then any else simple) at left)
       (λ target rs e. follows (asked (assignment (at + 1))) (λ right more c. yields _ _ c))
 
-  conditional-shape : (first at : ℕ) (left : Tree) → Reads (Shape sheet (conditional first at left)) Nothing (conditional-of sheet ask first at left)
+  conditional-shape : (first at : ℕ) (left : Tree) → Reads (Shaped sheet (conditional first at left)) Nothing (conditional-of sheet ask first at left)
   unfolding conditional-of side-of
   conditional-shape first at left =
       follows (asked (assignment (at + 1)))
@@ -279,11 +284,11 @@ module _ {N : Type 0} (sheet : Sheet) {ask : Asks N} (h : Answers Any (Shape she
       (refuses _ tt))
 
   -- 13.6 to 13.13
-  binary-shape : (floor at : ℕ) → Reads (Shape sheet (binary floor at)) Nothing (binary-of sheet ask floor at)
+  binary-shape : (floor at : ℕ) → Reads (Shaped sheet (binary floor at)) Nothing (binary-of sheet ask floor at)
   unfolding binary-of
   binary-shape floor at = follows (asked (unary at)) (λ left rs b. so (asked (operators floor at (left .end) (tree left))) (λ end trees more c. joined b c))
 
-  operators-shape : (floor first at : ℕ) (left : Tree) → Reads (Shape sheet (operators floor first at left)) Nothing (operators-of sheet ask floor first at left)
+  operators-shape : (floor first at : ℕ) (left : Tree) → Reads (Shaped sheet (operators floor first at left)) Nothing (operators-of sheet ask floor first at left)
   unfolding operators-of
   operators-shape floor first at left =
       test (ltb floor (expression-level (token sheet at)))
@@ -293,7 +298,7 @@ module _ {N : Type 0} (sheet : Sheet) {ask : Asks N} (h : Answers Any (Shape she
       (λ _. yields _ _ none)
 
   -- 13.5 and 13.4
-  unary-shape : (at : ℕ) → Reads (Shape sheet (unary at)) Nothing (unary-of sheet ask at)
+  unary-shape : (at : ℕ) → Reads (Shaped sheet (unary at)) Nothing (unary-of sheet ask at)
   unfolding unary-of
   unary-shape at =
       test (is-unary-operator (token sheet at))
@@ -303,7 +308,7 @@ module _ {N : Type 0} (sheet : Sheet) {ask : Asks N} (h : Answers Any (Shape she
       (λ operand rs b. follows (target simple (operand .end) (tree operand)) (λ target more e. yields _ _ (skip (update-flat t) (rw e b)))))
       (λ _. asked (postfix at)))
 
-  postfix-shape : (at : ℕ) → Reads (Shape sheet (postfix at)) Nothing (postfix-of sheet ask at)
+  postfix-shape : (at : ℕ) → Reads (Shaped sheet (postfix at)) Nothing (postfix-of sheet ask at)
   unfolding postfix-of
   postfix-shape at =
       follows (asked (left-hand-side at))
@@ -313,11 +318,11 @@ module _ {N : Type 0} (sheet : Sheet) {ask : Asks N} (h : Answers Any (Shape she
       (λ _. yields _ _ b))
 
   -- 13.3
-  left-hand-side-shape : (at : ℕ) → Reads (Shape sheet (left-hand-side at)) Nothing (left-hand-side-of sheet ask at)
+  left-hand-side-shape : (at : ℕ) → Reads (Shaped sheet (left-hand-side at)) Nothing (left-hand-side-of sheet ask at)
   unfolding left-hand-side-of
   left-hand-side-shape at = follows (asked (primary at)) (λ base rs b. so (asked (links at (base .end) (tree base))) (λ end trees more c. joined b c))
 
-  links-shape : (first at : ℕ) (left : Tree) → Reads (Shape sheet (links first at left)) Nothing (links-of sheet ask first at left)
+  links-shape : (first at : ℕ) (left : Tree) → Reads (Shaped sheet (links first at left)) Nothing (links-of sheet ask first at left)
   unfolding links-of side-of
   links-shape first at left =
       token-test sheet _ _
@@ -338,7 +343,7 @@ module _ {N : Type 0} (sheet : Sheet) {ask : Asks N} (h : Answers Any (Shape she
   argument-shape at true e = so (asked (spread at)) (λ end trees more c. skip (flat (λ k. k is Dot3) refl refl refl refl refl refl e) c)
   argument-shape at false e = asked (assignment at)
 
-  arguments-shape : (first at : ℕ) (so-far : Forest) → Reads (Shape sheet (arguments first at so-far)) Nothing (arguments-of sheet ask first at so-far)
+  arguments-shape : (first at : ℕ) (so-far : Forest) → Reads (Shaped sheet (arguments first at so-far)) Nothing (arguments-of sheet ask first at so-far)
   unfolding arguments-of side-of
   arguments-shape first at so-far =
       token-test sheet _ _ (λ t. yields _ _ (closed-here t refl))
@@ -348,7 +353,7 @@ module _ {N : Type 0} (sheet : Sheet) {ask : Asks N} (h : Answers Any (Shape she
       (token-test sheet _ _ (λ t. yields _ _ (closed-after b t refl)) (refuses _ tt))))
 
   -- 13.2
-  primary-shape : (at : ℕ) → Reads (Shape sheet (primary at)) Nothing (primary-of sheet ask at)
+  primary-shape : (at : ℕ) → Reads (Shaped sheet (primary at)) Nothing (primary-of sheet ask at)
   unfolding primary-of parenthesized-of side-of
   primary-shape at =
       test (is-name (token sheet at)) (λ t. yields _ _ (skip (name-flat t) none))
@@ -359,11 +364,11 @@ module _ {N : Type 0} (sheet : Sheet) {ask : Asks N} (h : Answers Any (Shape she
       (token-test sheet _ _ (λ t. so (asked (elements at (at + 1) Row.Array nil)) (λ end trees more c. around-list t refl c))
       (token-test sheet _ _ (λ t. so (asked (properties at (at + 1) Row.Object nil)) (λ end trees more c. around-list t refl c)) (refuses _ tt))))))
 
-  spread-shape : (at : ℕ) → Reads (Shape sheet (spread at)) Nothing (spread-of sheet ask at)
+  spread-shape : (at : ℕ) → Reads (Shaped sheet (spread at)) Nothing (spread-of sheet ask at)
   unfolding spread-of
   spread-shape at = follows (asked (assignment (at + 1))) (λ argument rs b. yields _ _ b)
 
-  elements-shape : (first at kind : ℕ) (so-far : Forest) → Reads (Shape sheet (elements first at kind so-far)) Nothing (elements-of sheet ask first at kind so-far)
+  elements-shape : (first at kind : ℕ) (so-far : Forest) → Reads (Shaped sheet (elements first at kind so-far)) Nothing (elements-of sheet ask first at kind so-far)
   unfolding elements-of side-of
   elements-shape first at kind so-far =
       token-test sheet _ _ (λ t. yields _ _ (closed-here t refl))
@@ -378,7 +383,7 @@ module _ {N : Type 0} (sheet : Sheet) {ask : Asks N} (h : Answers Any (Shape she
   property-or-spread-shape at true e = so (asked (spread at)) (λ end trees more c. skip (flat (λ k. k is Dot3) refl refl refl refl refl refl e) c)
   property-or-spread-shape at false e = asked (property at)
 
-  properties-shape : (first at kind : ℕ) (so-far : Forest) → Reads (Shape sheet (properties first at kind so-far)) Nothing (properties-of sheet ask first at kind so-far)
+  properties-shape : (first at kind : ℕ) (so-far : Forest) → Reads (Shaped sheet (properties first at kind so-far)) Nothing (properties-of sheet ask first at kind so-far)
   unfolding properties-of side-of
   properties-shape first at kind so-far =
       token-test sheet _ _ (λ t. yields _ _ (closed-here t refl))
@@ -388,7 +393,7 @@ module _ {N : Type 0} (sheet : Sheet) {ask : Asks N} (h : Answers Any (Shape she
       (λ end trees more c. closed-on (after b t refl) c))
       (token-test sheet _ _ (λ t. yields _ _ (closed-after b t refl)) (refuses _ tt))))
 
-  property-shape : (at : ℕ) → Reads (Shape sheet (property at)) Nothing (property-of sheet ask at)
+  property-shape : (at : ℕ) → Reads (Shaped sheet (property at)) Nothing (property-of sheet ask at)
   unfolding property-of shorthand-of side-of
   property-shape at =
       test (is-name (token sheet at) and not (token sheet (at + 1) is Colon))
@@ -398,7 +403,7 @@ module _ {N : Type 0} (sheet : Sheet) {ask : Asks N} (h : Answers Any (Shape she
       (λ _. follows (asked (key at))
       (λ name rs b. token-test sheet _ _ (λ t. follows (asked (assignment (name .end + 1))) (λ content more c. yields _ _ (joined b (before t refl c)))) (refuses _ tt)))
 
-  key-shape : (at : ℕ) → Reads (Shape sheet (key at)) Nothing (key-of sheet ask at)
+  key-shape : (at : ℕ) → Reads (Shaped sheet (key at)) Nothing (key-of sheet ask at)
   unfolding key-of side-of
   key-shape at =
       test (is-word (token sheet at) or token sheet at is Str or token sheet at is Number) (λ t. yields _ _ (skip (key-flat t) none))
@@ -407,14 +412,14 @@ module _ {N : Type 0} (sheet : Sheet) {ask : Asks N} (h : Answers Any (Shape she
       (refuses _ tt))
 
   -- 14.3.3
-  binding-shape : (at : ℕ) → Reads (Shape sheet (binding at)) Nothing (binding-of sheet ask at)
+  binding-shape : (at : ℕ) → Reads (Shaped sheet (binding at)) Nothing (binding-of sheet ask at)
   unfolding binding-of side-of
   binding-shape at =
       test (is-name (token sheet at)) (λ t. yields _ _ (skip (name-flat t) none))
       (λ _. token-test sheet _ _ (λ t. so (asked (binding-elements at (at + 1) nil)) (λ end trees more c. around-list t refl c))
       (token-test sheet _ _ (λ t. so (asked (binding-properties at (at + 1) nil)) (λ end trees more c. around-list t refl c)) (refuses _ tt)))
 
-  binding-element-shape : (at : ℕ) → Reads (Shape sheet (binding-element at)) Nothing (binding-element-of sheet ask at)
+  binding-element-shape : (at : ℕ) → Reads (Shaped sheet (binding-element at)) Nothing (binding-element-of sheet ask at)
   unfolding binding-element-of side-of
   binding-element-shape at =
       follows (asked (binding at))
@@ -422,7 +427,7 @@ module _ {N : Type 0} (sheet : Sheet) {ask : Asks N} (h : Answers Any (Shape she
       (λ t. follows (asked (assignment (target .end + 1))) (λ initializer more c. yields _ _ (joined b (before t refl c))))
       (yields _ _ b))
 
-  binding-rest-shape : (at : ℕ) → Reads (Shape sheet (binding-rest at)) Nothing (binding-rest-of sheet ask at)
+  binding-rest-shape : (at : ℕ) → Reads (Shaped sheet (binding-rest at)) Nothing (binding-rest-of sheet ask at)
   unfolding binding-rest-of
   binding-rest-shape at = follows (asked (binding-element (at + 1))) (λ argument rs b. says _ (yields _ _ b))
 
@@ -431,7 +436,7 @@ module _ {N : Type 0} (sheet : Sheet) {ask : Asks N} (h : Answers Any (Shape she
   unfolding side-of
   rest-shape at t = so (asked (binding-rest at)) (λ end trees more c. before t refl c)
 
-  binding-elements-shape : (first at : ℕ) (so-far : Forest) → Reads (Shape sheet (binding-elements first at so-far)) Nothing (binding-elements-of sheet ask first at so-far)
+  binding-elements-shape : (first at : ℕ) (so-far : Forest) → Reads (Shaped sheet (binding-elements first at so-far)) Nothing (binding-elements-of sheet ask first at so-far)
   unfolding binding-elements-of side-of
   binding-elements-shape first at so-far =
       token-test sheet _ _ (λ t. yields _ _ (closed-here t refl))
@@ -443,7 +448,7 @@ module _ {N : Type 0} (sheet : Sheet) {ask : Asks N} (h : Answers Any (Shape she
       (λ t. so (asked (binding-elements first (element .end + 1) (join so-far (element .trees)))) (λ end trees more c. closed-on (after b t refl) c))
       (token-test sheet _ _ (λ t. yields _ _ (closed-after b t refl)) (refuses _ tt))))))
 
-  binding-properties-shape : (first at : ℕ) (so-far : Forest) → Reads (Shape sheet (binding-properties first at so-far)) Nothing (binding-properties-of sheet ask first at so-far)
+  binding-properties-shape : (first at : ℕ) (so-far : Forest) → Reads (Shaped sheet (binding-properties first at so-far)) Nothing (binding-properties-of sheet ask first at so-far)
   unfolding binding-properties-of side-of
   binding-properties-shape first at so-far =
       token-test sheet _ _ (λ t. yields _ _ (closed-here t refl))
@@ -457,7 +462,7 @@ module _ {N : Type 0} (sheet : Sheet) {ask : Asks N} (h : Answers Any (Shape she
       (λ t. so (asked (binding-properties first (part .end + 1) (join so-far (part .trees)))) (λ end trees more c. closed-on (after b t refl) c))
       (token-test sheet _ _ (λ t. yields _ _ (closed-after b t refl)) (refuses _ tt)))))
 
-  binding-property-shape : (at : ℕ) → Reads (Shape sheet (binding-property at)) Nothing (binding-property-of sheet ask at)
+  binding-property-shape : (at : ℕ) → Reads (Shaped sheet (binding-property at)) Nothing (binding-property-of sheet ask at)
   unfolding binding-property-of binding-shorthand-of side-of
   binding-property-shape at =
       test (is-name (token sheet at) and not (token sheet (at + 1) is Colon))
@@ -469,7 +474,7 @@ module _ {N : Type 0} (sheet : Sheet) {ask : Asks N} (h : Answers Any (Shape she
 
   -- 15.3 and 15.9
   parenthesized-head-shape : (at starts : ℕ) → Opening sheet at starts
-      → Reads (Shape sheet (head at)) Nothing (parenthesized-head-of sheet ask starts)
+      → Reads (Shaped sheet (head at)) Nothing (parenthesized-head-of sheet ask starts)
   unfolding parenthesized-head-of
   parenthesized-head-shape at starts o =
       token-test sheet _ _
@@ -479,14 +484,14 @@ module _ {N : Type 0} (sheet : Sheet) {ask : Asks N} (h : Answers Any (Shape she
       (refuses _ tt)))
       (refuses _ tt)
 
-  head-shape : (at : ℕ) → Reads (Shape sheet (head at)) Nothing (head-of sheet ask at)
+  head-shape : (at : ℕ) → Reads (Shaped sheet (head at)) Nothing (head-of sheet ask at)
   unfolding head-of
   head-shape at =
       token-test sheet _ _
       (λ t. test (not (break-before sheet (at + 1))) (λ _. parenthesized-head-shape at (at + 1) (after-async (t .kind-is) refl)) (λ _. refuses _ tt))
       (parenthesized-head-shape at at (bare refl))
 
-  parameters-shape : (at : ℕ) (so-far : Forest) → Reads (Shape sheet (parameters at so-far)) Nothing (parameters-of sheet ask at so-far)
+  parameters-shape : (at : ℕ) (so-far : Forest) → Reads (Shaped sheet (parameters at so-far)) Nothing (parameters-of sheet ask at so-far)
   unfolding parameters-of side-of
   parameters-shape at so-far =
       token-test sheet _ _ (λ t. yields _ _ (closed-here t refl))
@@ -497,7 +502,7 @@ module _ {N : Type 0} (sheet : Sheet) {ask : Asks N} (h : Answers Any (Shape she
       (λ t. so (asked (parameters (parameter .end + 1) (join so-far (parameter .trees)))) (λ end trees more c. closed-on (after b t refl) c))
       (token-test sheet _ _ (λ t. yields _ _ (closed-after b t refl)) (refuses _ tt)))))
 
-  body-shape : (kind first at : ℕ) (so-far : Forest) → Reads (Shape sheet (body kind first at so-far)) Nothing (body-of sheet ask kind first at so-far)
+  body-shape : (kind first at : ℕ) (so-far : Forest) → Reads (Shaped sheet (body kind first at so-far)) Nothing (body-of sheet ask kind first at so-far)
   unfolding body-of
   body-shape kind first at so-far =
       says _ (test (not (token sheet (at + 1) is LCurly))
@@ -512,7 +517,7 @@ module _ {N : Type 0} (sheet : Sheet) {ask : Asks N} (h : Answers Any (Shape she
       so (asked (body (if token sheet at is Async then Row.AsyncArrow else Row.Arrow) at (list .end) (list .trees)))
       (λ end trees more c. joined (whole-head d) (skip (record { goes = rw (d .arrow) }) c))
 
-  assignment-shape : (policy : Policy N) (at : ℕ) → Reads (Shape sheet (assignment at)) Nothing (assignment-of policy sheet ask at)
+  assignment-shape : (policy : Policy N) (at : ℕ) → Reads (Shaped sheet (assignment at)) Nothing (assignment-of policy sheet ask at)
   unfolding assignment-of
   assignment-shape policy at =
       test (token sheet at is LParen or token sheet at is Async)
@@ -523,7 +528,7 @@ module _ {N : Type 0} (sheet : Sheet) {ask : Asks N} (h : Answers Any (Shape she
       (λ _. asked (value at))
 
 -- every production
-pub step-shape : {N : Type 0} (policy : Policy N) (sheet : Sheet) {ask : Asks N} → Answers Any (Shape sheet) Nothing ask → (job : Job) → Reads (Shape sheet job) Nothing (step policy sheet ask job)
+pub step-shape : {N : Type 0} (policy : Policy N) (sheet : Sheet) {ask : Asks N} → Answers Any (Shaped sheet) Nothing ask → (job : Job) → Reads (Shaped sheet job) Nothing (step policy sheet ask job)
 unfolding step
 step-shape policy sheet h (expression at) = expression-shape sheet h at
 step-shape policy sheet h (sequence first comma at so-far) = sequence-shape sheet h first comma at so-far
@@ -556,12 +561,12 @@ step-shape policy sheet h (body kind first at so-far) = body-shape sheet h kind 
 
 -- THE STATEMENT: what is done is balanced, with any policy, from any notes, at any bound on the steps
 module _ {N : Type 0} (policy : Policy N) (sheet : Sheet) where
-  preserved : Preserved policy sheet Any (Shape sheet) Nothing
+  preserved : Preserved policy sheet Any (Shaped sheet) Nothing
   preserved = record { with = λ ask h. record { with = λ job _. step-shape policy sheet h job } }
 
-  pub all-balanced : (steps : ℕ) → Answers {N = N} Any (Shape sheet) Nothing (read policy sheet steps)
-  all-balanced steps = good policy sheet Any (Shape sheet) Nothing preserved steps
+  pub all-balanced : (steps : ℕ) → Answers {N = N} Any (Shaped sheet) Nothing (read policy sheet steps)
+  all-balanced steps = good policy sheet Any (Shaped sheet) Nothing preserved steps
 
   pub balanced : (steps : ℕ) (job : Job) (notes : N) {end : ℕ} {trees : Forest} {records : List Record} {after : N}
-      → read policy sheet steps job notes ≡ done end trees records after → Shape sheet job end trees records
-  balanced steps job notes e = good-done policy sheet Any (Shape sheet) Nothing steps (all-balanced steps) job tt notes e
+      → read policy sheet steps job notes ≡ done end trees records after → Shape sheet job end
+  balanced steps job notes e = good-done policy sheet Any (Shaped sheet) Nothing steps (all-balanced steps) job tt notes e

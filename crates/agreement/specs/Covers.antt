@@ -2,20 +2,19 @@
 -- There nothing allows a `=>`: so to pass over a head that can be read never helps.
 -- The statement, at the end: `covered`, with any policy. Assumes nothing.
 use Prim.Native.Nat.{ℕ, _+_, _≤_}
-use mathlib.Core.Path.{_≡_, refl, sym, ap, _∙_, subst}
-use mathlib.Core.Bool.{Bool, true, false, not}
+use mathlib.Core.Path.{_≡_, refl}
+use mathlib.Core.Bool.{true, false}
 use mathlib.Core.List.{List}
 use native.Mathlib.Omega.{arith}
 use lib.Dec.{ltb}
-use lib.ListN.{length}
 use borrow.Author.Tests.{ltb-true}
-use Rattle.tokens.specs.Bool.{_or_, _and_, _is_, if_then_else_}
-use Rattle.tokens.specs.Kind.{Async, LParen, RParen, Dot3, Arrow}
+use Rattle.tokens.specs.Bool.{_is_, if_then_else_}
+use Rattle.tokens.specs.Kind.{LParen, Dot3, Arrow}
 use Rattle.tokens.specs.Token.{is-name, is-literal}
 use Rattle.tokens.specs.declared.cause.Cause.{Cause}
 use Rattle.operators.specs.Precedence.{level, expression-level}
 use Rattle.rows.specs.Row as Row
-use Rattle.rows.specs.Tree.{Tree, Forest, node, one, join, kind-of}
+use Rattle.rows.specs.Tree.{Tree, Forest, one, join, kind-of}
 use Rattle.rows.specs.Record.{Record}
 use Rattle.grammar.specs.Sheet.{Sheet, token, done, fail, stuck, Out, Reading, Part, first-tree, tree}
 use Rattle.grammar.specs.Job.{Job, expression, sequence, assignment, value, assign, conditional, binary, operators, unary, postfix, left-hand-side, links, arguments, primary, elements, properties, property, key, spread, binding, binding-element, binding-elements, binding-properties, binding-property, binding-rest, head, parameters, body, Asks}
@@ -27,10 +26,10 @@ use Rattle.grammar.specs.Primary.{parenthesized-of, primary-of}
 use Rattle.grammar.specs.Arrow.{Policy}
 use Rattle.grammar.specs.Step.{step, read}
 use Rattle.laws.specs.Settles.{μ}
-use Rattle.laws.specs.Good.{Meaning, Stands, Ends, ends-done, ends-fail, ends-stuck, Reads, Answers, good-given, good-done, yields, refuses, follows, test, token-test, so, both}
+use Rattle.laws.specs.Good.{Meaning, Ends, ends-done, ends-fail, ends-stuck, Reads, Answers, good-given, good-done, yields, refuses, follows, test, token-test, both}
 use Rattle.laws.specs.Steady.{never-stuck}
-use Rattle.agreement.specs.Leads.{Dead, arrow, Halt, halt-fail, halt-dead}
-use Rattle.agreement.specs.Brackets.{side-of, Side, Balanced, Closes, Opening, bare, after-async, Headed, one-close, Shape, all-balanced}
+use Rattle.agreement.specs.Leads.{arrow, Halt, halt-fail, halt-dead}
+use Rattle.agreement.specs.Brackets.{side-of, Closes, Opening, bare, after-async, Headed, one-close, Shaped, all-balanced}
 
 -- nothing is said of a reading
 pub nothing-said : {N : Type 0} (reading : Reading N) → Reads (λ end trees records. Unit {0}) (λ cause. Unit {0}) reading
@@ -120,11 +119,12 @@ module _ (sheet : Sheet) (q : ℕ) (arrow-there : token sheet q ≡ Arrow) where
   Ended (parameters at so-far) end trees records = Over end trees
   Ended (body kind first at so-far) end trees records = Over end trees
 
+  -- of a refusal nothing is said
   abbrev Nothing : Cause → Type 0
   Nothing cause = Unit {0}
 
   -- THE PRODUCTIONS
-  module _ {N : Type 0} {ask : Asks N} (g : Answers (λ job. Unit {0}) (Shape sheet) Nothing ask) (h : Answers On Ended Nothing ask) where
+  module _ {N : Type 0} {ask : Asks N} (g : Answers (λ job. Unit {0}) (Shaped sheet) Nothing ask) (h : Answers On Ended Nothing ask) where
     -- the way past it is no async arrow of one name
     no-async-name : {at : ℕ} → Headed sheet at q → is-async-name sheet at ≡ false
     unfolding is-async-name is-name
@@ -148,7 +148,8 @@ module _ (sheet : Sheet) (q : ℕ) (arrow-there : token sheet q ≡ Arrow) where
     unfolding binary-of
     binary-over floor at d = follows (h .with (unary at) d) (λ left rs b. h .with (operators floor at (left .end) (tree left)) (b .there, b .no-name))
 
-    operators-over : (floor first at : ℕ) (left : Tree) → at ≡ q → kind-of left is Row.Identifier ≡ false → Reads (Ended (operators floor first at left)) Nothing (operators-of sheet ask floor first at left)
+    operators-over : (floor first at : ℕ) (left : Tree) → at ≡ q → kind-of left is Row.Identifier ≡ false
+        → Reads (Ended (operators floor first at left)) Nothing (operators-of sheet ask floor first at left)
     unfolding operators-of expression-level level first-tree
     operators-over floor first at left e n =
         test (ltb floor (expression-level (token sheet at)))
@@ -206,7 +207,7 @@ module _ (sheet : Sheet) (q : ℕ) (arrow-there : token sheet q ≡ Arrow) where
             (refuses _ tt)))
         go (after-async a e) = rw a (yields _ _ (callee (rw e at (d .opens)) (rw e at (d .list))))
 
-  step-over : {N : Type 0} (policy : Policy N) {ask : Asks N} → Answers (λ job. Unit {0}) (Shape sheet) Nothing ask → Answers On Ended Nothing ask → (job : Job) → On job
+  step-over : {N : Type 0} (policy : Policy N) {ask : Asks N} → Answers (λ job. Unit {0}) (Shaped sheet) Nothing ask → Answers On Ended Nothing ask → (job : Job) → On job
       → Reads (Ended job) Nothing (step policy sheet ask job)
   unfolding step
   step-over policy g h (expression at) o = absurd o
@@ -240,7 +241,7 @@ module _ (sheet : Sheet) (q : ℕ) (arrow-there : token sheet q ≡ Arrow) where
 
   over : {N : Type 0} (policy : Policy N) (steps : ℕ) → Answers {N = N} On Ended Nothing (read policy sheet steps)
   over policy steps =
-      good-given policy sheet On Ended Nothing (Shape sheet) (all-balanced policy sheet) (λ ask g h. record { with = λ job o. step-over policy g h job o }) steps
+      good-given policy sheet On Ended Nothing (Shaped sheet) (all-balanced policy sheet) (λ ask g h. record { with = λ job o. step-over policy g h job o }) steps
 
   -- THE STATEMENT: no use can be made of the way past a head that ends here
   pub covered : {N : Type 0} (policy : Policy N) (at steps : ℕ) → Headed sheet at q → μ sheet (value at) ≤ steps → (notes : N) → Halt sheet true (read policy sheet steps (value at) notes)

@@ -3,13 +3,12 @@
 -- Refusals are not compared: `(...a)` is refused by both, for other causes. Assumes nothing.
 use Prim.Native.Nat.{ℕ, _+_}
 use mathlib.Core.Path.{_≡_, refl}
-use mathlib.Core.Bool.{Bool, true, false}
-use mathlib.Core.List.{List, [], _∷_}
+use mathlib.Core.List.{[], _∷_}
 use Rattle.tokens.specs.Token.{is-name, is-word, is-literal, is-binding-identifier, is-modifier-kind}
 use Rattle.tokens.specs.declared.cause.Cause.{Cause}
 use Rattle.operators.specs.Precedence.{level, expression-level}
 use Rattle.lookahead.specs.ThreeWay.{no-parameters, rest-parameter, modified-name, after-name, first-parameter, after-paren, type-parameter, names-type, after-angle, after-open, three-way}
-use Rattle.rows.specs.Tree.{Tree, Forest, node, nil, cons, one, join, kind-of, mark-of, first-of, end-of, kids-of}
+use Rattle.rows.specs.Tree.{Tree, node, nil, cons, one, join, kind-of, mark-of, first-of, end-of, kids-of}
 use Rattle.targets.specs.Conversion.{inner-kind, inner-kinds, seen, as-simple, as-any, as-value, as-element, as-last-element, as-property, as-last-property, as-name, change, roles, over, both, convert-as, convert-kids}
 use Rattle.grammar.specs.Sheet.{Sheet, leaf, first-tree, after-records, and-then, or-else, _>>=_, try, yield, refuse, say}
 use Rattle.grammar.specs.Primary.{parenthesized-of, primary-of, spread-of, elements-of, properties-of, shorthand-of, property-of, key-of}
@@ -22,8 +21,7 @@ use Rattle.grammar.specs.Binding.{binding-of, binding-element-of, binding-rest-
 use Rattle.grammar.specs.Arrow.{by-way, choose, noting, arrow-of, assignment-of, parenthesized-head-of, head-of, parameters-of, body-of}
 use Rattle.grammar.specs.Step.{step, read}
 use Rattle.grammar.specs.Reading.{way-of, unconverted, unconverteds, at-end, reading, whole, refused, box-reading, plain-reading}
-use Rattle.agreement.specs.Past.{Early}
-use Rattle.agreement.specs.Agreement.{ReadAs}
+use Rattle.agreement.specs.Terms.{ReadAs, Early}
 
 -- a call of the name at a place with one spread name: Identifier, Identifier, Spread, Call
 abbrev call : ℕ → Tree
@@ -33,13 +31,15 @@ call at = node 18 at at (at + 5) (cons (leaf 1 at) (cons (node 10 (at + 2) (at +
 abbrev pub excepted : Sheet
 excepted = record { kinds = 2 ∷ 18 ∷ 28 ∷ 1 ∷ 19 ∷ []; flags = 0 ∷ 0 ∷ 0 ∷ 0 ∷ 0 ∷ [] }
 
--- `async ↵ (...a)`, `async(...async)`, `!async(...a)`
+-- `async ↵ (...a)`
 abbrev pub broken : Sheet
 broken = record { kinds = 2 ∷ 18 ∷ 28 ∷ 1 ∷ 19 ∷ []; flags = 0 ∷ 1 ∷ 0 ∷ 0 ∷ 0 ∷ [] }
 
+-- `async(...async)`
 abbrev pub other-name : Sheet
 other-name = record { kinds = 2 ∷ 18 ∷ 28 ∷ 2 ∷ 19 ∷ []; flags = 0 ∷ 0 ∷ 0 ∷ 0 ∷ 0 ∷ [] }
 
+-- `!async(...a)`
 abbrev pub operand : Sheet
 operand = record { kinds = 30 ∷ 2 ∷ 18 ∷ 28 ∷ 1 ∷ 19 ∷ []; flags = 0 ∷ 0 ∷ 0 ∷ 0 ∷ 0 ∷ 0 ∷ [] }
 

@@ -1,30 +1,26 @@
 -- What a head begins with. Where the three-way answer is False, no head can be read, with any policy: so the plain head fails.
 -- The statement, at the end: `false-fails`. Assumes nothing.
 use Prim.Native.Nat.{ℕ, _+_, _≤_}
-use mathlib.Core.Path.{_≡_, refl, sym, ap, _∙_}
-use mathlib.Core.Bool.{Bool, true, false, not}
-use mathlib.Core.List.{List}
+use mathlib.Core.Path.{_≡_, refl}
+use mathlib.Core.Bool.{true, false, not}
 use native.Mathlib.Omega.{arith}
 use native.Mathlib.Decide.{ℕ-discrete}
 use lib.Dec.{leb}
-use lib.ListN.{length}
-use borrow.Author.Tests.{eqb-true, eqb-false, leb-true, not-true, lt-leb}
-use Rattle.tokens.specs.Bool.{_or_, _and_, _is_, if_then_else_, between}
-use Rattle.tokens.specs.Kind.{Ident, Async, Modifier, LParen, RParen, LBrack, LCurly, Comma, Dot3, Arrow, Eq}
-use Rattle.tokens.specs.Token.{is-name, is-literal, flag-at}
+use borrow.Author.Tests.{eqb-false, leb-true, not-true, lt-leb}
+use Rattle.tokens.specs.Kind.{Ident, Modifier, LParen, RParen, LBrack, LCurly, Comma, Dot3, Arrow, Eq}
+use Rattle.tokens.specs.Token.{is-name, is-literal}
 use Rattle.tokens.specs.declared.cause.Cause.{Cause}
 use Rattle.lookahead.specs.declared.Tristate.{Tristate}
 use Rattle.lookahead.specs.ThreeWay.{three-way}
 use Rattle.lookahead.specs.Laws as Laws
 use Rattle.rows.specs.Tree.{Forest, nil, join}
-use Rattle.rows.specs.Record.{Record}
-use Rattle.grammar.specs.Sheet.{Sheet, token, break-before, Out, done, fail, stuck, Part}
+use Rattle.grammar.specs.Sheet.{Sheet, token, break-before, Out, done, fail, stuck}
 use Rattle.grammar.specs.Job.{Job, expression, sequence, assignment, value, assign, conditional, binary, operators, unary, postfix, left-hand-side, links, arguments, primary, elements, properties, property, key, spread, binding, binding-element, binding-elements, binding-properties, binding-property, binding-rest, head, parameters, body, Asks}
 use Rattle.grammar.specs.Binding.{binding-of, binding-element-of, binding-rest-of}
 use Rattle.grammar.specs.Arrow.{Policy, parenthesized-head-of, head-of, parameters-of}
 use Rattle.grammar.specs.Step.{step, read}
 use Rattle.laws.specs.Settles.{μ}
-use Rattle.laws.specs.Good.{Meaning, Stands, Reads, Answers, Preserved, good, good-done, yields, refuses, says, follows, test, token-test, so, and-left, and-right}
+use Rattle.laws.specs.Good.{Meaning, Reads, Answers, Preserved, good, good-done, yields, refuses, says, follows, test, token-test, so, and-left, and-right}
 use Rattle.laws.specs.Steady.{never-stuck}
 use Rattle.agreement.specs.Covers.{nothing-said}
 
@@ -138,6 +134,7 @@ module _ (sheet : Sheet) where
   Begins (parameters at so-far) end trees records = Listed at end
   Begins (body kind first at so-far) end trees records = Unit {0}
 
+  -- of a refusal nothing is said
   abbrev Nothing : Cause → Type 0
   Nothing cause = Unit {0}
 
@@ -288,7 +285,8 @@ module _ (sheet : Sheet) where
     preserved = record { with = λ ask h. record { with = λ job o. step-begins policy h job o } }
 
     -- THE STATEMENT: where the answer is False a head fails
-    pub false-fails : (at : ℕ) → three-way (sheet .kinds) (sheet .flags) false false at ≡ Tristate.False → (steps : ℕ) → μ sheet (head at) ≤ steps → (notes : N) → Fails (read policy sheet steps (head at) notes)
+    pub false-fails : (at : ℕ) → three-way (sheet .kinds) (sheet .flags) false false at ≡ Tristate.False → (steps : ℕ) → μ sheet (head at) ≤ steps → (notes : N)
+        → Fails (read policy sheet steps (head at) notes)
     false-fails at f steps le notes = go (read policy sheet steps (head at) notes) refl
       where
         go : (out : Out N) → read policy sheet steps (head at) notes ≡ out → Fails (read policy sheet steps (head at) notes)

@@ -2,7 +2,7 @@
 -- fail, or be done before a token that nothing allows after what was read, `=>` or `{`: of the follower only that is said then which stays so as it reads on.
 -- One lemma a production but for the one that has the policy in it; `led`, at the end, puts them together. Assumes nothing.
 use Prim.Native.Nat.{ℕ, zero, suc, _+_, _-_, _*_, _≤_, _<_}
-use mathlib.Core.Path.{_≡_, refl, sym, ap, _∙_}
+use mathlib.Core.Path.{_≡_, refl, sym, _∙_}
 use mathlib.Core.Bool.{Bool, true, false, not}
 use mathlib.Core.List.{List, [], _++_}
 use native.Mathlib.Omega.{arith}
@@ -19,7 +19,7 @@ use Rattle.rows.specs.Row as Row
 use Rattle.rows.specs.Tree.{Tree, Forest, node, nil, cons, one, join, kind-of}
 use Rattle.rows.specs.Record.{Record}
 use Rattle.targets.specs.Conversion.{Role, any, simple, Outcome, turned, refused, convert-as}
-use Rattle.grammar.specs.Sheet.{Sheet, token, break-before, Out, done, fail, Reading, Part, tree, leaf, after-records, and-then, or-else, _>>=_, try, yield, refuse, say}
+use Rattle.grammar.specs.Sheet.{Sheet, token, break-before, Out, done, fail, Reading, Part, tree, leaf, after-records, and-then, _>>=_, yield, refuse, say}
 use Rattle.grammar.specs.Job.{Job, expression, sequence, assignment, value, assign, conditional, binary, operators, unary, postfix, left-hand-side, links, arguments, primary, elements, properties, property, key, spread, binding, binding-element, binding-elements, binding-properties, binding-property, binding-rest, head, parameters, body, Asks}
 use Rattle.grammar.specs.Comma.{expression-of, sequence-of}
 use Rattle.grammar.specs.Assignment.{is-assignment-operator, assign-of, conditional-of, after-binary, is-async-name, value-of}
@@ -28,12 +28,12 @@ use Rattle.grammar.specs.Update.{is-unary-operator, is-update-operator, convert
 use Rattle.grammar.specs.LeftHandSide.{left-hand-side-of, links-of, arguments-of}
 use Rattle.grammar.specs.Primary.{parenthesized-of, primary-of, spread-of, elements-of, properties-of, shorthand-of, property-of, key-of}
 use Rattle.grammar.specs.Binding.{binding-of, binding-element-of, binding-rest-of, binding-elements-of, argument-of, binding-properties-of, binding-shorthand-of, binding-property-of}
-use Rattle.grammar.specs.Arrow.{Way, pass, attempt, commit, Policy, by-way, choose, noting, arrow-of, assignment-of, parenthesized-head-of, head-of, parameters-of, body-of}
+use Rattle.grammar.specs.Arrow.{Policy, arrow-of, assignment-of, parenthesized-head-of, head-of, parameters-of, body-of}
 use Rattle.grammar.specs.Step.{step, read}
 use Rattle.laws.specs.Settles.{μ}
 use Rattle.laws.specs.Good.{Meaning, Stands, inside, and-right}
 use Rattle.laws.specs.Bounds.{reads, limits, Bound, bounded-at}
-use Rattle.laws.specs.Rel.{looked-at, first-noted, Ready, Whatever, operator-inside, async-inside, positive}
+use Rattle.laws.specs.Rel.{looked-at, Ready, Whatever, operator-inside, async-inside, positive}
 
 -- a token that nothing allows after an expression or a binding: `=>`, where what stands before it is no parameter, or `{`
 pub data Dead (sheet : Sheet) (at : ℕ) : Type 0 where
@@ -97,9 +97,9 @@ module _ {N : Type 0} (sheet : Sheet) where
   pub record Halts (loose : Bool) (reading : Reading N) : Type 0 where
     pub with : (m : N) → Halt loose (reading m)
 
--- What two outcomes have in common: both are done with the same, of which P holds, and the notes after are similar; or of the leader's no use can be
--- made, and of the follower's holds what is Left.
 module _ {N N′ : Type 0} (sheet : Sheet) (Sim : N → N′ → Type 0) (Left : Out N′ → Type 0) where
+  -- What two outcomes have in common: both are done with the same, of which P holds, and the notes after are similar; or of the leader's no use can be
+  -- made, and of the follower's holds what is Left.
   pub data Led (loose : Bool) (P : Meaning) (x : Out N) (y : Out N′) : Type 0 where
     both-done : (end : ℕ) (trees : Forest) (records : List Record) (m : N) (m′ : N′) → x ≡ done end trees records m → y ≡ done end trees records m′ → P end trees records → Sim m m′
         → Led loose P x y
@@ -140,12 +140,14 @@ module _ {N : Type 0} {sheet : Sheet} {loose : Bool} where
 
 -- THE WORDS, of two readings
 module _ {N N′ : Type 0} {sheet : Sheet} {Sim : N → N′ → Type 0} {Left : Out N′ → Type 0} (stays : Stays sheet Sim Left) where
-  pub led-after : {loose : Bool} (records : List Record) {x : Out N} {y : Out N′} → Led sheet Sim Left loose Whatever x y → Led sheet Sim Left loose Whatever (after-records records x) (after-records records y)
+  pub led-after : {loose : Bool} (records : List Record) {x : Out N} {y : Out N′} → Led sheet Sim Left loose Whatever x y
+      → Led sheet Sim Left loose Whatever (after-records records x) (after-records records y)
   unfolding after-records
   led-after records (both-done end trees more m m′ e e′ p s) = rw (e, e′) (both-done end trees (records ++ more) m m′ refl refl tt s)
   led-after records (halted h l) = halted (halt-after records h) (stays .recording records l)
 
-  pub lead-say : {loose : Bool} (records : List Record) {r : Reading N} {r′ : Reading N′} → Leads sheet Sim Left loose Whatever r r′ → Leads sheet Sim Left loose Whatever (say records r) (say records r′)
+  pub lead-say : {loose : Bool} (records : List Record) {r : Reading N} {r′ : Reading N′} → Leads sheet Sim Left loose Whatever r r′
+      → Leads sheet Sim Left loose Whatever (say records r) (say records r′)
   unfolding say
   lead-say records a = record { with = λ m m′ s. led-after records (a .with m m′ s) }
 
@@ -555,7 +557,8 @@ module _ {N N′ : Type 0} {Sim : N → N′ → Type 0} {Left : Out N′ → Ty
   one-step n f f′ l l′ h job r m m′ s = step-led n f f′ l l′ h job r .with m m′ s
 
   -- what is known of the first is known of both
-  with-bound : (f : ℕ) (job : Job) (m : N) {loose : Bool} {y : Out N′} → Led sheet Sim Left loose Whatever (read A sheet f job m) y → Led sheet Sim Left loose (Bound (limits sheet job)) (read A sheet f job m) y
+  with-bound : (f : ℕ) (job : Job) (m : N) {loose : Bool} {y : Out N′} → Led sheet Sim Left loose Whatever (read A sheet f job m) y
+      → Led sheet Sim Left loose (Bound (limits sheet job)) (read A sheet f job m) y
   with-bound f job m (both-done end trees records m₁ m′ e e′ p s) = both-done end trees records m₁ m′ e e′ (bounded-at A sheet f job m e) s
   with-bound f job m (halted k l) = halted k l
 

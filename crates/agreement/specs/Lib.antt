@@ -1,3 +1,4 @@
+pub mod Terms
 pub mod Leads
 pub mod Brackets
 pub mod Covers
@@ -5,8 +6,14 @@ pub mod OneSided
 pub mod Heads
 pub mod Past
 pub mod Notes
+pub mod Lookahead
+pub mod Whole
 pub mod Agreement
-pub mod Exception
 pub mod Answers
+pub mod Exception
 pub mod Count
 pub mod Scope
+pub mod Work
+pub mod Nesting
+pub mod Steps
+pub mod Doubling

@@ -1,12 +1,11 @@
 -- Where a reader with any policy reads, the plain reader reads the same: the same trees and the same records, from any notes.
 -- The statement, at the end: `plain-reads`. Assumes nothing.
-use Prim.Native.Nat.{ℕ, zero, suc, _+_, _≤_, _<_}
-use mathlib.Core.Path.{_≡_, refl, sym, ap, _∙_}
-use mathlib.Core.Bool.{Bool, true, false}
-use mathlib.Core.List.{List, _++_}
+use Prim.Native.Nat.{ℕ, suc, _≤_}
+use mathlib.Core.Path.{_≡_, refl}
+use mathlib.Core.Bool.{true, false}
+use mathlib.Core.List.{List}
 use native.Mathlib.Omega.{arith}
 use lib.ListN.{length}
-use borrow.Author.Tests.{eqb-true}
 use Rattle.tokens.specs.Bool.{_or_, _is_}
 use Rattle.tokens.specs.Kind.{Async, LParen}
 use Rattle.tokens.specs.declared.cause.Cause.{Cause}
@@ -17,20 +16,21 @@ use Rattle.grammar.specs.Job.{Job, assignment, value, head}
 use Rattle.grammar.specs.Arrow.{Way, pass, attempt, commit, Policy, by-way, choose, noting, arrow-of, assignment-of}
 use Rattle.grammar.specs.Step.{read, plenty}
 use Rattle.laws.specs.Settles.{μ, in-plenty}
-use Rattle.grammar.specs.Reading.{plain, unconverteds, whole, reading}
+use Rattle.grammar.specs.Reading.{plain, whole, reading}
 use Rattle.laws.specs.Good.{Came, came, whole-from}
 use Rattle.laws.specs.Bounds.{limits, Bound}
 use Rattle.laws.specs.Rel.{looked-at, Ready, Whatever}
-use Rattle.laws.specs.Steady.{opens-inside, never-stuck}
-use Rattle.agreement.specs.Leads.{Dead, open-ended, Halt, halt-fail, halt-dead, Led, both-done, halted, Leads, Near, Stays, forget, lead-test, led-after, arrow-led, led, dead-inside}
+use Rattle.laws.specs.Steady.{never-stuck}
+use Rattle.agreement.specs.Leads.{open-ended, halt-fail, halt-dead, Led, both-done, halted, Leads, Near, Stays, forget, lead-test, led-after, arrow-led, led, dead-inside}
 use Rattle.agreement.specs.Brackets.{Headed, balanced}
 use Rattle.agreement.specs.Covers.{covered}
 
 module _ {N : Type 0} (policy : Policy N) (sheet : Sheet) where
-  -- nothing is asked of the notes, nor of the plain reader where the other fails
+  -- nothing is asked of the notes
   abbrev pub Any : N → Unit {0} → Type 0
   Any m m′ = Unit {0}
 
+  -- nor of the plain reader where of the other's outcome no use can be made
   abbrev pub Free : Out (Unit {0}) → Type 0
   Free y = Unit {0}
 

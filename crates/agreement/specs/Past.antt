@@ -2,24 +2,23 @@
 -- nothing allows there. The early commit is excepted: Async, `(` with no break before it, `...`, and a plain name.
 -- The statement, at the end: `true-halts`. Assumes nothing.
 use Prim.Native.Nat.{ℕ, _+_, _≤_}
-use mathlib.Core.Path.{_≡_, refl, sym, ap, _∙_}
+use mathlib.Core.Path.{_≡_, refl, sym, _∙_}
 use mathlib.Core.Bool.{Bool, true, false, not}
 use mathlib.Core.List.{List, [], _∷_}
 use native.Mathlib.Omega.{arith}
 use native.Mathlib.Decide.{ℕ-discrete}
 use lib.Dec.{ltb}
-use borrow.Author.Tests.{eqb-true, eqb-false, ltb-true, ltb-false, not-true, eq-eqb, ne-eqb}
-use Rattle.tokens.specs.Bool.{_or_, _and_, _is_, if_then_else_}
+use borrow.Author.Tests.{eqb-true, eqb-false, ltb-true, ltb-false, not-true, ne-eqb}
+use Rattle.tokens.specs.Bool.{_or_, _and_, _is_}
 use Rattle.tokens.specs.Kind.{Ident, Async, As, Satisfies, Modifier, Const, This, Await, Yield, LParen, RParen, LBrack, LCurly, Comma, Colon, Question, Dot, Dot3, Arrow, In, Eq}
-use Rattle.tokens.specs.Token.{is-name, is-literal, kind-at, flag-at}
+use Rattle.tokens.specs.Token.{is-name, is-literal, flag-at}
 use Rattle.tokens.specs.declared.cause.Cause.{Cause}
 use Rattle.operators.specs.Precedence.{among, level, expression-level}
 use Rattle.lookahead.specs.declared.Tristate.{Tristate}
 use Rattle.lookahead.specs.ThreeWay.{three-way}
 use Rattle.lookahead.specs.Laws as Laws
 use Rattle.rows.specs.Row as Row
-use Rattle.rows.specs.Tree.{Tree, Forest, one, join, kind-of}
-use Rattle.rows.specs.Record.{Record}
+use Rattle.rows.specs.Tree.{Tree, Forest, one, kind-of}
 use Rattle.grammar.specs.Sheet.{Sheet, token, break-before, Out, done, fail, stuck, Part, tree}
 use Rattle.grammar.specs.Job.{Job, expression, sequence, assignment, value, assign, conditional, binary, operators, unary, postfix, left-hand-side, links, arguments, primary, elements, properties, property, key, spread, binding, binding-element, binding-elements, binding-properties, binding-property, binding-rest, head, parameters, body, Asks}
 use Rattle.grammar.specs.Comma.{expression-of}
@@ -31,10 +30,11 @@ use Rattle.grammar.specs.Primary.{parenthesized-of, primary-of}
 use Rattle.grammar.specs.Arrow.{Policy, assignment-of, parenthesized-head-of, head-of}
 use Rattle.grammar.specs.Step.{step, read}
 use Rattle.laws.specs.Settles.{μ}
-use Rattle.laws.specs.Good.{Meaning, Stands, Reads, Answers, Preserved, good, good-done, yields, refuses, follows, tries, test, token-test, chooses, notes, so, and-left, and-right}
+use Rattle.laws.specs.Good.{Meaning, Reads, Answers, Preserved, good, good-done, yields, refuses, follows, tries, test, token-test, chooses, notes, so, and-left, and-right}
 use Rattle.laws.specs.Steady.{never-stuck}
+use Rattle.agreement.specs.Terms.{Early}
 use Rattle.agreement.specs.Leads.{Dead, curly, Halt, halt-fail, halt-dead}
-use Rattle.agreement.specs.Brackets.{side-of, Closes, Headed, none, bare, after-async}
+use Rattle.agreement.specs.Brackets.{side-of, none, after-async}
 use Rattle.agreement.specs.Covers.{covered}
 
 -- KINDS IN LISTS
@@ -78,27 +78,34 @@ quiet = Ident ∷ Async ∷ As ∷ Satisfies ∷ Modifier ∷ Await ∷ Yield �
 abbrev firsts : List ℕ
 firsts = Ident ∷ Async ∷ As ∷ Satisfies ∷ Modifier ∷ This ∷ LParen ∷ Const ∷ Await ∷ Yield ∷ RParen ∷ Comma ∷ Colon ∷ Dot3 ∷ In ∷ Eq ∷ []
 
-name-word : (k : ℕ) → Ident ≤ k → k ≤ Modifier → among words k ≡ true
-name-word k low high = go (ℕ-discrete k Ident) (ℕ-discrete k Async) (ℕ-discrete k As) (ℕ-discrete k Satisfies)
+-- the names, kinds 1 to 5
+abbrev names : List ℕ
+names = Ident ∷ Async ∷ As ∷ Satisfies ∷ Modifier ∷ []
+
+named : (k : ℕ) → Ident ≤ k → k ≤ Modifier → among names k ≡ true
+named k low high = go (ℕ-discrete k Ident) (ℕ-discrete k Async) (ℕ-discrete k As) (ℕ-discrete k Satisfies)
   where
-    go : Dec (k ≡ Ident) → Dec (k ≡ Async) → Dec (k ≡ As) → Dec (k ≡ Satisfies) → among words k ≡ true
+    go : Dec (k ≡ Ident) → Dec (k ≡ Async) → Dec (k ≡ As) → Dec (k ≡ Satisfies) → among names k ≡ true
     go (yes e) _ _ _ = rw e
     go (no _) (yes e) _ _ = rw e
     go (no _) (no _) (yes e) _ = rw e
     go (no _) (no _) (no _) (yes e) = rw e
     go (no a) (no b) (no c) (no d) = let e : k ≡ Modifier = omega arith in rw e
 
+name-word : (k : ℕ) → Ident ≤ k → k ≤ Modifier → among words k ≡ true
+name-word k low high = every-one (among words) names k (named k low high) refl
+
 name-mute : (k : ℕ) → Laws.Name k → among mute k ≡ true
-name-mute k (Laws.name low high) = go (ℕ-discrete k Ident) (ℕ-discrete k Async) (ℕ-discrete k As) (ℕ-discrete k Satisfies)
-  where
-    go : Dec (k ≡ Ident) → Dec (k ≡ Async) → Dec (k ≡ As) → Dec (k ≡ Satisfies) → among mute k ≡ true
-    go (yes e) _ _ _ = rw e
-    go (no _) (yes e) _ _ = rw e
-    go (no _) (no _) (yes e) _ = rw e
-    go (no _) (no _) (no _) (yes e) = rw e
-    go (no a) (no b) (no c) (no d) = let e : k ≡ Modifier = omega arith in rw e
+name-mute k (Laws.name low high) = every-one (among mute) names k (named k low high) refl
 name-mute k (Laws.await e) = rw e
 name-mute k (Laws.yield e) = rw e
+
+-- a word that may open a head is Async
+only-async : (k : ℕ) → among words k ≡ true → (k is LParen or k is Async) ≡ true → k ≡ Async
+only-async k w t = go (rw (none-of (λ l. l is LParen) words k w refl) at t)
+  where
+    go : (k is Async) ≡ true → k ≡ Async
+    go e = eqb-true _ _ e
 
 no-and : (a b : Bool) → b ≡ false → a and b ≡ false
 no-and true b e = e
@@ -122,28 +129,33 @@ module _ (sheet : Sheet) where
     group : token sheet at ≡ LParen → Blocked (at + 1) → Goes at
     call : token sheet at ≡ Async → token sheet (at + 1) ≡ LParen → Args (at + 1 + 1) → Goes at
 
+  -- what follows an operand so far: nothing that goes on, or a call
   data Linked (at : ℕ) : Type 0 where
     rests : among quiet (token sheet at) ≡ true → Linked at
     invokes : token sheet at ≡ LParen → Args (at + 1) → Linked at
 
-  -- where it ends: after one word, or before a `{`
+  -- an expression of one word, and nothing that goes on
   record OneWord (at end : ℕ) : Type 0 where
     word : among words (token sheet at) ≡ true
     ends : end ≡ at + 1
     then-mute : among mute (token sheet (at + 1)) ≡ true
 
+  -- an operand of one word
   record OneToken (at end : ℕ) : Type 0 where
     word : among words (token sheet at) ≡ true
     ends : end ≡ at + 1
 
+  -- an operation ends after one word, or before a `{`
   data Low (at end : ℕ) : Type 0 where
     low-word : OneToken at end → among quiet (token sheet (at + 1)) ≡ true → Low at end
     low-dead : among words (token sheet at) ≡ true → token sheet (at + 1) ≡ LParen → token sheet end ≡ LCurly → Low at end
 
+  -- the way past a head ends so too
   data High (at end : ℕ) : Type 0 where
     high-word : OneWord at end → High at end
     high-dead : among words (token sheet at) ≡ true → token sheet (at + 1) ≡ LParen → token sheet end ≡ LCurly → High at end
 
+  -- the links of an operand: none, or a call before a `{`
   data Went (at end : ℕ) : Type 0 where
     stayed : among quiet (token sheet at) ≡ true → end ≡ at → Went at end
     called : token sheet at ≡ LParen → token sheet end ≡ LCurly → Went at end
@@ -210,6 +222,7 @@ module _ (sheet : Sheet) where
   Ended (parameters at so-far) end trees records = ⊥
   Ended (body kind first at so-far) end trees records = ⊥
 
+  -- of a refusal nothing is said
   abbrev Nothing : Cause → Type 0
   Nothing cause = Unit {0}
 
@@ -267,15 +280,13 @@ module _ (sheet : Sheet) where
     high-blocked (asks w q c) (high-dead _ p d) = absurd (let z : _≡_ {A = ℕ} Question LParen = sym q ∙ p in omega arith)
 
     headless : {at : ℕ} → Blocked at → (token sheet at is LParen or token sheet at is Async) ≡ true → (token sheet at ≡ Async) × (token sheet (at + 1) ≡ LParen → ⊥)
-    headless {at} (cannot c) t = let f = none-of (λ k. k is LParen or k is Async) begins-nothing (token sheet at) c refl in let y : true ≡ false = sym t ∙ f in let z : _≡_ {A = ℕ} 0 1 = cc in absurd (omega arith)
-    headless {at} (stops w m a) t = (is-async (rw (none-of (λ k. k is LParen) words (token sheet at) w refl) at t), λ p. no-bracket mute m refl p)
-      where
-        is-async : (token sheet at is Async) ≡ true → token sheet at ≡ Async
-        is-async e = eqb-true _ _ e
-    headless {at} (asks w q c) t = (is-async (rw (none-of (λ k. k is LParen) words (token sheet at) w refl) at t), λ p. let z : _≡_ {A = ℕ} Question LParen = sym q ∙ p in omega arith)
-      where
-        is-async : (token sheet at is Async) ≡ true → token sheet at ≡ Async
-        is-async e = eqb-true _ _ e
+    headless {at} (cannot c) t =
+        let f = none-of (λ k. k is LParen or k is Async) begins-nothing (token sheet at) c refl in
+        let y : true ≡ false = sym t ∙ f in
+        let z : _≡_ {A = ℕ} 0 1 = cc in
+        absurd (omega arith)
+    headless {at} (stops w m a) t = (only-async (token sheet at) w t, λ p. no-bracket mute m refl p)
+    headless {at} (asks w q c) t = (only-async (token sheet at) w t, λ p. let z : _≡_ {A = ℕ} Question LParen = sym q ∙ p in omega arith)
 
     valued : (at : ℕ) → Blocked at → Reads (Ended (assignment at)) Nothing (ask (value at))
     valued at b = so (h .with (value at) (blocked b)) (λ end trees records r. high-blocked b r)
@@ -510,14 +521,6 @@ module _ (sheet : Sheet) where
   modifies-not k l (Laws.modifier a) le le′ e = omega arith
   modifies-not k l (Laws.const a) le le′ e = omega arith
   modifies-not k l (Laws.in-word a) le le′ e = omega arith
-
--- the early commit: Async, `(` with no line break before it, `...`, and a plain name
-pub record Early (sheet : Sheet) (at : ℕ) : Type 0 where
-  pub async : token sheet at ≡ Async
-  pub opens : token sheet (at + 1) ≡ LParen
-  pub unbroken : break-before sheet (at + 1) ≡ false
-  pub dots : token sheet (at + 2) ≡ Dot3
-  pub name : token sheet (at + 3) ≡ Ident
 
 module _ {N : Type 0} (policy : Policy N) (sheet : Sheet) (at steps : ℕ) (not-early : Early sheet at → ⊥) (le : μ sheet (value at) ≤ steps) (notes : N) where
   -- after Async and `(`

@@ -1,13 +1,12 @@
 -- Where the brackets that are open at a place are closed: how far a nonterminal that starts there can look.
 -- The definition is `closing`; its laws follow. Assumes nothing.
 use Prim.Native.Nat.{ℕ, zero, suc, _+_, _-_, _≤_, _<_, min}
-use mathlib.Core.Path.{_≡_, refl, sym, ap, _∙_}
+use mathlib.Core.Path.{_≡_, refl, _∙_}
 use mathlib.Core.Bool.{Bool, true, false}
-use mathlib.Core.List.{List}
 use native.Mathlib.Omega.{arith}
 use lib.ListN.{length}
 use Rattle.tokens.specs.Bool.{_is_, if_then_else_}
-use Rattle.tokens.specs.Kind.{Async}
+use Rattle.tokens.specs.Kind.{Async, LParen}
 use Rattle.grammar.specs.Sheet.{Sheet, token}
 use Rattle.agreement.specs.Brackets.{side-of, Side, Balanced, none, skip, nest}
 
@@ -23,6 +22,7 @@ closes-from sheet (suc left) at (suc deep) =
     else if side-of (token sheet at) is 2 then closes-from sheet left (at + 1) deep
     else closes-from sheet left (at + 1) (suc deep)
 
+-- the same from a place to the end of the list
 unfoldable pub closing : Sheet → ℕ → ℕ → ℕ
 closing sheet at deep = closes-from sheet (length (sheet .kinds) - at) at deep
 
@@ -30,9 +30,13 @@ closing sheet at deep = closes-from sheet (length (sheet .kinds) - at) at deep
 abbrev pub scope : Sheet → ℕ → ℕ
 scope sheet at = closing sheet at 0
 
--- how far a head that starts at a place can look: to the `=>` after its brackets
+-- where the `(` of a head that starts at a place has to stand
+unfoldable pub head-start : Sheet → ℕ → ℕ
+head-start sheet at = if token sheet at is Async then at + 1 else at
+
+-- how far the head can look: to the `=>` after its brackets
 unfoldable pub reach : Sheet → ℕ → ℕ
-reach sheet at = min (scope sheet at) (scope sheet (if token sheet at is Async then at + 2 else at + 1) + 1)
+reach sheet at = min (scope sheet at) (if token sheet (head-start sheet at) is LParen then scope sheet (head-start sheet at + 1) + 1 else at)
 
 fewer : (sheet : Sheet) (at : ℕ) → at < length (sheet .kinds) → length (sheet .kinds) - at ≡ suc (length (sheet .kinds) - (at + 1))
 fewer sheet at l = omega arith
@@ -73,10 +77,12 @@ from-later : (sheet : Sheet) (left at deep : ℕ) → at ≤ closes-from sheet l
 unfolding closes-from
 from-later sheet zero at deep = omega arith
 from-later sheet (suc left) at zero =
-    three (λ p. at ≤ p) (side-of (token sheet at) is 1) (side-of (token sheet at) is 2) (closes-from sheet left (at + 1) 1) at (closes-from sheet left (at + 1) 0)
+    three (λ p. at ≤ p) (side-of (token sheet at) is 1) (side-of (token sheet at) is 2)
+    (closes-from sheet left (at + 1) 1) at (closes-from sheet left (at + 1) 0)
     (omega (arith, from-later sheet left (at + 1) 1)) (omega arith) (omega (arith, from-later sheet left (at + 1) 0))
 from-later sheet (suc left) at (suc deep) =
-    three (λ p. at ≤ p) (side-of (token sheet at) is 1) (side-of (token sheet at) is 2) (closes-from sheet left (at + 1) (suc (suc deep))) (closes-from sheet left (at + 1) deep) (closes-from sheet left (at + 1) (suc deep))
+    three (λ p. at ≤ p) (side-of (token sheet at) is 1) (side-of (token sheet at) is 2)
+    (closes-from sheet left (at + 1) (suc (suc deep))) (closes-from sheet left (at + 1) deep) (closes-from sheet left (at + 1) (suc deep))
     (omega (arith, from-later sheet left (at + 1) (suc (suc deep)))) (omega (arith, from-later sheet left (at + 1) deep))
     (omega (arith, from-later sheet left (at + 1) (suc deep)))
 
@@ -84,10 +90,12 @@ from-inside : (sheet : Sheet) (left at deep : ℕ) → closes-from sheet left at
 unfolding closes-from
 from-inside sheet zero at deep = omega arith
 from-inside sheet (suc left) at zero =
-    three (λ p. p ≤ at + suc left) (side-of (token sheet at) is 1) (side-of (token sheet at) is 2) (closes-from sheet left (at + 1) 1) at (closes-from sheet left (at + 1) 0)
+    three (λ p. p ≤ at + suc left) (side-of (token sheet at) is 1) (side-of (token sheet at) is 2)
+    (closes-from sheet left (at + 1) 1) at (closes-from sheet left (at + 1) 0)
     (omega (arith, from-inside sheet left (at + 1) 1)) (omega arith) (omega (arith, from-inside sheet left (at + 1) 0))
 from-inside sheet (suc left) at (suc deep) =
-    three (λ p. p ≤ at + suc left) (side-of (token sheet at) is 1) (side-of (token sheet at) is 2) (closes-from sheet left (at + 1) (suc (suc deep))) (closes-from sheet left (at + 1) deep) (closes-from sheet left (at + 1) (suc deep))
+    three (λ p. p ≤ at + suc left) (side-of (token sheet at) is 1) (side-of (token sheet at) is 2)
+    (closes-from sheet left (at + 1) (suc (suc deep))) (closes-from sheet left (at + 1) deep) (closes-from sheet left (at + 1) (suc deep))
     (omega (arith, from-inside sheet left (at + 1) (suc (suc deep)))) (omega (arith, from-inside sheet left (at + 1) deep))
     (omega (arith, from-inside sheet left (at + 1) (suc deep)))
 
@@ -95,11 +103,13 @@ from-outward : (sheet : Sheet) (left at deep : ℕ) → closes-from sheet left a
 unfolding closes-from
 from-outward sheet zero at deep = omega arith
 from-outward sheet (suc left) at zero =
-    three-two (λ p q. p ≤ q) (side-of (token sheet at) is 1) (side-of (token sheet at) is 2) (closes-from sheet left (at + 1) 1) at (closes-from sheet left (at + 1) 0)
+    three-two (λ p q. p ≤ q) (side-of (token sheet at) is 1) (side-of (token sheet at) is 2)
+    (closes-from sheet left (at + 1) 1) at (closes-from sheet left (at + 1) 0)
     (closes-from sheet left (at + 1) (suc 1)) (closes-from sheet left (at + 1) 0) (closes-from sheet left (at + 1) 1)
     (from-outward sheet left (at + 1) 1) (omega (arith, from-later sheet left (at + 1) 0)) (from-outward sheet left (at + 1) 0)
 from-outward sheet (suc left) at (suc deep) =
-    three-two (λ p q. p ≤ q) (side-of (token sheet at) is 1) (side-of (token sheet at) is 2) (closes-from sheet left (at + 1) (suc (suc deep))) (closes-from sheet left (at + 1) deep) (closes-from sheet left (at + 1) (suc deep))
+    three-two (λ p q. p ≤ q) (side-of (token sheet at) is 1) (side-of (token sheet at) is 2)
+    (closes-from sheet left (at + 1) (suc (suc deep))) (closes-from sheet left (at + 1) deep) (closes-from sheet left (at + 1) (suc deep))
     (closes-from sheet left (at + 1) (suc (suc (suc deep)))) (closes-from sheet left (at + 1) (suc deep)) (closes-from sheet left (at + 1) (suc (suc deep)))
     (from-outward sheet left (at + 1) (suc (suc deep))) (from-outward sheet left (at + 1) deep) (from-outward sheet left (at + 1) (suc deep))
 
@@ -115,6 +125,11 @@ closing-inside sheet at deep l = omega (arith, from-inside sheet (length (sheet 
 pub closing-outward : (sheet : Sheet) (at deep : ℕ) → closing sheet at deep ≤ closing sheet at (suc deep)
 unfolding closing
 closing-outward sheet at deep = from-outward sheet _ at deep
+
+-- past the end nothing is open
+pub scope-outside : (sheet : Sheet) (at : ℕ) → length (sheet .kinds) ≤ at → scope sheet at ≡ at
+unfolding closing closes-from
+scope-outside sheet at l = let z : length (sheet .kinds) - at ≡ 0 = omega arith in rw z
 
 -- what is balanced changes nothing
 pub forward : {sheet : Sheet} {i j : ℕ} → Balanced sheet i j → i ≤ j
