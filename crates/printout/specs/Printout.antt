@@ -1,0 +1,33 @@
+-- What the box prints for the bytes of a file, any bytes at all, and what it leaves in the buffers that it is lent.
+-- Assumes nothing: these are definitions.
+use Prim.Native.Nat.{ℕ}
+use mathlib.Core.Path.{_≡_}
+use mathlib.Core.List.{List}
+use Rattle.making.specs.Lent.{Given, read-entry}
+use Rattle.making.specs.Post.{sheet-of}
+use Rattle.sheets.specs.Layout.{Sheet}
+use Rattle.text.specs.Text.{text, bad-file}
+use Rattle.text.specs.Post.{Prints}
+use Rattle.text.specs.declared.Printed.{Printed}
+
+-- the text of what an entry gives
+abbrev pub text-of : Given → List ℕ
+text-of given = text (given .answer) (given .rows) (given .records)
+
+-- what the reader gives for the kinds and flags of a sheet's file
+abbrev pub reading-of : {bytes : List ℕ} → Sheet bytes → List ℕ → List ℕ → Given
+reading-of s rows records = read-entry (sheet-of (s .kinds) (s .flags)) rows records
+
+-- which text is printed, and what the buffers of the rows and of the records hold then
+pub data Shows (bytes rows₀ records₀ text rows records : List ℕ) : Type 0 where
+  -- a sheet's file: what the reader gives for it
+  reading : (s : Sheet bytes) → text ≡ text-of (reading-of s rows₀ records₀) → rows ≡ reading-of s rows₀ records₀ .rows → records ≡ reading-of s rows₀ records₀ .records
+      → Shows bytes rows₀ records₀ text rows records
+  -- any other file
+  no-sheet : (Sheet bytes → ⊥) → text ≡ bad-file → rows ≡ rows₀ → records ≡ records₀ → Shows bytes rows₀ records₀ text rows records
+
+-- the text stands in the lent buffer, as far as it has room, and the answer says how long it is
+pub record PrintsFile (bytes rows₀ records₀ out₀ rows records out : List ℕ) (answer : Printed) : Type 0 where
+  pub text : List ℕ
+  pub shows : Shows bytes rows₀ records₀ text rows records
+  pub prints : Prints out₀ text out answer

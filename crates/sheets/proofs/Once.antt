@@ -1,0 +1,58 @@
+-- A file is that of one sheet, what is laid out comes back, and any two results that a contract allows coincide.
+-- Assumes nothing.
+use Prim.Native.Nat.{ℕ, _≤_}
+use mathlib.Core.Path.{_≡_, refl, sym, _∙_}
+use mathlib.Core.Bool.{Bool, true, false}
+use mathlib.Core.List.{List}
+use native.Mathlib.Omega.{arith}
+use lib.ListN.{length}
+use Rattle.rows.specs.Stands.{Decides}
+use Rattle.rows.proofs.Once.{decided-once}
+use Rattle.sheets.specs.Layout.{layout, Sheet}
+use Rattle.sheets.specs.Post.{Handed}
+use Rattle.sheets.proofs.Blocks.{payload-once, rest-once}
+use Rattle.sheets.proofs.Files.{first-block, second-block}
+
+-- a list of bytes is the layout of at most one pair
+pub kinds-once : {bytes : List ℕ} (s t : Sheet bytes) → s .kinds ≡ t .kinds
+kinds-once s t = payload-once (omega arith) (first-block s) (first-block t)
+
+pub flags-once : {bytes : List ℕ} (s t : Sheet bytes) → s .flags ≡ t .flags
+flags-once s t = payload-once {kind = 2} (omega arith) (second-block s refl) (second-block t (rest-once (omega arith) (first-block s) (first-block t)))
+
+-- a part that is handed back is one list
+handed-once : {bytes : List ℕ} (wanted : Sheet bytes → List ℕ) → ((s t : Sheet bytes) → wanted s ≡ wanted t)
+    → {p q : List ℕ} → Handed bytes wanted p → Handed bytes wanted q → p ≡ q
+handed-once wanted one (Handed.own s a) (Handed.own t b) = a ∙ one s t ∙ sym b
+handed-once wanted one (Handed.own s a) (Handed.empty f b) = absurd (f s)
+handed-once wanted one (Handed.empty f a) (Handed.own t b) = absurd (f t)
+handed-once wanted one (Handed.empty f a) (Handed.empty g b) = a ∙ sym b
+
+-- is_sheet
+pub is-sheet-once : {bytes : List ℕ} {a b : Bool} → Decides (Sheet bytes) a → Decides (Sheet bytes) b → a ≡ b
+is-sheet-once = decided-once
+
+-- kinds_of
+pub kinds-of-once : {bytes : List ℕ} {p q : List ℕ} → Handed bytes (λ s. s .kinds) p → Handed bytes (λ s. s .kinds) q → p ≡ q
+kinds-of-once = handed-once (λ s. s .kinds) kinds-once
+
+-- flags_of
+pub flags-of-once : {bytes : List ℕ} {p q : List ℕ} → Handed bytes (λ s. s .flags) p → Handed bytes (λ s. s .flags) q → p ≡ q
+flags-of-once = handed-once (λ s. s .flags) flags-once
+
+-- the layout of kinds and flags, of at most 4,096 each: it is a sheet, and taking the blocks out gives them back
+module _ (kinds flags : List ℕ) (few-kinds : length kinds ≤ 4096) (few-flags : length flags ≤ 4096) where
+  pub laid-out : Sheet (layout kinds flags)
+  laid-out = record { kinds = kinds; flags = flags; text = refl; few-kinds = few-kinds; few-flags = few-flags }
+
+  pub is-sheet-back : {answer : Bool} → Decides (Sheet (layout kinds flags)) answer → answer ≡ true
+  is-sheet-back {answer = true} d = refl
+  is-sheet-back {answer = false} d = absurd (d .fails refl laid-out)
+
+  pub kinds-back : {part : List ℕ} → Handed (layout kinds flags) (λ s. s .kinds) part → part ≡ kinds
+  unfolding laid-out
+  kinds-back h = kinds-of-once h (Handed.own laid-out refl)
+
+  pub flags-back : {part : List ℕ} → Handed (layout kinds flags) (λ s. s .flags) part → part ≡ flags
+  unfolding laid-out
+  flags-back h = flags-of-once h (Handed.own laid-out refl)

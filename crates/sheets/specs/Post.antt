@@ -1,0 +1,33 @@
+-- What the contracts say: which part of a file is handed back, and what a block's head says.
+-- Assumes nothing: these are definitions.
+use Prim.Native.Nat.{ℕ, _+_, _*_, _≤_}
+use mathlib.Core.Path.{_≡_}
+use mathlib.Core.List.{List, [], _++_}
+use lib.ListN.{length, getD, take, drop}
+use Rattle.sheets.specs.Layout.{block, Sheet}
+use Rattle.sheets.specs.declared.Found.{Found}
+
+-- the part of a sheet's file that is wanted; of any other file an empty part
+pub data Handed (bytes : List ℕ) (wanted : Sheet bytes → List ℕ) (part : List ℕ) : Type 0 where
+  own : (s : Sheet bytes) → part ≡ wanted s → Handed bytes wanted part
+  empty : (Sheet bytes → ⊥) → part ≡ [] → Handed bytes wanted part
+
+-- the number that the first four bytes are, the lowest first
+abbrev pub first-u32 : List ℕ → ℕ
+first-u32 bytes = getD bytes 0 0 + 256 * (getD bytes 1 0 + 256 * (getD bytes 2 0 + 256 * getD bytes 3 0))
+
+-- the bytes begin with a block of this kind, whose payload has n bytes
+pub record Begins (bytes : List ℕ) (kind n : ℕ) : Type 0 where
+  pub few : n ≤ 4096
+  pub inside : 6 + n ≤ length bytes
+  pub text : bytes ≡ block kind (take n (drop 6 bytes)) ++ drop (6 + n) bytes
+
+-- the bytes begin with the block of this payload
+pub record Block (bytes : List ℕ) (kind : ℕ) (payload rest : List ℕ) : Type 0 where
+  pub few : length payload ≤ 4096
+  pub text : bytes ≡ block kind payload ++ rest
+
+-- the answer says whether the bytes begin with a block of this kind, and how long its payload is
+pub record Opens (bytes : List ℕ) (kind : ℕ) (answer : Found) : Type 0 where
+  pub found : (n : ℕ) → answer ≡ Found.Bytes n → Begins bytes kind n
+  pub nothing : answer ≡ Found.Nothing → (payload rest : List ℕ) → Block bytes kind payload rest → ⊥

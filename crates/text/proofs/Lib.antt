@@ -1,0 +1,5 @@
+pub mod Decimal
+pub mod Laying
+pub mod Lines
+pub mod Once
+pub mod Examples
