@@ -12,3 +12,8 @@ gcc -std=c11 -O2 -Wall -Wextra -Wpedantic -Werror bindings/c/sheets.c target/sta
 target/sheets_c
 RUSTFLAGS='-D warnings' cargo test --quiet --offline --manifest-path bindings/rust/Cargo.toml --target-dir target/rust
 echo "Rust: all as expected"
+
+# The linked archive gives the answers that other parsers agreed on, and those of the sheets.
+(cd bench/harness && RUSTFLAGS='-D warnings' cargo build --quiet --offline --release --features archive --target-dir ../../target/harness)
+bash tests/judged/replay.sh target/harness/release/answer
+python3 -B tests/sheets.py target/harness/release/answer

@@ -124,12 +124,13 @@ for i in reversed(range(n)):
     rows += [(25, 3 * i + 2, 3 * i + 1, end, 2, size), (4, 3 * i, 3 * i, end + 1, 1, size + 1)]
 whole([OPEN, NAME, EQUALS] * n + [NAME] + [CLOSE] * n, rows, [], n)
 
-if '--input' in sys.argv:
-    for pattern, what, kinds, flags, rows, records, line in SHEETS:
-        head = bytes([int(pattern), what])
-        for number in len(kinds), len(flags), rows, records, 0:
-            head += bytes([number % 256, number // 256])
-        sys.stdout.buffer.write(head + bytes(kinds) + bytes(flags))
-else:
-    for entry in SHEETS:
-        print(entry[-1])
+if __name__ == '__main__':
+    if '--input' in sys.argv:
+        for pattern, what, kinds, flags, rows, records, line in SHEETS:
+            head = bytes([int(pattern), what])
+            for number in len(kinds), len(flags), rows, records, 0:
+                head += bytes([number % 256, number // 256])
+            sys.stdout.buffer.write(head + bytes(kinds) + bytes(flags))
+    else:
+        for entry in SHEETS:
+            print(entry[-1])

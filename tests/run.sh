@@ -1,6 +1,7 @@
 #!/usr/bin/env bash
-# All tests. First those that are not Rattle: a failure stops here. Then the toolchain's gate, which proves every crate from nothing,
-# tries the must-fail edits and runs the programs; its last line is the verdict.
+# All tests. First those that need nothing built: a failure stops here. Then the toolchain's gate, which proves every crate from nothing,
+# tries the must-fail edits and runs the programs; then what is run with the program and the archive that it has built. The last line is the
+# gate's verdict.
 set -euo pipefail
 cd "$(dirname "${BASH_SOURCE[0]}")/.."
 
@@ -17,6 +18,15 @@ made() { # FILE SCRIPT WORDS..
     fi
 }
 
+# A script must succeed.
+passes() { # SCRIPT
+    if ! bash "$1"; then
+        echo "$1 failed"
+        echo "0 passed, 1 failed"
+        exit 1
+    fi
+}
+
 python3 -B tests/names.py
 made crates/tokens_test/stdin tests/tokens.py --input
 made crates/tokens_test/stdout tests/tokens.py
@@ -25,5 +35,16 @@ made crates/lookahead_test/stdin tests/lookahead.py --input
 made crates/lookahead_test/stdout tests/lookahead.py
 made crates/reader_test/stdin tests/reader.py --input
 made crates/reader_test/stdout tests/reader.py
+made crates/sheet/data/p1.sheet tests/sheet_files.py --p1
+made examples/rms.sheet tests/sheet_files.py --example rms
+made examples/sag.sheet tests/sheet_files.py --example sag
+made examples/report.sheet tests/sheet_files.py --example report
+made crates/printout_test/stdin tests/sheet_files.py --input
+made crates/printout_test/stdout tests/sheet_files.py
 
-exec rt ci </dev/null
+log=$(mktemp)
+trap 'rm -f "$log"' EXIT
+rt ci </dev/null | tee "$log"
+passes tests/sheet.sh
+passes tests/archive.sh
+tail -n 1 "$log"

@@ -1,7 +1,7 @@
 // The known classes of disagreement. docs/DIFFERENCES.md has each with its smallest sheet and the clause that decides it.
 'use strict';
-const { byAcorn, CallsAsTargets } = require('./parsers.js');
-const { MENDS } = require('./mended.js');
+const { byAcorn } = require('./parsers.js');
+const { MENDS, CallsAsTargets } = require('./mended.js');
 const { isName, spell } = require('./spell.js');
 
 // The rows as a tree: each has its kind, first and kids.

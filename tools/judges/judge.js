@@ -194,7 +194,7 @@ function tally(it) {
 // All strict judges say what the reader says. TypeScript's parser alone is none: it leaves late checks to its checker.
 function agreed(it) {
   return !it.outside && it.unlike.every((u) => u.judge === 'TypeScript') &&
-    ['acorn', 'babel', 'V8', 'SpiderMonkey'].every((name) => it.verdicts[name] === it.ours.clean);
+    Object.entries(it.verdicts).every(([name, verdict]) => name === 'TypeScript' || verdict === it.ours.clean);
 }
 
 // The batches of a run, as lines.

@@ -39,11 +39,23 @@ const asyncAlone = (Parser) => class extends Parser {
   }
 };
 
+const all = (Parser) => asyncAlone(memberOverInit(partsApart(Parser)));
+
+// With all mends, and a call is a target: a host may put off that error until the sheet runs (13.15.1); V8, SpiderMonkey and TypeScript do.
+const CallsAsTargets = acorn && class extends all(acorn.Parser) {
+  toAssignable(node, ...rest) {
+    return node && node.type === 'CallExpression' ? node : super.toAssignable(node, ...rest);
+  }
+  checkLValSimple(node, ...rest) {
+    return node.type === 'CallExpression' ? undefined : super.checkLValSimple(node, ...rest);
+  }
+};
+
 const MENDS = acorn ? [
   ['acorn: an error of one part of a literal is lost or disturbs another', partsApart(acorn.Parser)],
   ['acorn: {x = 1} under a member or index of a target', memberOverInit(acorn.Parser)],
   ['acorn: async()() => x', asyncAlone(acorn.Parser)],
-  ['acorn: several of its faults at once', asyncAlone(memberOverInit(partsApart(acorn.Parser)))],
+  ['acorn: several of its faults at once', all(acorn.Parser)],
 ] : [];
 
-module.exports = { MENDS };
+module.exports = { MENDS, CallsAsTargets };

@@ -43,6 +43,7 @@ const BABEL = { sourceType: 'script', createParenthesizedExpressions: true, plug
 
 // acorn stops after the expression: it must have come to the end.
 function byAcorn(text, Parser) {
+  if (!acorn) return null;
   return attempt(() => {
     const tree = (Parser || acorn.Parser).parseExpressionAt(text, 0, ACORN);
     return tree.end === text.length ? tree : false;
@@ -82,22 +83,12 @@ const hasSpiderMonkey = (() => {
   }
 })();
 
-// acorn, but a call is a target where a host may put off the error until it runs (13.15.1): V8, SpiderMonkey and TypeScript do.
-const CallsAsTargets = acorn && class extends acorn.Parser {
-  toAssignable(node, ...rest) {
-    return node && node.type === 'CallExpression' ? node : super.toAssignable(node, ...rest);
-  }
-  checkLValSimple(node, ...rest) {
-    return node.type === 'CallExpression' ? undefined : super.checkLValSimple(node, ...rest);
-  }
-};
-
 const versions = {
   acorn: acorn && acorn.version,
-  babel: babel && JSON.parse(fs.readFileSync(require.resolve(babel === load('@babel/parser') ? '/usr/share/nodejs/@babel/parser/package.json' : '@babel/parser/package.json'))).version,
+  babel: babel && load('@babel/parser/package.json').version,
   V8: process.versions.v8,
   TypeScript: typescript && typescript.version,
   SpiderMonkey: hasSpiderMonkey ? '102 (gjs)' : null,
 };
 
-module.exports = { acorn, babel, typescript, hasSpiderMonkey, byAcorn, byBabel, byV8, byTypescript, bySpiderMonkey, CallsAsTargets, versions };
+module.exports = { acorn, babel, typescript, hasSpiderMonkey, byAcorn, byBabel, byV8, byTypescript, bySpiderMonkey, versions };

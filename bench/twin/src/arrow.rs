@@ -36,7 +36,13 @@ fn after_paren(kinds: &[u8], place: usize, ts: bool, is_async: bool) -> Tristate
     let third = at(kinds, place + 1);
     match second {
         kind::R_PAREN => match third {
-            kind::COLON if ts => if is_async { Maybe } else { True },
+            kind::COLON if ts => {
+                if is_async {
+                    Maybe
+                } else {
+                    True
+                }
+            }
             kind::ARROW | kind::L_CURLY => True,
             _ => False,
         },
@@ -47,7 +53,11 @@ fn after_paren(kinds: &[u8], place: usize, ts: bool, is_async: bool) -> Tristate
             _ => Maybe,
         },
         _ if is_modifier(second) && second != kind::ASYNC && is_binding_identifier(third) => {
-            if third == kind::AS { False } else { True }
+            if third == kind::AS {
+                False
+            } else {
+                True
+            }
         }
         _ if is_binding_identifier(second) || second == kind::THIS => match third {
             kind::COLON => True,

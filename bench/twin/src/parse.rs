@@ -33,18 +33,7 @@ struct Reader<'a> {
 
 /// The whole list, then end; then record 8 for each ShorthandInit that is left, in row order.
 pub fn whole(entry: Entry, kinds: &[u8], flags: &[u8], rows: &mut [Row], records: &mut [u32]) -> Answer {
-    let mut reader = Reader {
-        kinds,
-        flags,
-        rows,
-        records,
-        at: 0,
-        row_count: 0,
-        record_count: 0,
-        notes: [0; MAX_TOKENS / 64],
-        abandoned: 0,
-        has_init: false,
-    };
+    let mut reader = Reader { kinds, flags, rows, records, at: 0, row_count: 0, record_count: 0, notes: [0; MAX_TOKENS / 64], abandoned: 0, has_init: false };
     match entry {
         Entry::Expression => reader.expression()?,
         Entry::Binding => reader.binding_element()?,
@@ -175,11 +164,7 @@ impl Reader<'_> {
     /// The assignment level where no parenthesized head stands.
     fn no_head(&mut self) -> Done {
         let (first, from) = (self.at, self.row_count);
-        if self.kind() == kind::ASYNC
-            && self.kind_at(first + 2) == kind::ARROW
-            && is_name(self.kind_at(first + 1))
-            && !self.has_break(first + 1)
-        {
+        if self.kind() == kind::ASYNC && self.kind_at(first + 2) == kind::ARROW && is_name(self.kind_at(first + 1)) && !self.has_break(first + 1) {
             self.at += 1;
             self.leaf(BINDING_NAME);
             return self.simple_arrow(ASYNC_ARROW, first, from);

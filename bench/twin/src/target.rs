@@ -47,8 +47,7 @@ fn judge_parts(rows: &[Row], at: usize) -> Count {
         let one = match rows[kid][KIND] {
             HOLE | SHORTHAND | SHORTHAND_INIT => Ok(0),
             SPREAD if after > 0 => Err(Cause::new(Refusal::SpreadNotLast, rows[kid][FIRST])),
-            SPREAD => judge(rows, kid - 1, Want::Any)
-                .map(|n| n + wrong_rest(rows, at, kid - 1) as usize + has_comma(rows[at][KIND]) as usize),
+            SPREAD => judge(rows, kid - 1, Want::Any).map(|n| n + wrong_rest(rows, at, kid - 1) as usize + has_comma(rows[at][KIND]) as usize),
             PROPERTY => judge(rows, kid - 1, Want::Element),
             _ => judge(rows, kid, Want::Element),
         };

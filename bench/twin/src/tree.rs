@@ -42,10 +42,21 @@ const NAME: Set = set(&[IDENTIFIER]);
 fn counts(kind: u32) -> Option<(u32, u32)> {
     Some(match kind {
         IDENTIFIER | THIS | LITERAL | HOLE | KEY | BINDING_NAME | TARGET_NAME => (0, 0),
-        PAREN | SPREAD | SHORTHAND | COMPUTED_KEY | MEMBER | UNARY | PREFIX_UPDATE | POSTFIX_UPDATE | BINDING_REST | BINDING_SHORTHAND
-        | TARGET_PAREN | TARGET_REST | TARGET_MEMBER | TARGET_SHORTHAND => (1, 1),
-        SHORTHAND_INIT | PROPERTY | INDEX | BINARY | LOGICAL | ASSIGN | COMPOUND_ASSIGN | BINDING_DEFAULT | BINDING_SHORTHAND_INIT
-        | TARGET_DEFAULT | TARGET_INDEX | TARGET_PROPERTY | TARGET_SHORTHAND_INIT => (2, 2),
+        PAREN | SPREAD | SHORTHAND | COMPUTED_KEY | MEMBER | UNARY | PREFIX_UPDATE | POSTFIX_UPDATE | BINDING_REST | BINDING_SHORTHAND | TARGET_PAREN
+        | TARGET_REST | TARGET_MEMBER | TARGET_SHORTHAND => (1, 1),
+        SHORTHAND_INIT
+        | PROPERTY
+        | INDEX
+        | BINARY
+        | LOGICAL
+        | ASSIGN
+        | COMPOUND_ASSIGN
+        | BINDING_DEFAULT
+        | BINDING_SHORTHAND_INIT
+        | TARGET_DEFAULT
+        | TARGET_INDEX
+        | TARGET_PROPERTY
+        | TARGET_SHORTHAND_INIT => (2, 2),
         CONDITIONAL => (3, 3),
         ARRAY_REST_COMMA | OBJECT_REST_COMMA | CALL | ARROW | ASYNC_ARROW => (1, u32::MAX),
         SEQUENCE => (2, u32::MAX),
@@ -54,45 +65,69 @@ fn counts(kind: u32) -> Option<(u32, u32)> {
     })
 }
 
+/// The first kid's kinds, or those of the kids after it.
+fn first_then(before: u32, first: Set, then: Set) -> Set {
+    if before == 0 { first } else { then }
+}
+
 /// The kinds that may stand as a kid with `before` kids before it and `after` after it.
 fn allowed(kind: u32, before: u32, after: u32) -> Set {
-    let rest_if = |here: bool, rest: u32| if here { set(&[rest]) } else { 0 };
     match kind {
-        PAREN => EXPRESSION,
-        ARRAY => ASSIGNMENT | set(&[HOLE, SPREAD]),
-        ARRAY_REST_COMMA if after == 0 => set(&[SPREAD]),
-        ARRAY_REST_COMMA => ASSIGNMENT | set(&[HOLE, SPREAD]),
-        OBJECT_REST_COMMA if after == 0 => set(&[SPREAD]),
+        BINDING_NAME..=BINDING_SHORTHAND_INIT => allowed_in_binding(kind, before, after),
+        TARGET_NAME..=TARGET_SHORTHAND_INIT => allowed_in_target(kind, before, after),
+        ARROW | ASYNC_ARROW if after == 0 => ASSIGNMENT & !set(&[OBJECT, OBJECT_REST_COMMA]),
+        ARROW | ASYNC_ARROW if after == 1 => ELEMENT | set(&[BINDING_REST]),
+        ARROW | ASYNC_ARROW => ELEMENT,
+        ARRAY_REST_COMMA | OBJECT_REST_COMMA if after == 0 => set(&[SPREAD]),
+        ARRAY | ARRAY_REST_COMMA => ASSIGNMENT | set(&[HOLE, SPREAD]),
         OBJECT | OBJECT_REST_COMMA => range(SPREAD, PROPERTY),
-        SPREAD | COMPUTED_KEY => ASSIGNMENT,
+        PAREN => EXPRESSION,
+        SPREAD | COMPUTED_KEY | SEQUENCE => ASSIGNMENT,
         SHORTHAND => NAME,
-        SHORTHAND_INIT => if before == 0 { NAME } else { ASSIGNMENT },
-        PROPERTY => if before == 0 { KEYS } else { ASSIGNMENT | ELEMENT },
-        MEMBER | TARGET_MEMBER => LEFT_HAND_SIDE,
-        INDEX | TARGET_INDEX => if before == 0 { LEFT_HAND_SIDE } else { EXPRESSION },
-        CALL => if before == 0 { LEFT_HAND_SIDE } else { ASSIGNMENT | set(&[SPREAD]) },
+        SHORTHAND_INIT => first_then(before, NAME, ASSIGNMENT),
+        PROPERTY => first_then(before, KEYS, ASSIGNMENT | ELEMENT),
+        MEMBER => LEFT_HAND_SIDE,
+        INDEX => first_then(before, LEFT_HAND_SIDE, EXPRESSION),
+        CALL => first_then(before, LEFT_HAND_SIDE, ASSIGNMENT | set(&[SPREAD])),
         UNARY => UNARY_LEVEL,
-        PREFIX_UPDATE | POSTFIX_UPDATE | TARGET_PAREN => SIMPLE,
+        PREFIX_UPDATE | POSTFIX_UPDATE => SIMPLE,
         BINARY => BINARY_LEVEL,
         LOGICAL => SHORT_CIRCUIT,
-        CONDITIONAL => if before == 0 { SHORT_CIRCUIT } else { ASSIGNMENT },
-        ASSIGN | TARGET_DEFAULT => if before == 0 { TARGET } else { ASSIGNMENT },
-        COMPOUND_ASSIGN => if before == 0 { SIMPLE } else { ASSIGNMENT },
-        SEQUENCE => ASSIGNMENT,
-        ARROW | ASYNC_ARROW if after == 0 => ASSIGNMENT & !set(&[OBJECT, OBJECT_REST_COMMA]),
-        ARROW | ASYNC_ARROW => ELEMENT | rest_if(after == 1, BINDING_REST),
-        BINDING_ARRAY => ELEMENT | set(&[HOLE]) | rest_if(after == 0, BINDING_REST),
-        BINDING_OBJECT => set(&[BINDING_SHORTHAND, BINDING_SHORTHAND_INIT, PROPERTY]) | rest_if(after == 0, BINDING_REST),
+        CONDITIONAL => first_then(before, SHORT_CIRCUIT, ASSIGNMENT),
+        ASSIGN => first_then(before, TARGET, ASSIGNMENT),
+        COMPOUND_ASSIGN => first_then(before, SIMPLE, ASSIGNMENT),
+        _ => 0,
+    }
+}
+
+/// The same for the rows of bindings.
+fn allowed_in_binding(kind: u32, before: u32, after: u32) -> Set {
+    let rest = if after == 0 { set(&[BINDING_REST]) } else { 0 };
+    match kind {
+        BINDING_ARRAY => ELEMENT | set(&[HOLE]) | rest,
+        BINDING_OBJECT => set(&[BINDING_SHORTHAND, BINDING_SHORTHAND_INIT, PROPERTY]) | rest,
         BINDING_REST => ELEMENT,
-        BINDING_DEFAULT => if before == 0 { BINDING } else { ASSIGNMENT },
+        BINDING_DEFAULT => first_then(before, BINDING, ASSIGNMENT),
         BINDING_SHORTHAND => set(&[BINDING_NAME]),
-        BINDING_SHORTHAND_INIT => if before == 0 { set(&[BINDING_NAME]) } else { ASSIGNMENT },
-        TARGET_ARRAY => TARGET | set(&[HOLE, TARGET_DEFAULT]) | rest_if(after == 0, TARGET_REST),
-        TARGET_OBJECT => range(TARGET_PROPERTY, TARGET_SHORTHAND_INIT) | rest_if(after == 0, TARGET_REST),
+        BINDING_SHORTHAND_INIT => first_then(before, set(&[BINDING_NAME]), ASSIGNMENT),
+        _ => 0,
+    }
+}
+
+/// The same for the rows of targets.
+fn allowed_in_target(kind: u32, before: u32, after: u32) -> Set {
+    let rest = if after == 0 { set(&[TARGET_REST]) } else { 0 };
+    match kind {
+        TARGET_PAREN => SIMPLE,
+        TARGET_ARRAY => TARGET | set(&[HOLE, TARGET_DEFAULT]) | rest,
+        TARGET_OBJECT => range(TARGET_PROPERTY, TARGET_SHORTHAND_INIT) | rest,
         TARGET_REST => TARGET,
-        TARGET_PROPERTY => if before == 0 { KEYS } else { TARGET | set(&[TARGET_DEFAULT]) },
+        TARGET_DEFAULT => first_then(before, TARGET, ASSIGNMENT),
+        TARGET_MEMBER => LEFT_HAND_SIDE,
+        TARGET_INDEX => first_then(before, LEFT_HAND_SIDE, EXPRESSION),
+        TARGET_PROPERTY => first_then(before, KEYS, TARGET | set(&[TARGET_DEFAULT])),
         TARGET_SHORTHAND => set(&[TARGET_NAME]),
-        TARGET_SHORTHAND_INIT => if before == 0 { set(&[TARGET_NAME]) } else { ASSIGNMENT },
+        TARGET_SHORTHAND_INIT => first_then(before, set(&[TARGET_NAME]), ASSIGNMENT),
         _ => 0,
     }
 }

@@ -35,6 +35,7 @@ pub enum Outcome {
 type Got<T> = Result<T, Outcome>;
 
 /// Tokens by their spelling in document 01.
+#[rustfmt::skip]
 const SPELLED: [(&str, u8); 24] = [
     ("async", 2), ("this", 7), ("(", 18), (")", 19), ("[", 20), ("]", 21), ("{", 22), ("}", 23), (",", 24), (":", 25), ("?", 26),
     (".", 27), ("...", 28), ("=>", 29), ("++", 36), ("--", 37), ("??", 38), ("||", 39), ("&&", 40), ("**", 62), ("=", 63), ("+", 57),
@@ -69,6 +70,7 @@ fn is_word(kind: u8) -> bool {
 }
 
 /// The operators of each tier, from the loosest (13.13) to the tightest but `**` (13.7).
+#[rustfmt::skip]
 const TIERS: [&[u8]; 11] = [
     &[38], &[39], &[40], &[41], &[42], &[43], &[44, 45, 46, 47], &[48, 49, 50, 51, 52, 53], &[54, 55, 56], &[57, 58], &[59, 60, 61],
 ];
@@ -376,7 +378,16 @@ impl Plain<'_> {
         let kind = self.peek(0);
         if is_name(kind) || (7..=13).contains(&kind) {
             self.at += 1;
-            return Ok(leaf(if is_name(kind) { 1 } else if kind == k("this") { 2 } else { 3 }, first));
+            return Ok(leaf(
+                if is_name(kind) {
+                    1
+                } else if kind == k("this") {
+                    2
+                } else {
+                    3
+                },
+                first,
+            ));
         }
         let mut kids = Vec::new();
         if self.eat(k("(")) {

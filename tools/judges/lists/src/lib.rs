@@ -63,11 +63,7 @@ pub fn small(length: usize, each: &mut impl FnMut(&List)) {
 }
 
 /// The alphabets of the bracket-matched lists: arrows and patterns; operators.
-pub const ALPHABETS: [&[u8]; 3] = [
-    &[1, 2, 12, 24, 25, 28, 29, 63],
-    &[1, 12, 24, 25, 26, 27, 36, 38, 39, 58, 62, 64],
-    &[1, 2, 5, 24, 26, 28, 29, 48],
-];
+pub const ALPHABETS: [&[u8]; 3] = [&[1, 2, 12, 24, 25, 28, 29, 63], &[1, 12, 24, 25, 26, 27, 36, 38, 39, 58, 62, 64], &[1, 2, 5, 24, 26, 28, 29, 48]];
 
 /// All lists of a length over an alphabet and the three sorts of brackets, matched.
 pub fn matched(length: usize, alphabet: &[u8], each: &mut impl FnMut(&List)) {

@@ -421,7 +421,11 @@ impl Maker<'_> {
             return self.rest(size, side, open == 22);
         }
         if open == 20 {
-            if self.random.once_in(6) { self.put(24) } else { self.element(size, side) }
+            if self.random.once_in(6) {
+                self.put(24)
+            } else {
+                self.element(size, side)
+            }
             return;
         }
         match self.random.below(3) {
