@@ -1,8 +1,8 @@
 -- Demand 2 in the standard's own terms, of the entries. Past the checks 1 to 7: where an entry answers Read with no record, ECMA-262 derives the whole list, and the rows
 -- are those of its tree. In a list without the early commit, what ECMA-262 derives an entry answers so, with those rows.
 -- The statements: `clean-reading`, `clean-pattern`; of the entries `read-is-derived`, `derived-is-read`, `pattern-is-derived`, `derived-is-pattern`. Assumes nothing.
-use Prim.Native.Nat.{ℕ, zero, suc}
-use mathlib.Core.Path.{_≡_, refl, sym, ap, _∙_}
+use Prim.Native.Nat.{ℕ}
+use mathlib.Core.Path.{_≡_, refl, ap, _∙_}
 use mathlib.Core.Logic.{_↔_}
 use mathlib.Core.List.{List, [], _∷_}
 use native.Mathlib.Omega.{arith}
@@ -13,12 +13,12 @@ use Rattle.tokens.specs.declared.check.Checked.{Checked}
 use Rattle.rows.specs.Tree.{Tree, Forest, one}
 use Rattle.rows.specs.Record.{Record}
 use Rattle.grammar.specs.Sheet.{Sheet}
-use Rattle.grammar.specs.Job.{Job, expression, binding-element}
-use Rattle.grammar.specs.Reading.{Whole, whole, reading, box, plain, cleared, box-reading, plain-reading, box-pattern, plain-pattern}
-use Rattle.making.specs.Lent.{Given, checks, entry, read-entry, pattern-entry}
+use Rattle.grammar.specs.Job.{expression, binding-element}
+use Rattle.grammar.specs.Reading.{Whole, whole, plain, box-reading, box-pattern}
+use Rattle.making.specs.Lent.{Given, checks, read-entry, pattern-entry}
 use Rattle.agreement.specs.Terms.{ReadAs, NoEarly}
 use Rattle.agreement.specs.Agreement.{agreement, pattern-agreement}
-use Rattle.agreement.specs.Answers.{Shows, ShowsPlain, entry-read, read-agrees, pattern-agrees}
+use Rattle.agreement.specs.Answers.{Shows, entry-read, read-agrees, pattern-agrees}
 use Rattle.standard.specs.Derives.{Nonterminal, Expression, BindingElement, Derived}
 use Rattle.standard.specs.Clean.{Standard, clean-expression, clean-binding}
 use Rattle.standard.specs.Unambiguous.{clean-is-derived, clean-is-bound}

@@ -1,21 +1,21 @@
 -- Brackets: whatever is derived has its brackets in pairs, and a bracket has one partner. So an expression that begins at `(` or Async and is not followed by `=>`
 -- leaves no room for an arrow function's head there.
 -- Assumes nothing.
-use Prim.Native.Nat.{ℕ, zero, suc, _+_, _≤_, _<_}
+use Prim.Native.Nat.{ℕ, zero, suc, _+_, _≤_}
 use mathlib.Core.Path.{_≡_, refl, sym, ap, _∙_, subst}
 use mathlib.Core.Bool.{Bool, true, false}
 use native.Mathlib.Omega.{arith}
 use native.Mathlib.Decide.{ℕ-discrete}
-use lib.Dec.{eqb, leb}
-use borrow.Author.Tests.{eqb-true, ne-eqb, eq-eqb, le-leb}
-use Rattle.tokens.specs.Bool.{_is_, _or_, if_then_else_, between}
-use Rattle.tokens.specs.Kind.{Async, LParen, RParen, LBrack, RBrack, LCurly, RCurly, Dot, Arrow}
+use lib.Dec.{leb}
+use borrow.Author.Tests.{ne-eqb, eq-eqb, le-leb}
+use Rattle.tokens.specs.Bool.{_is_, if_then_else_}
+use Rattle.tokens.specs.Kind.{Async, LParen, RParen, LBrack, RBrack, LCurly, RCurly, Arrow}
 use Rattle.tokens.specs.Token.{is-name, is-word, is-literal}
 use Rattle.operators.specs.Precedence.{level, expression-level}
 use Rattle.rows.specs.Tree.{Forest}
 use Rattle.grammar.specs.Sheet.{Sheet, token}
 use Rattle.standard.specs.Derives as D
-use Rattle.standard.specs.Derives.{Tok, Of, SameLine, Operator, is-key, is-prefix, is-update, is-compound, Chain, Nonterminal, PrimaryExpression, ArrayLiteral, ObjectLiteral, ChainExpression, Arguments, LeftHandSideExpression, UpdateExpression, UnaryExpression, TierExpression, CoalesceExpression, ShortCircuitExpression, SimpleTarget, AssignmentPattern, DestructuringAssignmentTarget, ArrowFormalParameters, Width, Derives}
+use Rattle.standard.specs.Derives.{Tok, Of, Operator, is-key, is-prefix, is-update, is-compound, Chain, Nonterminal, PrimaryExpression, ChainExpression, Arguments, UpdateExpression, UnaryExpression, TierExpression, CoalesceExpression, ShortCircuitExpression, SimpleTarget, AssignmentPattern, DestructuringAssignmentTarget, ArrowFormalParameters, Width, Derives}
 use Rattle.standard.specs.Roots.{not-both}
 use Rattle.standard.specs.Sound.{Head, plain-head, async-head}
 

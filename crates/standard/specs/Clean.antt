@@ -10,17 +10,15 @@ use Rattle.tokens.specs.Bool.{_is_, if_then_else_}
 use Rattle.rows.specs.Tree.{Tree, Forest, node, nil, cons, one}
 use Rattle.rows.specs.Row as Row
 use Rattle.rows.specs.Record.{Record, shorthand-initializer}
-use Rattle.grammar.specs.Sheet.{Sheet, done, first-tree}
-use Rattle.grammar.specs.Job.{Job, expression, binding-element}
+use Rattle.grammar.specs.Sheet.{Sheet, first-tree}
+use Rattle.grammar.specs.Job.{expression, binding-element}
 use Rattle.grammar.specs.Arrow.{Policy}
-use Rattle.grammar.specs.Step.{read}
 use Rattle.grammar.specs.Step.{plenty}
 use Rattle.grammar.specs.Reading.{unconverted, unconverteds, whole, reading}
-use Rattle.laws.specs.Good.{Came, came}
+use Rattle.laws.specs.Good.{came}
 use Rattle.standard.specs.Derives as D
-use Rattle.standard.specs.Derives.{Nonterminal, Expression, Binding, BindingPattern, BindingElement, Width, standard, wider, Derives, covers-nothing, cover-nothing, Derived}
+use Rattle.standard.specs.Derives.{Nonterminal, Expression, BindingPattern, BindingElement, Width, standard, Derives, covers-nothing, cover-nothing, Derived}
 use Rattle.standard.specs.Roots.{root-expression}
-use Rattle.standard.specs.Means.{Fits, none-fit}
 use Rattle.standard.specs.Sound.{sound}
 
 -- two lists that are nothing together are nothing each

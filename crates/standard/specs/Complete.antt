@@ -1,38 +1,36 @@
 -- COMPLETE: what ECMA-262 derives the plain reader reads, with the same tree and no record, where nothing follows that would belong to it.
 -- What is shown of each nonterminal is `Done`; the statements stand at the end.
 -- Assumes nothing.
-use Prim.Native.Nat.{ℕ, zero, suc, _+_, _≤_, _<_}
+use Prim.Native.Nat.{ℕ, _+_, _≤_}
 use mathlib.Core.Path.{_≡_, refl, sym, ap, _∙_, subst}
-use mathlib.Core.Bool.{Bool, true, false, not}
-use mathlib.Core.List.{List, [], _∷_, _++_}
+use mathlib.Core.Bool.{Bool, true, false}
+use mathlib.Core.List.{List, [], _++_}
 use native.Mathlib.Omega.{arith}
-use lib.Dec.{eqb, leb}
-use lib.ListN.{length, getD, List·getD-eq-default}
+use lib.Dec.{leb}
+use lib.ListN.{length, List·getD-eq-default}
 use borrow.Author.Tests.{eqb-true, ne-eqb, eq-eqb, lt-leb, leb-true}
-use Rattle.tokens.specs.Bool.{_is_, _or_, _and_, if_then_else_, between}
-use Rattle.tokens.specs.Kind.{This, LParen, RParen, LBrack, RBrack, LCurly, RCurly, Comma, Colon, Dot3, Arrow, Eq}
-use Rattle.tokens.specs.Token.{is-name, is-word, is-literal}
-use Rattle.rows.specs.Tree.{Tree, Forest, node, nil, cons, one, join, kind-of, mark-of, kids-of}
+use Rattle.tokens.specs.Bool.{_is_, _or_, if_then_else_}
+use Rattle.tokens.specs.Kind.{This, RParen, LBrack, RBrack, LCurly, Comma, Dot3, Arrow, Eq}
+use Rattle.tokens.specs.Token.{is-name, is-literal}
+use Rattle.rows.specs.Tree.{Tree, Forest, node, one, join, kind-of, kids-of}
 use Rattle.rows.specs.Row as Row
 use Rattle.rows.specs.Record.{Record}
-use Rattle.targets.specs.Conversion.{turned, convert-as}
-use Rattle.grammar.specs.Sheet.{Sheet, token, break-before, done, first-tree, leaf}
+use Rattle.grammar.specs.Sheet.{Sheet, token, first-tree, leaf}
 use Rattle.grammar.specs.Job as J
-use Rattle.grammar.specs.Job.{Job}
 use Rattle.grammar.specs.Update.{is-unary-operator, is-update-operator}
 use Rattle.grammar.specs.Binary.{is-or-and}
 use Rattle.grammar.specs.Step.{plenty}
 use Rattle.laws.specs.Settles.{in-plenty}
-use Rattle.grammar.specs.Reading.{plain, unconverted, unconverteds, whole, reading}
+use Rattle.grammar.specs.Reading.{plain, unconverteds, whole, reading}
 use Rattle.laws.specs.Bounds.{bounded}
 use Rattle.laws.specs.Good.{inside, whole-from, and-left, and-right}
 use Rattle.standard.specs.Derives as D
-use Rattle.standard.specs.Derives.{Tok, Of, SameLine, is-prefix, is-update, is-compound, Chain, Nonterminal, ListOf, Elided, Elision, PrimaryExpression, ChainExpression, LeftHandSideExpression, UpdateExpression, UnaryExpression, TierExpression, ConditionalExpression, SimpleTarget, Expression, Binding, BindingPattern, BindingElement, array-row, object-row, tier-row, Width, standard, wider, Derives, Derived}
+use Rattle.standard.specs.Derives.{Tok, Of, SameLine, is-update, is-compound, Chain, Nonterminal, ListOf, Elided, Elision, PrimaryExpression, ChainExpression, LeftHandSideExpression, UpdateExpression, UnaryExpression, TierExpression, ConditionalExpression, SimpleTarget, Expression, Binding, BindingPattern, BindingElement, array-row, object-row, tier-row, Width, standard, wider, Derives, Derived}
 use Rattle.standard.specs.Roots.{not-both, root-primary, root-update, root-unary, root-short-circuit, root-assignment, Each, each-one, each-more, Past, past}
 use Rattle.standard.specs.Convert.{as-simple-target}
 use Rattle.standard.specs.Clean.{says-nothing}
 use Rattle.standard.specs.Brackets.{Opening, Ends, kind-ends, test-ends, short-circuit-opening, simple-opening, target-opening}
-use Rattle.standard.specs.Follow.{is-closer, Closed, test-not, closed-ends, Operand, Start, as-start, operand-chain, operand-simple, operand-target, start-of-assignment, second-short-circuit, second-target, second-simple}
+use Rattle.standard.specs.Follow.{is-closer, Closed, test-not, closed-ends, Operand, as-start, operand-chain, operand-simple, operand-target, start-of-assignment, second-short-circuit, second-target, second-simple}
 use Rattle.standard.specs.Rules as R
 use Rattle.standard.specs.Rules.{Reads}
 use Rattle.standard.specs.Parts.{ItemDone, PartDone, closed-paren, closed-bracket, array-empty-reads, array-list-reads, array-comma-reads, object-empty-reads, object-list-reads, object-comma-reads, ArgumentsDone, no-arguments-done, arguments-done, arguments-comma-done, ElementBound, RestBound, PropertyBound, RestPropertyBound, bound-array-empty, bound-array-rest, bound-array-list, bound-array-comma, bound-array-list-rest, bound-object-empty, bound-object-rest, bound-object-list, bound-object-comma, bound-object-list-rest, ParametersDone, no-parameters-done, rest-parameter-done, parameters-done, parameters-comma-done, parameters-rest-done, operand-small, not-prefix, not-update, update-unlinked, ChainDone, LeftDone, UnaryDone, primary-chain, member-chain, index-chain, call-chain, chain-left, left-unary, prefix-unary, TierDone, CoalesceDone, ShortDone, unary-tier, tier-down, operation-tier, power-tier, tier-head, coalesce-done, tier-short, coalesce-short, ValueDone, AssignmentDone, BodyDone, ExpressionDone, CommasDone, ParametersRead, FormalDone, closed-eq, short-value, conditional-value, past-value, arrow-done, name-read, parameters-read, async-parameters-read, async-name-read, first-commas, next-commas, sequence-done, no-comma-done, KeyDone, literal-key, computed-key, shorthand-part, cover-part, pair-part, spread-part, bound-shorthand, bound-shorthand-default, bound-pair}

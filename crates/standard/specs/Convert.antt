@@ -1,26 +1,27 @@
 -- What conversion makes of a derived expression is derived as a target: the refined grammar of 13.15.5 and 8.6.4 holds of all that converts. In the standard's
 -- grammar where conversion gives no record, in the wider one with any.
 -- Assumes nothing.
-use Prim.Native.Nat.{ℕ, zero, suc, _+_, _≤_, _<_}
+use Prim.Native.Nat.{ℕ, zero, suc, _+_}
 use mathlib.Core.Path.{_≡_, refl, sym, ap, _∙_, subst}
 use mathlib.Core.Bool.{Bool, true, false, not}
 use mathlib.Core.List.{List, [], _∷_, _++_}
 use native.Mathlib.Omega.{arith}
 use lib.Dec.{eqb, leb}
-use borrow.Author.Tests.{eqb-true, ne-eqb, eq-eqb}
-use Rattle.tokens.specs.Bool.{_is_, _or_, _and_, if_then_else_, between}
-use Rattle.tokens.specs.Kind.{LParen, RParen, LBrack, RBrack, LCurly, RCurly, Comma, Colon, Dot3, Eq}
-use Rattle.tokens.specs.Token.{is-name}
+use borrow.Author.Tests.{ne-eqb}
+use Rattle.tokens.specs.Bool.{_is_, _or_, _and_, if_then_else_}
+use Rattle.tokens.specs.Kind.{LParen, RParen, LBrack, RBrack, LCurly, RCurly, Comma, Colon, Dot, Dot3, Eq}
+use Rattle.tokens.specs.Token.{is-name, is-word}
+use Rattle.tokens.specs.declared.cause.Cause.{Cause}
 use Rattle.rows.specs.Tree.{Tree, Forest, node, nil, cons, one, join, count, kind-of, first-of}
 use Rattle.rows.specs.Row as Row
 use Rattle.rows.specs.Record.{Record, rest-comma, rest-argument, compound-default}
 use Rattle.rows.proofs.Rows.{count-join, join-nil, join-assoc}
 use Rattle.targets.specs.Conversion as C
-use Rattle.targets.specs.Conversion.{Role, any, simple, element, last-element, property, last-property, value, name, same, Outcome, turned, refused, Change, turn, keep, only, seen, as-simple, as-any, as-value, as-element, as-last-element, as-property, as-last-property, as-name, change, roles, over, both, last-of, last-or, is-array-or-object, inner-kind, inner-kinds, is-reference, array-argument, object-argument, convert-as, convert-kids}
-use Rattle.targets.specs.KidRoles.{elements, properties, key-and-value, name-and-initializer}
-use Rattle.grammar.specs.Sheet.{Sheet, token, leaf, first-tree}
+use Rattle.targets.specs.Conversion.{Role, any, simple, element, last-element, property, last-property, value, name, same, Outcome, turned, refused, Change, turn, only, seen, as-simple, as-any, as-value, as-element, as-last-element, as-property, as-last-property, as-name, change, roles, over, both, last-of, is-array-or-object, inner-kind, array-argument, object-argument, convert-as, convert-kids}
+use Rattle.targets.specs.KidRoles.{elements, properties, key-and-value}
+use Rattle.grammar.specs.Sheet.{Sheet, leaf, first-tree}
 use Rattle.standard.specs.Derives as D
-use Rattle.standard.specs.Derives.{Tok, Of, Chain, Nonterminal, ListOf, Elided, Elision, PrimaryExpression, ArrayLiteral, SpreadElement, Element, ElementList, ObjectLiteral, PropertyDefinition, PropertyDefinitionList, PropertyName, ChainExpression, LeftHandSideExpression, UpdateExpression, UnaryExpression, TierExpression, CoalesceExpression, ShortCircuitExpression, ConditionalExpression, AssignmentExpression, SimpleTarget, AssignmentPattern, DestructuringAssignmentTarget, AssignmentElement, AssignmentRestElement, AssignmentProperty, AssignmentRestProperty, AssignmentElementList, AssignmentPropertyList, Expression, ends-in-spread, array-row, object-row, tier-row, Width, standard, wider, Derives}
+use Rattle.standard.specs.Derives.{Tok, Of, Chain, Nonterminal, ListOf, Elided, Elision, PrimaryExpression, ArrayLiteral, SpreadElement, Element, ObjectLiteral, PropertyDefinition, PropertyName, ChainExpression, LeftHandSideExpression, UpdateExpression, UnaryExpression, TierExpression, CoalesceExpression, ShortCircuitExpression, ConditionalExpression, AssignmentExpression, SimpleTarget, AssignmentPattern, DestructuringAssignmentTarget, AssignmentElement, AssignmentRestElement, AssignmentProperty, AssignmentRestProperty, AssignmentElementList, AssignmentPropertyList, Expression, ends-in-spread, array-row, object-row, tier-row, Width, Derives}
 use Rattle.standard.specs.Roots.{Root, not-both, root-assignment, root-expression, spread-last, Each, each-one, each-more, Past, past}
 use Rattle.standard.specs.Means.{Fits, must-be-wider, fits-left, fits-right}
 
@@ -617,7 +618,7 @@ module _ {w : Width} {s : Sheet} where
   unfolding simple-kind convert-as change as-simple seen over
   index-turns {i = i} {q = q} {ts} {us} d o e c = simple-turns Row.Index i i (q + 1) (join ts us) refl (λ u records x f. rw (kept x .is-row) (D.target-index d o e c))
 
-  member-turns : {c : Chain} {i p : ℕ} {ts : Forest} → Derives w s (ChainExpression c) i p ts → Tok s p Rattle.tokens.specs.Kind.Dot → Of Rattle.tokens.specs.Token.is-word s (p + 1)
+  member-turns : {c : Chain} {i p : ℕ} {ts : Forest} → Derives w s (ChainExpression c) i p ts → Tok s p Dot → Of is-word s (p + 1)
       → Turns w s i (p + 2) (one (node Row.Member (p + 1) i (p + 2) ts))
   unfolding simple-kind convert-as change as-simple seen over
   member-turns {i = i} {p} {ts} d o e = simple-turns Row.Member (p + 1) i (p + 2) ts refl (λ u records x f. rw (kept x .is-row) (D.target-member d o e))
@@ -629,7 +630,7 @@ module _ {w : Width} {s : Sheet} where
       simple-turns Row.Paren i i (p + 1) ts refl (λ u records e f. go (eqb (count ts) 1 and not (is-array-or-object (kind-of (last-of ts)))) u records e f)
     where
       either : Bool → Change
-      either b = if b then turn Row.TargetParen [] (only simple) [] else C.refuse (Rattle.tokens.specs.declared.cause.Cause.Cause.Target i)
+      either b = if b then turn Row.TargetParen [] (only simple) [] else C.refuse (Cause.Target i)
 
       go : (b : Bool) (u : Tree) (records : List Record) → over (either b) (node Row.Paren i i (p + 1) ts) (convert-kids ts (roles (either b))) ≡ turned u records → Fits w records
           → Derives w s SimpleTarget i (p + 1) (one u)
@@ -690,7 +691,7 @@ module _ {w : Width} {s : Sheet} where
   spread-element-turns {i} {j} {ts} t r h = record { tree = node Row.Spread i i j ts; is-one = refl; in-middle = λ u records e f. never e; at-end = λ comma u records e f. go comma (eqb (count ts) 1) u records e f }
     where
       either : List Record → Bool → Change
-      either comma b = if b then turn Row.TargetRest (array-argument (last-of ts)) (only any) comma else C.refuse (Rattle.tokens.specs.declared.cause.Cause.Cause.Spread i)
+      either comma b = if b then turn Row.TargetRest (array-argument (last-of ts)) (only any) comma else C.refuse (Cause.Spread i)
 
       go : (comma : List Record) (b : Bool) (u : Tree) (records : List Record) → over (either comma b) (node Row.Spread i i j ts) (convert-kids ts (roles (either comma b))) ≡ turned u records → Fits w records
           → LastElement w s i j (node Row.Spread i i j ts) comma u
@@ -709,7 +710,7 @@ module _ {w : Width} {s : Sheet} where
   spread-property-turns {i} {j} {ts} t r h = record { tree = node Row.Spread i i j ts; is-one = refl; in-middle = λ u records e f. never e; at-end = λ comma u records e f. go comma (eqb (count ts) 1) u records e f }
     where
       either : List Record → Bool → Change
-      either comma b = if b then turn Row.TargetRest (object-argument (last-of ts) ++ comma) (only any) [] else C.refuse (Rattle.tokens.specs.declared.cause.Cause.Cause.Spread i)
+      either comma b = if b then turn Row.TargetRest (object-argument (last-of ts) ++ comma) (only any) [] else C.refuse (Cause.Spread i)
 
       is-last : last-of ts ≡ first-tree ts
       is-last = ap last-of (r .lone)

@@ -187,7 +187,8 @@ tier-row tier = if leb tier 3 then Row.Logical else Row.Binary
 pub data Width : Type 0 where
   standard wider : Width
 
--- THE PRODUCTIONS: from i to j there stands what the rows ts stand for
+-- THE PRODUCTIONS. `Derives w s x i j ts`: from place i up to place j there stands an x, and its rows are ts. A production has its parts from left to right before the
+-- arrows, each with its places, and what it makes after the last arrow: `Tok s p Comma` is a `,` at p, `Derives w s x (p + 1) j us` an x from right after it up to j.
 pub data Derives (w : Width) (s : Sheet) : Nonterminal → ℕ → ℕ → Forest → Type 0 where
   -- lists: x | a list , x
   first-of-list : {x : Nonterminal} {i j : ℕ} {ts : Forest} → Derives w s x i j ts → Derives w s (ListOf x) i j ts

@@ -6,15 +6,15 @@ use mathlib.Core.List.{List, [], _∷_}
 use native.Mathlib.Omega.{arith}
 use lib.ListN.{length, replicate}
 use Rattle.tokens.specs.declared.cause.Cause.{Cause}
-use Rattle.rows.specs.Tree.{Tree, Forest, node, nil, cons, one}
+use Rattle.rows.specs.Tree.{Tree, Forest, node, cons, one}
 use Rattle.rows.specs.Record.{Record}
 use Rattle.rows.specs.Row as Row
-use Rattle.grammar.specs.Sheet.{Sheet, leaf}
+use Rattle.grammar.specs.Sheet.{Sheet, leaf, _>>=_}
 use Rattle.tokens.specs.Token.{is-name, is-word, is-literal}
 use Rattle.operators.specs.Precedence.{level, expression-level}
 use Rattle.rows.specs.Tree.{join, count, kind-of, mark-of, first-of, end-of, kids-of}
 use Rattle.targets.specs.Conversion.{inner-kind, inner-kinds, seen, as-simple, as-any, as-value, as-element, as-last-element, as-property, as-last-property, as-name, change, roles, over, both, convert-as, convert-kids}
-use Rattle.grammar.specs.Sheet.{first-tree, after-records, and-then, or-else, _>>=_, try, yield, refuse, say}
+use Rattle.grammar.specs.Sheet.{first-tree, after-records, and-then, or-else, try, yield, refuse, say}
 use Rattle.grammar.specs.Primary.{parenthesized-of, primary-of, spread-of, elements-of, properties-of, shorthand-of, property-of, key-of}
 use Rattle.grammar.specs.LeftHandSide.{left-hand-side-of, links-of, arguments-of}
 use Rattle.grammar.specs.Update.{is-unary-operator, is-update-operator, converted-to, unary-of, postfix-of}
@@ -25,7 +25,7 @@ use Rattle.grammar.specs.Binding.{binding-of, binding-element-of, binding-rest-
 use Rattle.grammar.specs.Arrow.{by-way, choose, noting, arrow-of, assignment-of, parenthesized-head-of, head-of, parameters-of, body-of}
 use Rattle.grammar.specs.Step.{step, read}
 use Rattle.grammar.specs.Reading.{unconverted, unconverteds, at-end, reading}
-use Rattle.grammar.specs.Reading.{Whole, whole, refused, plain-reading}
+use Rattle.grammar.specs.Reading.{whole, refused, plain-reading}
 use Rattle.standard.specs.Derives.{Expression, Derived}
 use Rattle.standard.specs.Unambiguous.{clean-is-derived}
 

@@ -1,24 +1,24 @@
 -- What may stand after what is derived, and before it: the tokens after which the plain reader stops, and those with which an expression begins.
 -- Assumes nothing.
-use Prim.Native.Nat.{ℕ, zero, suc, _+_, _≤_, _<_}
+use Prim.Native.Nat.{ℕ, zero, suc, _+_, _≤_}
 use mathlib.Core.Path.{_≡_, refl, sym, ap, _∙_, subst}
 use mathlib.Core.Bool.{Bool, true, false, not}
 use native.Mathlib.Omega.{arith}
-use lib.Dec.{eqb, leb}
-use borrow.Author.Tests.{eqb-true, ne-eqb, eq-eqb, leb-false, leb-true, le-leb}
-use Rattle.tokens.specs.Bool.{_is_, _or_, _and_, if_then_else_, between}
+use lib.Dec.{leb}
+use borrow.Author.Tests.{eqb-true, ne-eqb, leb-false, leb-true, le-leb}
+use Rattle.tokens.specs.Bool.{_is_, _or_, _and_}
 use Rattle.tokens.specs.Kind.{Async, This, LParen, RParen, LBrack, RBrack, LCurly, RCurly, Comma, Colon, Dot, Arrow, Plus2, Minus2}
-use Rattle.tokens.specs.Token.{is-name, is-word, is-literal}
+use Rattle.tokens.specs.Token.{is-name, is-literal}
 use Rattle.operators.specs.Precedence.{level, expression-level}
 use Rattle.rows.specs.Tree.{Forest}
 use Rattle.grammar.specs.Sheet.{Sheet, token, break-before}
-use Rattle.grammar.specs.Update.{is-unary-operator, is-update-operator}
+use Rattle.grammar.specs.Update.{is-update-operator}
 use Rattle.grammar.specs.Assignment.{is-async-name}
 use Rattle.laws.specs.Good.{and-left, and-right}
 use Rattle.standard.specs.Derives as D
-use Rattle.standard.specs.Derives.{Tok, Of, SameLine, Operator, is-key, is-prefix, is-update, is-compound, Chain, Nonterminal, PrimaryExpression, ArrayLiteral, ObjectLiteral, ChainExpression, Arguments, LeftHandSideExpression, UpdateExpression, UnaryExpression, TierExpression, CoalesceExpression, ShortCircuitExpression, ConditionalExpression, AssignmentExpression, SimpleTarget, AssignmentPattern, DestructuringAssignmentTarget, AssignmentElement, Width, Derives}
+use Rattle.standard.specs.Derives.{Tok, Of, Operator, is-prefix, is-update, Chain, PrimaryExpression, ChainExpression, UpdateExpression, UnaryExpression, TierExpression, CoalesceExpression, ShortCircuitExpression, AssignmentExpression, SimpleTarget, AssignmentPattern, DestructuringAssignmentTarget, AssignmentElement, Width, Derives}
 use Rattle.standard.specs.Roots.{not-both}
-use Rattle.standard.specs.Brackets.{same-kind, of-kind, Group, Ends, arguments-group}
+use Rattle.standard.specs.Brackets.{of-kind, Ends, arguments-group}
 
 -- AFTER
 -- what closes an AssignmentExpression: a closing bracket, a comma, a colon, or the end

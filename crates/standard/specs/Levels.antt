@@ -1,15 +1,15 @@
 -- What the levels of the table of operators say of a token: which operator it is, which row it makes, and how far its right operand reads on.
 -- Assumes nothing.
-use Prim.Native.Nat.{ℕ, zero, suc, _+_, _-_, _≤_, _<_}
-use mathlib.Core.Path.{_≡_, refl, sym, ap, _∙_}
+use Prim.Native.Nat.{ℕ, zero, suc, _+_, _≤_, _<_}
+use mathlib.Core.Path.{_≡_, refl}
 use mathlib.Core.Bool.{Bool, true, false}
 use mathlib.Core.List.{List, [], _∷_}
 use native.Mathlib.Omega.{arith}
 use native.Mathlib.Decide.{ℕ-discrete}
 use lib.ListN.{length, getD}
-use lib.Dec.{eqb, leb}
-use borrow.Author.Tests.{eqb-true, ne-eqb, eq-eqb, leb-true, le-leb, lt-leb}
-use Rattle.tokens.specs.Bool.{_is_, _or_, _and_, if_then_else_, between}
+use lib.Dec.{leb}
+use borrow.Author.Tests.{eqb-true, ne-eqb, leb-true, lt-leb}
+use Rattle.tokens.specs.Bool.{_is_, _or_, if_then_else_, between}
 use Rattle.tokens.specs.Kind.{As, Satisfies, Question2, Pipe2, Amp2, Star2}
 use Rattle.operators.specs.Precedence.{tiers, among, level-from, level, expression-level}
 use Rattle.rows.specs.Row as Row

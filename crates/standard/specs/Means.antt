@@ -1,16 +1,15 @@
 -- What a done reading means where its records leave room: in the wider grammar any records may be there, in the standard's none.
 -- The words of the productions again, for meanings that hold only where the records fit: what is said of the parts may then be used freely.
 -- Assumes nothing.
-use Prim.Native.Nat.{ℕ, zero, suc}
-use mathlib.Core.Path.{_≡_, refl, sym, ap, _∙_}
-use mathlib.Core.Bool.{Bool, true, false}
+use Prim.Native.Nat.{ℕ}
+use mathlib.Core.Path.{_≡_, refl}
 use mathlib.Core.List.{List, [], _∷_, _++_}
 use native.Mathlib.Omega.{arith}
 use Rattle.tokens.specs.declared.cause.Cause.{Cause}
 use Rattle.rows.specs.Tree.{Tree, Forest, one}
 use Rattle.rows.specs.Record.{Record}
 use Rattle.targets.specs.Conversion.{Role, Outcome, turned, refused, convert-as}
-use Rattle.grammar.specs.Sheet.{Sheet, Out, done, fail, stuck, Reading, Part, after-records, and-then, or-else, _>>=_, try, yield, refuse, say}
+use Rattle.grammar.specs.Sheet.{Out, done, fail, stuck, Reading, Part, after-records, and-then, or-else, _>>=_, try, yield, refuse, say}
 use Rattle.grammar.specs.Update.{converted-to, converted}
 use Rattle.laws.specs.Good.{Meaning, Ends, ends-done, ends-fail, ends-stuck, Reads}
 use Rattle.laws.specs.Bounds.{Nothing}

@@ -1,43 +1,41 @@
 -- What the plain reader reads of each nonterminal of ECMA-262's grammar, from what it reads of the nonterminal's parts: one record for what is shown of
 -- a nonterminal, one lemma for each of its productions. Targets have a file of their own.
 -- Assumes nothing.
-use Prim.Native.Nat.{ℕ, zero, suc, _+_, _-_, _≤_, _<_}
+use mathlib.Core.List.{[]}
+use Prim.Native.Nat.{ℕ, suc, _+_, _≤_, _<_}
 use mathlib.Core.Path.{_≡_, refl, sym, ap, _∙_, subst}
 use mathlib.Core.Bool.{Bool, true, false, not}
-use mathlib.Core.List.{List, [], _∷_, _++_}
 use native.Mathlib.Omega.{arith}
 use native.Mathlib.Decide.{ℕ-discrete}
-use lib.Dec.{eqb, ltb, leb}
+use lib.Dec.{leb}
 use lib.ListN.{length}
-use borrow.Author.Tests.{eqb-true, eqb-false, ne-eqb, eq-eqb, lt-ltb, le-ltb, leb-true, leb-false, le-leb, lt-leb}
-use Rattle.tokens.specs.Bool.{_is_, _or_, _and_, if_then_else_, between}
-use Rattle.tokens.specs.Kind.{Async, This, Str, Number, LParen, RParen, LBrack, RBrack, LCurly, RCurly, Comma, Colon, Question, Dot, Dot3, Arrow, Question2, Star2, Eq, PlusEq, Star2Eq, Plus2, Minus2}
+use borrow.Author.Tests.{ne-eqb, lt-ltb, le-ltb, leb-true, leb-false, le-leb, lt-leb}
+use Rattle.tokens.specs.Bool.{_is_, _or_, _and_, if_then_else_}
+use Rattle.tokens.specs.Kind.{Async, This, LParen, RParen, LBrack, RBrack, LCurly, RCurly, Comma, Colon, Question, Dot, Dot3, Arrow, Question2, Star2, Eq}
 use Rattle.tokens.specs.Token.{is-name, is-word, is-literal}
-use Rattle.tokens.specs.declared.cause.Cause.{Cause}
 use Rattle.operators.specs.Precedence.{level, expression-level}
-use Rattle.rows.specs.Tree.{Tree, Forest, node, nil, cons, one, join, count, kind-of, mark-of, kids-of}
+use Rattle.rows.specs.Tree.{Tree, Forest, node, nil, cons, one, join, kind-of, mark-of, kids-of}
 use Rattle.rows.specs.Row as Row
-use Rattle.rows.specs.Record.{Record, mixed-coalesce, unary-power}
-use Rattle.rows.proofs.Rows.{join-nil, join-assoc, count-join}
-use Rattle.targets.specs.Conversion.{Role, any, simple, element, last-element, property, last-property, value, turned, convert-as, convert-kids}
-use Rattle.grammar.specs.Sheet.{Sheet, token, break-before, Out, done, fail, first-tree, leaf}
+use Rattle.rows.proofs.Rows.{join-nil, join-assoc}
+use Rattle.targets.specs.Conversion.{property, value}
+use Rattle.grammar.specs.Sheet.{Sheet, token, first-tree, leaf}
 use Rattle.grammar.specs.Job as J
 use Rattle.grammar.specs.Job.{Job}
 use Rattle.grammar.specs.Update.{is-unary-operator, is-update-operator}
 use Rattle.grammar.specs.Binary.{operation-kind, right-floor, is-or-and, operation-records}
 use Rattle.grammar.specs.Assignment.{is-assignment-operator, is-async-name}
-use Rattle.laws.specs.Settles.{μ, Settles}
+use Rattle.laws.specs.Settles.{μ}
 use Rattle.grammar.specs.Reading.{plain}
 use Rattle.laws.specs.Steady.{Comes, comes-done, comes-fail, settles}
 use Rattle.laws.specs.Bounds.{bounded}
 use Rattle.laws.specs.Good.{inside}
 use Rattle.standard.specs.Derives as D
-use Rattle.standard.specs.Derives.{Tok, Of, SameLine, Not, Operator, is-key, is-prefix, is-update, is-compound, Chain, Nonterminal, ListOf, Elided, Elision, UpdateExpression, UnaryExpression, TierExpression, ends-in-spread, array-row, object-row, tier-row, Width, standard, wider, Derives}
-use Rattle.standard.specs.Levels.{levels, power-floor, other-floor, row-of-tier}
-use Rattle.standard.specs.Roots.{Root, not-both, root-primary, root-chain, root-left-hand-side, root-update, root-unary, root-tier, root-coalesce, root-short-circuit, root-assignment, root-expression, spread-last, Each, each-one, each-more, Past, past}
+use Rattle.standard.specs.Derives.{Tok, Of, SameLine, Operator, is-key, is-prefix, is-update, Elision, ends-in-spread, array-row, object-row, tier-row, standard, Derives}
+use Rattle.standard.specs.Levels.{power-floor, other-floor, row-of-tier}
+use Rattle.standard.specs.Roots.{not-both, spread-last, Each, each-one, each-more, Past, past}
 use Rattle.standard.specs.Sound.{sound-wider}
-use Rattle.standard.specs.Brackets.{Opening, async-opening, other-opening, no-head, short-circuit-opening, simple-opening, target-opening}
-use Rattle.standard.specs.Follow.{is-closer, Closed, closed-by, test-not, closed-test, Tail, tail-by, tail-kind, closed-tail, closed-level, operator-tail, closed-ends, is-operand, is-start, Operand, Start, as-start, operand-name, operand-chain, operand-simple, operand-target, start-of-assignment, start-of-element, Second, second-short-circuit, second-target, second-simple, no-async-name, closed-no-name, positive-level}
+use Rattle.standard.specs.Brackets.{Opening, async-opening, other-opening, no-head}
+use Rattle.standard.specs.Follow.{is-closer, Closed, closed-by, test-not, closed-test, Tail, tail-kind, closed-tail, closed-level, operator-tail, is-operand, Operand, operand-name, Second, no-async-name, closed-no-name, positive-level}
 use Rattle.standard.specs.Rules as R
 use Rattle.standard.specs.Rules.{Reads, Refuses, here}
 
@@ -85,6 +83,7 @@ pub record PartDone (s : Sheet) (i j : ℕ) (ts : Forest) : Type 0 where
   pub no-curly : token s i is RCurly ≡ false
   pub spreads : (us : Forest) → ends-in-spread (join us ts) ≡ token s i is Dot3
 
+-- the tokens that close
 pub closed-comma : {s : Sheet} {j : ℕ} → Tok s j Comma → Closed s j
 unfolding is-closer
 closed-comma t = closed-by _ refl t
@@ -116,6 +115,7 @@ elements-from first at so-far = J.elements first at (array-row so-far) so-far
 abbrev pub properties-from : ℕ → ℕ → Forest → Job
 properties-from first at so-far = J.properties first at (object-row so-far) so-far
 
+-- the holes of an elision, and what comes after them
 pub holes-then : {s : Sheet} {first i p : ℕ} {hs : Forest} → Derives standard s Elision i p hs → (so-far : Forest) {e : ℕ} {out : Forest} → Reads s (elements-from first p (join so-far hs)) e out
     → Reads s (elements-from first i so-far) e out
 unfolding array-row kind-of
@@ -128,6 +128,7 @@ holes-then {s} {first} {i} (D.elision {p = p} {ts = hs} d t) so-far {e} {out} r 
     hole-kind : array-row (join so-far (join hs (one (leaf Row.Hole p)))) ≡ Row.Array
     hole-kind = ap array-row (sym (join-assoc so-far hs (one (leaf Row.Hole p)))) ∙ ap (λ (b : Bool). if b then Row.ArrayRestComma else Row.Array) (spread-last (join so-far hs) (leaf Row.Hole p))
 
+-- one more element of an array, and what comes after it
 pub element-item : {s : Sheet} (first at p : ℕ) (so-far us : Forest) (e : ℕ) (out : Forest) → Past standard s (ItemDone s) at p us → After s (elements-from first) (Closing s RBrack Row.Array first) p (join so-far us) e out
     → Reads s (elements-from first at so-far) e out
 unfolding array-row
@@ -228,26 +229,31 @@ pub record ElementBound (s : Sheet) (i j : ℕ) (ts : Forest) : Type 0 where
   pub no-comma : token s i is Comma ≡ false
   pub no-dots : token s i is Dot3 ≡ false
 
+-- a BindingRestElement
 pub record RestBound (s : Sheet) (i j : ℕ) (ts : Forest) : Type 0 where
   pub dots : Tok s i Dot3
   pub reads : Closed s j → Reads s (J.binding-rest i) j ts
 
+-- a BindingProperty
 pub record PropertyBound (s : Sheet) (i j : ℕ) (ts : Forest) : Type 0 where
   pub reads : Closed s j → token s j is Colon ≡ false → Reads s (J.binding-property i) j ts
   pub no-curly : token s i is RCurly ≡ false
   pub no-dots : token s i is Dot3 ≡ false
 
+-- a BindingRestProperty: its argument is a name
 pub record RestPropertyBound (s : Sheet) (i j : ℕ) (ts : Forest) : Type 0 where
   pub dots : Tok s i Dot3
   pub reads : Closed s j → Reads s (J.binding-rest i) j ts
   pub is-name-only : kind-of (first-tree (kids-of (first-tree ts))) is Row.BindingName ≡ true
 
+-- the holes of an elision in a pattern, and what comes after them
 pub binding-holes-then : {s : Sheet} {first i p : ℕ} {hs : Forest} → Derives standard s Elision i p hs → (so-far : Forest) {e : ℕ} {out : Forest} → Reads s (J.binding-elements first p (join so-far hs)) e out
     → Reads s (J.binding-elements first i so-far) e out
 binding-holes-then {s} {first} {i} D.no-elision so-far {e} {out} r = subst (λ (v : Forest). Reads s (J.binding-elements first i v) e out) (join-nil so-far) r
 binding-holes-then {s} {first} {i} (D.elision {p = p} {ts = hs} d t) so-far {e} {out} r =
     binding-holes-then d so-far (R.binding-elements-hole t (subst (λ (v : Forest). Reads s (J.binding-elements first (p + 1) v) e out) (sym (join-assoc so-far hs (one (leaf Row.Hole p)))) r))
 
+-- one more element of an array pattern, and what comes after it
 pub bound-item : {s : Sheet} (first at p : ℕ) (so-far us : Forest) (e : ℕ) (out : Forest) → Past standard s (ElementBound s) at p us
     → After s (J.binding-elements first) (Closing s RBrack Row.BindingArray first) p (join so-far us) e out → Reads s (J.binding-elements first at so-far) e out
 bound-item {s} first at p so-far _ e out (past {p = q} {hs = hs} {ts = ts} h x) a =
@@ -257,6 +263,7 @@ bound-item {s} first at p so-far _ e out (past {p = q} {hs = hs} {ts = ts} h x) 
     go (and-comma t r) = R.binding-elements-more (x .no-bracket) (x .no-comma) (x .no-dots) (x .reads (closed-comma t)) t r
     go (and-close (closing t)) = R.binding-elements-last (x .no-bracket) (x .no-comma) (x .no-dots) (x .reads (closed-bracket t)) t
 
+-- one more property of an object pattern, and what comes after it
 pub bound-property : {s : Sheet} (first at p : ℕ) (so-far us : Forest) (e : ℕ) (out : Forest) → PropertyBound s at p us
     → After s (J.binding-properties first) (Closing s RCurly Row.BindingObject first) p (join so-far us) e out → Reads s (J.binding-properties first at so-far) e out
 bound-property first at p so-far us e out x (and-comma t r) = R.binding-properties-more (x .no-curly) (x .no-dots) (x .reads (closed-comma t) (ap (λ (k : ℕ). k is Colon) (t .kind-is))) t r
@@ -330,6 +337,7 @@ module _ {s : Sheet} where
 pub data ClosingParameters (s : Sheet) (p : ℕ) (so-far : Forest) : ℕ → Forest → Type 0 where
   closing-parameters : Tok s p RParen → ClosingParameters s p so-far (p + 1) so-far
 
+-- one more parameter, and what comes after it
 pub bound-parameter : {s : Sheet} (at p : ℕ) (so-far us : Forest) (e : ℕ) (out : Forest) → ElementBound s at p us → After s J.parameters (ClosingParameters s) p (join so-far us) e out → Reads s (J.parameters at so-far) e out
 bound-parameter at p so-far us e out x (and-comma t r) = R.parameters-more (x .no-paren) (x .no-dots) (x .reads (closed-comma t)) t r
 bound-parameter at p so-far us _ _ x (and-close (closing-parameters t)) = R.parameters-last (x .no-paren) (x .no-dots) (x .reads (closed-paren t)) t
@@ -372,10 +380,12 @@ operand-small k e = go (leb k 22) refl
         absurd (not-both e
         (rw (le-leb 1 k (omega arith), lt-leb k 5 (omega arith), ne-eqb k This (λ z. omega arith), le-leb 8 k (omega arith), lt-leb k 13 (omega arith), ne-eqb k LParen (λ z. omega arith), ne-eqb k LBrack (λ z. omega arith), ne-eqb k LCurly (λ z. omega arith))))
 
+-- so it is neither an operator of 13.5
 pub not-prefix : (k : ℕ) → k ≤ 22 → is-unary-operator k ≡ false
 unfolding is-unary-operator
 not-prefix k h = rw (lt-leb 30 k (omega arith), ne-eqb k 57 (λ z. omega arith), ne-eqb k 58 (λ z. omega arith))
 
+-- nor one of 13.4
 pub not-update : (k : ℕ) → k ≤ 22 → is-update-operator k ≡ false
 unfolding is-update-operator
 not-update k h = rw (ne-eqb k 36 (λ z. omega arith), ne-eqb k 37 (λ z. omega arith))
@@ -389,20 +399,24 @@ pub record Unlinked (s : Sheet) (j : ℕ) : Type 0 where
 pub unlinked : {s : Sheet} {j : ℕ} → Tail s j → Unlinked s j
 unlinked t = record { no-dot = t .no-dot; no-brack = t .no-brack; no-paren = t .no-paren }
 
+-- ++ and -- are no links
 pub update-unlinked : {s : Sheet} {j : ℕ} → Of is-update s j → Unlinked s j
 unfolding is-update
 update-unlinked {s} {j} t = record { no-dot = test-not (token s j) is-update Dot refl (t .holds); no-brack = test-not (token s j) is-update LBrack refl (t .holds); no-paren = test-not (token s j) is-update LParen refl (t .holds) }
 
+-- a MemberExpression or CallExpression: what is read after its tree as links is what the LeftHandSideExpression comes to
 pub record ChainDone (s : Sheet) (i j : ℕ) (ts : Forest) : Type 0 where
   pub tree : Tree
   pub is-one : ts ≡ one tree
   pub goes : (e : ℕ) (out : Forest) → Reads s (J.links i j tree) e out → Reads s (J.left-hand-side i) e out
   pub operand : Operand s i
 
+-- a LeftHandSideExpression, where no link follows
 pub record LeftDone (s : Sheet) (i j : ℕ) (ts : Forest) : Type 0 where
   pub reads : Unlinked s j → Reads s (J.left-hand-side i) j ts
   pub operand : Operand s i
 
+-- an UpdateExpression or UnaryExpression, where neither a link nor a postfix operator follows
 pub record UnaryDone (s : Sheet) (i j : ℕ) (ts : Forest) : Type 0 where
   pub reads : Tail s j → Reads s (J.unary i) j ts
 
@@ -465,6 +479,7 @@ pub record CoalesceDone (s : Sheet) (i j : ℕ) (ts : Forest) : Type 0 where
   pub bare : is-or-and s tree ≡ false
   pub goes : Tail s j → expression-level (token s j) ≤ 1 → (e : ℕ) (out : Forest) → Reads s (J.operators 0 i j tree) e out → Reads s (J.binary 0 i) e out
 
+-- a ShortCircuitExpression, where no operator follows
 pub record ShortDone (s : Sheet) (i j : ℕ) (ts : Forest) : Type 0 where
   pub reads : Tail s j → expression-level (token s j) ≡ 0 → Reads s (J.binary 0 i) j ts
 
@@ -631,16 +646,20 @@ module _ {s : Sheet} where
 pub record ValueDone (s : Sheet) (i j : ℕ) (ts : Forest) : Type 0 where
   pub reads : Closed s j → Reads s (J.value i) j ts
 
+-- an AssignmentExpression, where something closes it
 pub record AssignmentDone (s : Sheet) (i j : ℕ) (ts : Forest) : Type 0 where
   pub reads : Closed s j → Reads s (J.assignment i) j ts
 
+-- a ConciseBody
 pub record BodyDone (s : Sheet) (i j : ℕ) (ts : Forest) : Type 0 where
   pub no-curly : token s i is LCurly ≡ false
   pub reads : Closed s j → Reads s (J.assignment i) j ts
 
+-- an Expression, where something other than a comma closes it
 pub record ExpressionDone (s : Sheet) (i j : ℕ) (ts : Forest) : Type 0 where
   pub reads : Closed s j → token s j is Comma ≡ false → Reads s (J.expression i) j ts
 
+-- the parts of a Sequence: what is read after them is what the Expression comes to
 pub record CommasDone (s : Sheet) (comma i j : ℕ) (ts : Forest) : Type 0 where
   pub goes : Closed s j → (e : ℕ) (out : Forest) → Reads s (J.sequence i comma j ts) e out → Reads s (J.expression i) e out
 

@@ -1,18 +1,17 @@
 -- What an expression is derived as: one tree, which is no Spread, and is an Identifier only over one name. And how lists grow.
 -- Assumes nothing.
-use Prim.Native.Nat.{ℕ, zero, suc, _+_, _≤_, _<_}
-use mathlib.Core.Path.{_≡_, refl, sym, ap, _∙_}
+use Prim.Native.Nat.{ℕ, _+_}
+use mathlib.Core.Path.{_≡_, refl, sym}
 use mathlib.Core.Bool.{Bool, true, false}
 use native.Mathlib.Omega.{arith}
-use lib.Dec.{eqb, leb}
-use borrow.Author.Tests.{eqb-true, ne-eqb, eq-eqb}
+use lib.Dec.{leb}
 use Rattle.tokens.specs.Bool.{_is_, if_then_else_}
 use Rattle.tokens.specs.Kind.{Comma}
 use Rattle.tokens.specs.Token.{is-name}
 use Rattle.rows.specs.Tree.{Tree, Forest, node, nil, cons, one, join, kind-of}
 use Rattle.rows.specs.Row as Row
 use Rattle.rows.proofs.Rows.{join-nil, join-assoc}
-use Rattle.grammar.specs.Sheet.{Sheet, token, leaf, first-tree}
+use Rattle.grammar.specs.Sheet.{Sheet, leaf, first-tree}
 use Rattle.standard.specs.Derives as D
 use Rattle.standard.specs.Derives.{Tok, Of, Chain, Nonterminal, ListOf, Elided, Elision, PrimaryExpression, ArrayLiteral, ObjectLiteral, ChainExpression, LeftHandSideExpression, UpdateExpression, UnaryExpression, TierExpression, CoalesceExpression, ShortCircuitExpression, ConditionalExpression, AssignmentExpression, Expression, ends-in-spread, array-row, object-row, tier-row, Width, Derives}
 

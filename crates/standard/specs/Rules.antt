@@ -1,9 +1,9 @@
 -- The plain reader's productions as rules: what a nonterminal reads, from what its parts read, where no record is said. One rule for each way through a production.
 -- Assumes nothing.
+use mathlib.Core.List.{[]}
 use Prim.Native.Nat.{ℕ, zero, suc, _+_, _-_, _*_, _≤_, _<_}
-use mathlib.Core.Path.{_≡_, refl, sym, ap, _∙_}
+use mathlib.Core.Path.{_≡_, refl}
 use mathlib.Core.Bool.{Bool, true, false, not}
-use mathlib.Core.List.{List, [], _∷_, _++_}
 use native.Mathlib.Omega.{arith}
 use lib.Dec.{ltb}
 use lib.ListN.{length}
@@ -16,7 +16,7 @@ use Rattle.operators.specs.Precedence.{expression-level}
 use Rattle.rows.specs.Tree.{Tree, Forest, node, nil, cons, one, join, kind-of, kids-of}
 use Rattle.rows.specs.Row as Row
 use Rattle.targets.specs.Conversion.{any, simple, turned, convert-as}
-use Rattle.grammar.specs.Sheet.{Sheet, token, break-before, Out, done, fail, stuck, first-tree, leaf, after-records, and-then, or-else, _>>=_, try, yield, say}
+use Rattle.grammar.specs.Sheet.{Sheet, token, break-before, done, fail, first-tree, leaf, after-records, and-then, or-else, try, yield, say, _>>=_}
 use Rattle.grammar.specs.Job.{Job, expression, sequence, assignment, value, assign, conditional, binary, operators, unary, postfix, left-hand-side, links, arguments, primary, elements, properties, property, key, spread, binding, binding-element, binding-elements, binding-properties, binding-property, binding-rest, head, parameters, body}
 use Rattle.grammar.specs.Comma.{expression-of, sequence-of}
 use Rattle.grammar.specs.Assignment.{is-assignment-operator, assign-of, conditional-of, after-binary, is-async-name, value-of}

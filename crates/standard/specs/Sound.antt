@@ -1,26 +1,24 @@
 -- SOUND: every reading that is done, under any policy, is derived: in the wider grammar with any records, in the standard's if there are none.
 -- What a nonterminal of the reader means is `Meant`; the statements stand at the end.
 -- Assumes nothing.
-use Prim.Native.Nat.{ℕ, zero, suc, _+_, _-_, _≤_, _<_}
+use Prim.Native.Nat.{ℕ, zero, suc, _+_, _≤_, _<_}
 use mathlib.Core.Path.{_≡_, refl, sym, ap, _∙_, subst}
 use mathlib.Core.Bool.{Bool, true, false, not}
 use mathlib.Core.List.{List, [], _∷_, _++_}
 use native.Mathlib.Omega.{arith}
 use native.Mathlib.Decide.{ℕ-discrete}
-use lib.Dec.{eqb, ltb, leb}
-use lib.ListN.{length}
+use lib.Dec.{ltb, leb}
 use borrow.Author.Tests.{eqb-true, eqb-false, ne-eqb, eq-eqb, ltb-true, ltb-false, leb-true, le-leb}
-use Rattle.tokens.specs.Bool.{_is_, _or_, _and_, if_then_else_, between}
-use Rattle.tokens.specs.Kind.{Async, This, Str, Number, LParen, RParen, LBrack, RBrack, LCurly, RCurly, Comma, Colon, Question, Dot, Dot3, Arrow, Question2, Star2, Eq, PlusEq, Star2Eq}
+use Rattle.tokens.specs.Bool.{_is_, _or_, _and_, if_then_else_}
+use Rattle.tokens.specs.Kind.{Async, LParen, RParen, LBrack, RBrack, LCurly, RCurly, Comma, Colon, Question, Dot3, Arrow, Question2, Star2, Eq, PlusEq, Star2Eq}
 use Rattle.tokens.specs.Token.{is-name, is-word, is-literal}
-use Rattle.tokens.specs.declared.cause.Cause.{Cause}
 use Rattle.operators.specs.Precedence.{level, expression-level}
 use Rattle.rows.specs.Tree.{Tree, Forest, node, nil, cons, one, join, kind-of, mark-of, kids-of}
 use Rattle.rows.specs.Row as Row
-use Rattle.rows.specs.Record.{Record, mixed-coalesce, unary-power}
+use Rattle.rows.specs.Record.{Record, mixed-coalesce, rest-initializer, break-before-arrow}
 use Rattle.rows.proofs.Rows.{join-nil, join-assoc}
-use Rattle.targets.specs.Conversion.{Role, any, simple, turned, convert-as}
-use Rattle.grammar.specs.Sheet.{Sheet, token, break-before, Out, done, fail, stuck, Reading, Part, first-tree, tree, leaf, _>>=_, yield, refuse, unexpected}
+use Rattle.targets.specs.Conversion.{any, simple}
+use Rattle.grammar.specs.Sheet.{Sheet, token, break-before, done, Part, first-tree, tree, leaf, _>>=_, yield}
 use Rattle.grammar.specs.Job as J
 use Rattle.grammar.specs.Job.{Job, Asks}
 use Rattle.grammar.specs.Primary.{parenthesized-of, primary-of, elements-of, properties-of, shorthand-of, property-of, key-of, spread-of}
@@ -35,10 +33,10 @@ use Rattle.grammar.specs.Step.{step, read}
 use Rattle.laws.specs.Good.{Reads, Answers, Preserved, good, good-done, Stands, test, token-test, chooses, notes, and-left, and-right}
 use Rattle.laws.specs.Bounds.{Any, Nothing}
 use Rattle.standard.specs.Derives as D
-use Rattle.standard.specs.Derives.{Tok, Of, SameLine, Not, Operator, is-key, is-prefix, is-update, is-compound, Chain, Nonterminal, ListOf, Elided, PrimaryExpression, ArrayLiteral, Elision, SpreadElement, Element, ObjectLiteral, PropertyDefinition, PropertyName, ChainExpression, Arguments, LeftHandSideExpression, UpdateExpression, UnaryExpression, TierExpression, CoalesceExpressionHead, CoalesceExpression, ShortCircuitExpression, ConditionalExpression, AssignmentExpression, SimpleTarget, DestructuringAssignmentTarget, Commas, Expression, Binding, BindingPattern, BindingElement, BindingRestElement, BindingProperty, BindingRestProperty, FormalParameters, ArrowFormalParameters, ArrowParameters, AsyncArrowHead, ConciseBody, MemberExpression, CallExpression, ends-in-spread, array-row, object-row, tier-row, Width, standard, wider, Derives}
+use Rattle.standard.specs.Derives.{Tok, Of, SameLine, Operator, is-key, is-prefix, is-update, is-compound, Chain, Nonterminal, PrimaryExpression, ArrayLiteral, Elision, SpreadElement, Element, ObjectLiteral, PropertyDefinition, PropertyName, ChainExpression, LeftHandSideExpression, UpdateExpression, UnaryExpression, TierExpression, CoalesceExpressionHead, CoalesceExpression, ShortCircuitExpression, ConditionalExpression, AssignmentExpression, SimpleTarget, DestructuringAssignmentTarget, Commas, Expression, Binding, BindingPattern, BindingElement, BindingRestElement, BindingProperty, BindingRestProperty, FormalParameters, ArrowFormalParameters, ArrowParameters, AsyncArrowHead, ConciseBody, CallExpression, ends-in-spread, array-row, object-row, tier-row, Width, wider, Derives}
 use Rattle.standard.specs.Levels.{levels, is-power, is-coalesce, power-floor, other-floor, row-of-tier}
-use Rattle.standard.specs.Roots.{NameAt, Root, not-both, root-primary, root-chain, root-left-hand-side, root-unary, root-tier, root-short-circuit, root-assignment, spread-last, Begun, none-yet, after-comma, one-more, BegunElided, only-holes, after-list, one-hole-more, one-element-more, list-and-comma}
-use Rattle.standard.specs.Means.{Fits, any-fit, none-fit, must-be-wider, fits-left, fits-right, Means, follow, trying, saying, giving, none, turning, hence}
+use Rattle.standard.specs.Roots.{NameAt, not-both, root-primary, root-chain, root-left-hand-side, root-unary, root-short-circuit, root-assignment, spread-last, Begun, none-yet, after-comma, one-more, BegunElided, only-holes, after-list, one-hole-more, one-element-more, list-and-comma}
+use Rattle.standard.specs.Means.{Fits, any-fit, must-be-wider, Means, follow, trying, saying, giving, none, turning, hence}
 use Rattle.standard.specs.Convert.{unary-simple, left-simple, short-circuit-simple, short-circuit-any}
 
 -- WHAT IS MEANT
@@ -667,7 +665,7 @@ module _ {w : Width} {s : Sheet} {N : Type 0} {ask : Asks N} (h : Answers Any (G
       follow (asked (J.binding-element (at + 1))) (λ argument d. saying _ (λ f. giving _ _ (λ t. rest t d f)))
     where
       rest : {end : ℕ} {trees : Forest} → Tok s at Dot3 → Derives w s BindingElement (at + 1) end trees
-          → Fits w (if kind-of (first-tree trees) is Row.BindingDefault then Rattle.rows.specs.Record.rest-initializer (mark-of (first-tree trees)) ∷ [] else [])
+          → Fits w (if kind-of (first-tree trees) is Row.BindingDefault then rest-initializer (mark-of (first-tree trees)) ∷ [] else [])
           → Derives w s BindingRestElement at end (one (node Row.BindingRest at at end trees))
       rest t (D.no-default d) f = D.binding-rest t d
       rest t (D.binding-default d u e) f = D.binding-rest-default (must-be-wider w f) t (D.binding-default d u e)
@@ -804,7 +802,7 @@ module _ {w : Width} {s : Sheet} {N : Type 0} {ask : Asks N} (h : Answers Any (G
       (λ inner d. giving _ _ (record { line = line (break-before s at) refl f; inner = inner .trees; body = D.concise-body (record { other = not-true (token s (at + 1) is LCurly) n }) d; is-row = refl })))
       (λ _. none _))
     where
-      line : (b : Bool) → break-before s at ≡ b → Fits w (if b then Rattle.rows.specs.Record.break-before-arrow at ∷ [] else []) → Unbroken w s at
+      line : (b : Bool) → break-before s at ≡ b → Fits w (if b then break-before-arrow at ∷ [] else []) → Unbroken w s at
       line true e f = broken (must-be-wider w f)
       line false e f = same-line (record { unbroken = e })
 

@@ -1,24 +1,22 @@
 -- What ECMA-262 derives as a target the plain reader reads as an expression, and that expression converts to the target's rows without a record: one record
 -- for what is shown of a nonterminal of 13.15.5, one lemma for each of its productions.
 -- Assumes nothing.
-use Prim.Native.Nat.{ℕ, zero, suc, _+_, _≤_, _<_}
+use Prim.Native.Nat.{ℕ, suc, _+_, _≤_}
 use mathlib.Core.Path.{_≡_, refl, sym, ap, _∙_, subst}
-use mathlib.Core.Bool.{Bool, true, false, not}
+use mathlib.Core.Bool.{Bool, true, false}
 use mathlib.Core.List.{List, [], _∷_, _++_}
 use native.Mathlib.Omega.{arith}
-use lib.Dec.{eqb, leb}
-use lib.ListN.{length}
-use borrow.Author.Tests.{eqb-true, ne-eqb, eq-eqb, leb-true, le-leb, lt-leb}
-use Rattle.tokens.specs.Bool.{_is_, _or_, _and_, if_then_else_, between}
+use lib.Dec.{leb}
+use borrow.Author.Tests.{ne-eqb, leb-true, le-leb, lt-leb}
+use Rattle.tokens.specs.Bool.{_is_, if_then_else_}
 use Rattle.tokens.specs.Kind.{LParen, RParen, LBrack, RBrack, LCurly, RCurly, Comma, Colon, Dot, Dot3, Arrow, Eq}
 use Rattle.tokens.specs.Token.{is-name, is-word, is-literal}
-use Rattle.operators.specs.Precedence.{level, expression-level}
 use Rattle.rows.specs.Tree.{Tree, Forest, node, nil, cons, one, join, count, kind-of}
 use Rattle.rows.specs.Row as Row
 use Rattle.rows.specs.Record.{Record}
 use Rattle.rows.proofs.Rows.{join-nil, join-assoc, count-join}
-use Rattle.targets.specs.Conversion.{Role, any, simple, element, last-element, property, last-property, value, name, same, turned, refused, turn, only, seen, as-simple, as-any, as-value, as-element, as-last-element, as-property, as-last-property, as-name, change, roles, over, both, last-of, last-or, is-array-or-object, inner-kind, inner-kinds, is-reference, array-argument, object-argument, convert-as, convert-kids}
-use Rattle.targets.specs.KidRoles.{elements, properties, key-and-value, name-and-initializer}
+use Rattle.targets.specs.Conversion.{Role, any, simple, element, last-element, property, last-property, value, turned, only, seen, as-simple, as-any, as-value, as-element, as-last-element, as-property, as-last-property, as-name, change, roles, over, both, is-array-or-object, inner-kind, inner-kinds, is-reference, array-argument, convert-as, convert-kids}
+use Rattle.targets.specs.KidRoles.{elements, properties}
 use Rattle.grammar.specs.Sheet.{Sheet, token, first-tree, leaf}
 use Rattle.grammar.specs.Job as J
 use Rattle.grammar.specs.Assignment.{is-assignment-operator}
@@ -27,12 +25,12 @@ use Rattle.standard.specs.Derives as D
 use Rattle.standard.specs.Derives.{Tok, Of, is-compound, is-prefix, is-update, Elision, ends-in-spread, array-row, object-row, standard, Derives}
 use Rattle.standard.specs.Levels.{past-levels}
 use Rattle.standard.specs.Roots.{not-both, spread-last, Each, each-one, each-more, Past, past}
-use Rattle.standard.specs.Convert.{Expected, as-target, as-simple-target, as-content, as-middle, as-last, simple-kind, alike, followed, followed-property, Holey, holey-middle, holey-last, hole-stays, holey, same-stays, Two, two}
-use Rattle.standard.specs.Brackets.{Opening, Ends, kind-ends, test-ends}
-use Rattle.standard.specs.Follow.{Closed, test-not, Tail, tail-by, tail-kind, closed-ends, is-operand, is-start, Operand, Start, as-start, operand-name, Second, no-async-name}
+use Rattle.standard.specs.Convert.{Expected, as-target, as-simple-target, as-content, as-middle, as-last, simple-kind, alike, followed, followed-property, Holey, holey-middle, hole-stays, holey, same-stays, Two, two}
+use Rattle.standard.specs.Brackets.{Opening}
+use Rattle.standard.specs.Follow.{Closed, test-not, tail-by, tail-kind, is-operand, is-start, Operand, Start, operand-name, Second, no-async-name}
 use Rattle.standard.specs.Rules as R
-use Rattle.standard.specs.Rules.{Reads, here}
-use Rattle.standard.specs.Parts.{past-head, ItemDone, PartDone, closed-comma, closed-bracket, closed-paren, closed-curly, array-empty-reads, array-list-reads, array-comma-reads, object-empty-reads, object-list-reads, object-comma-reads, Unlinked, ChainDone, LeftDone, UnaryDone, primary-chain, member-chain, index-chain, chain-left, left-unary, ShortDone, unary-short, ValueDone, short-value, AssignmentDone, past-value, ExpressionDone, no-comma-done, KeyDone, shorthand-part, cover-part, pair-part, spread-part}
+use Rattle.standard.specs.Rules.{Reads}
+use Rattle.standard.specs.Parts.{past-head, ItemDone, PartDone, closed-paren, array-empty-reads, array-list-reads, array-comma-reads, object-empty-reads, object-list-reads, object-comma-reads, ChainDone, LeftDone, primary-chain, member-chain, index-chain, chain-left, left-unary, unary-short, short-value, AssignmentDone, past-value, no-comma-done, KeyDone, shorthand-part, cover-part, pair-part, spread-part}
 
 -- CONVERSION, WHERE NOTHING IS SAID
 pub nothing-left : (a b : List Record) → [] ≡ a ++ b → a ≡ []
@@ -100,6 +98,7 @@ unfolding is-operand is-name is-literal
 curly-operand = refl
 
 -- SIMPLE TARGETS
+-- a simple target: an operand that is read and converts to it in each role
 pub record SimpleDone (s : Sheet) (i j : ℕ) (ts : Forest) : Type 0 where
   pub tree : Tree
   pub into : Tree
@@ -166,6 +165,7 @@ module _ {s : Sheet} where
       (rw (x .no-literal, x .turns as-simple-target)) (x .refers))
 
 -- ANY TARGETS
+-- a DestructuringAssignmentTarget: an operand that is read and converts to it as any target and as an element
 pub record TargetDone (s : Sheet) (i j : ℕ) (ts : Forest) : Type 0 where
   pub tree : Tree
   pub into : Tree
@@ -176,6 +176,7 @@ pub record TargetDone (s : Sheet) (i j : ℕ) (ts : Forest) : Type 0 where
   pub rest : array-argument tree ≡ []
   pub no-spread : kind-of tree is Row.Spread ≡ false
 
+-- an AssignmentPattern: a literal that is read and converts to it
 pub record PatternDone (s : Sheet) (i j : ℕ) (ts : Forest) : Type 0 where
   pub tree : Tree
   pub into : Tree
@@ -287,6 +288,7 @@ module _ {s : Sheet} where
       name-small k h = rw (le-leb 1 k (omega arith), lt-leb k 5 (omega arith))
 
 -- ELEMENTS
+-- an AssignmentElement: an AssignmentExpression that is read and converts to it in each role of an element
 pub record ElementDone (s : Sheet) (i j : ℕ) (ts : Forest) : Type 0 where
   pub tree : Tree
   pub into : Tree
@@ -450,6 +452,7 @@ module _ {s : Sheet} where
       (join-turns (y .trees) more vs (join hs (one (x .into))) (elements []) (only element) (before-more hs (x .tree)) (y .in-the-middle) (past-last hs (x .tree) (x .into) h (x .turns))))
 
 -- PROPERTIES
+-- an AssignmentProperty: a property that is read and converts to it
 pub record PropertyDone (s : Sheet) (i j : ℕ) (ts : Forest) : Type 0 where
   pub tree : Tree
   pub into : Tree
@@ -459,6 +462,7 @@ pub record PropertyDone (s : Sheet) (i j : ℕ) (ts : Forest) : Type 0 where
   pub at-the-end : convert-as tree (last-property []) ≡ turned into []
   pub no-spread : kind-of tree is Row.Spread ≡ false
 
+-- an AssignmentRestProperty: a spread that is read and converts to it
 pub record RestPropertyDone (s : Sheet) (i j : ℕ) (ts : Forest) : Type 0 where
   pub tree : Tree
   pub into : Tree

@@ -1,17 +1,16 @@
 -- UNAMBIGUOUS: the standard's grammar gives a list one tree at most, as an Expression and as a BindingElement. And the plain reader's clean readings are
 -- exactly the standard's derivations.
 -- Assumes nothing.
-use Prim.Native.Nat.{ℕ}
-use mathlib.Core.Path.{_≡_, refl, sym, ap, _∙_}
 use mathlib.Core.List.{[]}
+use Prim.Native.Nat.{ℕ}
+use mathlib.Core.Path.{_≡_, sym, ap}
 use mathlib.Core.Logic.{_↔_}
-use native.Mathlib.Omega.{arith}
 use lib.ListN.{length}
 use Rattle.rows.specs.Tree.{Tree, Forest, one}
-use Rattle.grammar.specs.Sheet.{Sheet, Out, done, first-tree}
+use Rattle.grammar.specs.Sheet.{Sheet, first-tree}
 use Rattle.grammar.specs.Job as J
 use Rattle.grammar.specs.Job.{Job}
-use Rattle.grammar.specs.Reading.{Whole, whole, plain, reading, plain-reading, plain-pattern}
+use Rattle.grammar.specs.Reading.{whole, plain, plain-reading, plain-pattern}
 use Rattle.laws.specs.Steady.{one-outcome}
 use Rattle.standard.specs.Derives.{Nonterminal, Expression, BindingElement, standard, Derives, Derived}
 use Rattle.standard.specs.Clean.{Standard, clean-expression, clean-binding}
