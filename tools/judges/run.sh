@@ -33,5 +33,8 @@ case ${1:-usual} in
     all) runs=("${small[@]}" matched:5:1 matched:6:0 matched:6:2 "random:${2:-1}:500000:100" "random:${2:-1}:500000:2048" "pattern:${2:-1}:100000:300") ;;
     *) runs=("$@") ;;
 esac
+# Long chains are read by recursion: as much stack as there is.
 ulimit -s unlimited 2> /dev/null || ulimit -s "$(ulimit -H -s)"
-exec nice -n 10 node --stack-size=50000 judge.js --reader "${READER:-$PWD/$root/bench/twin/target/release/twin}" "${runs[@]}"
+stack=$(ulimit -s)
+[ "$stack" != unlimited ] || stack=65536
+exec nice -n 10 node --stack-size=$((stack * 3 / 4)) judge.js --reader "${READER:-$PWD/$root/bench/twin/target/release/twin}" "${runs[@]}"
