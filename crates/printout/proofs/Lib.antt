@@ -1,2 +1,3 @@
+pub mod Room
 pub mod Showing
 pub mod Once

@@ -1,8 +1,9 @@
 -- What the box prints for the bytes of a file, any bytes at all, and what it leaves in the buffers that it is lent.
 -- Assumes nothing: these are definitions.
-use Prim.Native.Nat.{ℕ}
+use Prim.Native.Nat.{ℕ, _≤_}
 use mathlib.Core.Path.{_≡_}
 use mathlib.Core.List.{List}
+use lib.ListN.{length}
 use Rattle.making.specs.Lent.{Given, read-entry}
 use Rattle.making.specs.Post.{sheet-of}
 use Rattle.sheets.specs.Layout.{Sheet}
@@ -26,8 +27,10 @@ pub data Shows (bytes rows₀ records₀ text rows records : List ℕ) : Type 0 
   -- any other file
   no-sheet : (Sheet bytes → ⊥) → text ≡ bad-file → rows ≡ rows₀ → records ≡ records₀ → Shows bytes rows₀ records₀ text rows records
 
--- the text stands in the lent buffer, as far as it has room, and the answer says how long it is
+-- the text stands in the lent buffer, as far as it has room, and the answer says how long it is. No text is longer than 180,244 bytes: a first line of 20, and at
+-- most 2,048 rows of 66 bytes and as many records of 22
 pub record PrintsFile (bytes rows₀ records₀ out₀ rows records out : List ℕ) (answer : Printed) : Type 0 where
   pub text : List ℕ
   pub shows : Shows bytes rows₀ records₀ text rows records
   pub prints : Prints out₀ text out answer
+  pub room : length text ≤ 180244

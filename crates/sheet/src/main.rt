@@ -54,17 +54,16 @@ fn write(text: &[u8]) {
     }
 }
 
-// Prints what the box shows for the bytes of a file. No answer is longer than the buffer: 2,048 rows of at most 66 bytes and as many
-// records of at most 22.
+// Prints what the box shows for the bytes of a file. `print_file` promises that no text is longer than the buffer.
 fn print_bytes(bytes: &[u8]) {
     let mut rows = [0u32; 12288];
     let mut records = [0u32; 4096];
-    let mut out = [0u8; 196608];
+    let mut out = [0u8; 180244];
     let printed = printout::print_file(bytes, &mut rows, &mut records, &mut out);
     match printed {
         Printed::Whole(n) => write(&out[..n]),
         Printed::Short => {
-            io::write_all(STDERR_FILENO, b"sheet: the answer is too long\n");
+            io::write_all(STDERR_FILENO, b"sheet: the text is too long\n");
         }
     }
 }

@@ -3,3 +3,4 @@ pub mod Laying
 pub mod Lines
 pub mod Once
 pub mod Examples
+pub mod Room

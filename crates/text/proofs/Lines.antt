@@ -12,11 +12,11 @@ use Rattle.text.specs.declared.Pen.{Pen}
 use Rattle.text.proofs.Laying.{adds-none, adds-then, adds-past, adds-as}
 
 -- what is left of a line: so many words from a place on, at least one
-line-more : (words : List ℕ) (at left : ℕ) → line (words-from words at (suc (suc left))) ≡ (decimal (getD words at 0) ++ (space ∷ [])) ++ line (words-from words (at + 1) (suc left))
+pub line-more : (words : List ℕ) (at left : ℕ) → line (words-from words at (suc (suc left))) ≡ (decimal (getD words at 0) ++ (space ∷ [])) ++ line (words-from words (at + 1) (suc left))
 unfolding line words-from
 line-more words at left = sym (append-assoc (decimal (getD words at 0)) (space ∷ []) _)
 
-line-last : (words : List ℕ) (at : ℕ) → line (words-from words at 1) ≡ decimal (getD words at 0) ++ (newline ∷ [])
+pub line-last : (words : List ℕ) (at : ℕ) → line (words-from words at 1) ≡ decimal (getD words at 0) ++ (newline ∷ [])
 unfolding line words-from
 line-last words at = refl
 
@@ -79,11 +79,11 @@ listing-none {words} {out} {width} {count} =
     let f : count - 0 ≡ count = omega arith in
     record { inside = omega arith; long = refl; done = []; adds = adds-none; text = rw f refl }
 
-lines-more : (words : List ℕ) (width n left : ℕ) → lines-from words width n (suc left) ≡ line-of words width n ++ lines-from words width (n + 1) left
+pub lines-more : (words : List ℕ) (width n left : ℕ) → lines-from words width n (suc left) ≡ line-of words width n ++ lines-from words width (n + 1) left
 unfolding lines-from
 lines-more words width n left = refl
 
-lines-none : (words : List ℕ) (width n : ℕ) → lines-from words width n 0 ≡ []
+pub lines-none : (words : List ℕ) (width n : ℕ) → lines-from words width n 0 ≡ []
 unfolding lines-from
 lines-none words width n = refl
 

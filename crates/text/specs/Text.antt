@@ -17,12 +17,12 @@ abbrev pub ascii : String → List ℕ
 ascii Text.[] = []
 ascii (Text._∷_ c s) = code c ∷ ascii s
 
--- the digits of a number, at most so many of the last ones, with no zero in front
+-- the last digits of a number, at most so many, with no zero in front: 48 is the digit 0
 unfoldable pub last-digits : ℕ → ℕ → List ℕ
 last-digits zero n = []
 last-digits (suc count) n = (if ltb n 10 then [] else last-digits count (n / 10)) ++ ((48 + n % 10) ∷ [])
 
--- a decimal number; it has no more digits than one more than it counts
+-- a decimal number: all its digits, of which n has at most n + 1
 unfoldable pub decimal : ℕ → List ℕ
 decimal n = last-digits (suc n) n
 
@@ -43,11 +43,11 @@ unfoldable pub words-from : List ℕ → ℕ → ℕ → List ℕ
 words-from words at zero = []
 words-from words at (suc count) = getD words at 0 ∷ words-from words (at + 1) count
 
--- the line of a group of words, in groups of so many, counted from 0
+-- words in groups of a width, counted from 0: the line of the group n
 abbrev pub line-of : List ℕ → ℕ → ℕ → List ℕ
 line-of words width n = line (words-from words (width * n) width)
 
--- the lines of so many groups, from one on
+-- the lines of so many groups, from the group n on
 unfoldable pub lines-from : List ℕ → ℕ → ℕ → ℕ → List ℕ
 lines-from words width n zero = []
 lines-from words width n (suc count) = line-of words width n ++ lines-from words width (n + 1) count
