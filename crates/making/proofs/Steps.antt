@@ -30,6 +30,7 @@ pub mod Rest
 pub mod Root
 pub mod Shape
 pub mod Shared
+pub mod Singles
 pub mod Spread
 pub mod Unary
 pub mod Value

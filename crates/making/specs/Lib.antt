@@ -3,3 +3,4 @@ pub mod Heads
 pub mod Keys
 pub mod Operation
 pub mod Lent
+pub mod Singles

@@ -1,6 +1,6 @@
 // Where a reading is, what a part of it comes to, and the few ways in which rows are written.
 ghost use lib.ListN.{length};
-ghost use Rattle.making.specs.Post.{Leafed, LeafRoom, Topped, TopRoom, Said, SayRoom};
+ghost use Rattle.making.specs.Post.{cursor, Leafed, LeafRoom, Topped, TopRoom, Said, SayRoom};
 use tokens::cause::Cause;
 
 // The place of the next token, and how many rows and records are used.
@@ -22,18 +22,16 @@ pub enum Listed {
     Fail(Cause),
 }
 
-// A row over one token, with no kids.
-pub fn leaf(rows: &mut [u32], c: Cursor, kind: u32) -> Cursor
-    requires { ⌜ LeafRoom (length (now rows)) c ⌝ }
-    ensures { λ d. ⌜ Leafed (now (rows .entry)) c kind (now (rows .exit)) d ⌝ }
+// A row over one token, with no kids, where so many rows are made and so many records said.
+pub fn leaf(rows: &mut [u32], at: usize, made: usize, said: usize, kind: u32) -> Cursor
+    requires { ⌜ LeafRoom (length (now rows)) (cursor at made said) ⌝ }
+    ensures { λ d. ⌜ Leafed (now (rows .entry)) (cursor at made said) kind (now (rows .exit)) d ⌝ }
 {
-    let at = c.at;
-    let n = c.rows;
-    rows::push_row(rows, n, kind, at, at, at + 1, 0, 1);
+    rows::push_row(rows, made, kind, at, at, at + 1, 0, 1);
     Cursor {
         at: at + 1,
-        rows: n + 1,
-        records: c.records,
+        rows: made + 1,
+        records: said,
     }
 }
 

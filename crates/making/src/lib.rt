@@ -3,3 +3,4 @@ pub mod cursor;
 pub mod heads;
 pub mod keys;
 pub mod operation;
+pub mod singles;

@@ -8,7 +8,7 @@ ghost use Rattle.tokens.specs.declared.cause.Cause.{Cause};
 ghost use Rattle.rows.specs.Tree.{nil, one};
 ghost use Rattle.rows.specs.Row as Row;
 ghost use Rattle.grammar.specs.Job as Job;
-ghost use Rattle.making.specs.Post.{Room, Met, MetOver, MetAfter, MetList, MetClosed, MetInit, Operand, HeadFits, NameFits};
+ghost use Rattle.making.specs.Post.{cursor, Room, Met, MetOver, MetAfter, MetList, MetClosed, MetInit, Operand, HeadFits, NameFits};
 use making::cursor::Cursor;
 use making::cursor::Listed;
 use making::cursor::Step;
@@ -20,6 +20,7 @@ use making::heads::Head;
 use making::heads::Way;
 use making::keys;
 use making::operation;
+use making::singles;
 use rows::row;
 use targets::Conversion;
 use tokens::cause::Cause;
@@ -32,12 +33,14 @@ pub fn comma(
     rows: &mut [u32],
     records: &mut [u32],
     notes: &mut [u8; 2048],
-    c: Cursor,
+    at: usize,
+    made: usize,
+    said: usize,
 ) -> Step
-    requires { ⌜ Room (now kinds) (now rows) (now records) c ⌝ }
-    ensures { λ x. ⌜ Met (now (kinds .entry)) (now (flags .entry)) (now (rows .entry)) (now (records .entry)) (now (notes .entry)) (now (rows .exit)) (now (records .exit)) (now (notes .exit)) (Job.expression (c .at)) (c .rows) (c .records) x ⌝ }
+    requires { ⌜ Room (now kinds) (now rows) (now records) (cursor at made said) ⌝ }
+    ensures { λ x. ⌜ Met (now (kinds .entry)) (now (flags .entry)) (now (rows .entry)) (now (records .entry)) (now (notes .entry)) (now (rows .exit)) (now (records .exit)) (now (notes .exit)) (Job.expression at) made said x ⌝ }
 {
-    let got = assign(kinds, flags, rows, records, notes, c);
+    let got = assign(kinds, flags, rows, records, notes, at, made, said);
     let Step::Done(part) = got else {
         return got;
     };
@@ -48,16 +51,20 @@ pub fn comma(
     let mut here = part;
     let mut kids = 1;
     loop {
-        let at = here.at;
-        if tokens::kind_at(kinds, at) != kind::COMMA {
-            return Step::Done(over(rows, here, row::SEQUENCE, mark, c.at, at, kids, c.rows));
+        let place = here.at;
+        if tokens::kind_at(kinds, place) != kind::COMMA {
+            return Step::Done(over(rows, here, row::SEQUENCE, mark, at, place, kids, made));
         }
-        let next = Cursor {
-            at: at + 1,
-            rows: here.rows,
-            records: here.records,
-        };
-        let more = assign(kinds, flags, rows, records, notes, next);
+        let more = assign(
+            kinds,
+            flags,
+            rows,
+            records,
+            notes,
+            place + 1,
+            here.rows,
+            here.records,
+        );
         let Step::Done(d) = more else {
             return more;
         };
@@ -66,51 +73,90 @@ pub fn comma(
     }
 }
 
-// 13.15 AssignmentExpression: where a head could open, it is passed, tried or read for good.
+// 13.15 AssignmentExpression: one token that `,` `:` or a closing bracket follows, or any other.
 pub fn assign(
     kinds: &[u8],
     flags: &[u8],
     rows: &mut [u32],
     records: &mut [u32],
     notes: &mut [u8; 2048],
-    c: Cursor,
+    at: usize,
+    made: usize,
+    said: usize,
 ) -> Step
-    requires { ⌜ Room (now kinds) (now rows) (now records) c ⌝ }
-    ensures { λ x. ⌜ Met (now (kinds .entry)) (now (flags .entry)) (now (rows .entry)) (now (records .entry)) (now (notes .entry)) (now (rows .exit)) (now (records .exit)) (now (notes .exit)) (Job.assignment (c .at)) (c .rows) (c .records) x ⌝ }
+    requires { ⌜ Room (now kinds) (now rows) (now records) (cursor at made said) ⌝ }
+    ensures { λ x. ⌜ Met (now (kinds .entry)) (now (flags .entry)) (now (rows .entry)) (now (records .entry)) (now (notes .entry)) (now (rows .exit)) (now (records .exit)) (now (notes .exit)) (Job.assignment at) made said x ⌝ }
 {
-    let at = c.at;
+    let single = singles::single_part(kinds, at);
+    if single != 0 {
+        return Step::Done(leaf(rows, at, made, said, single));
+    }
+    arrow(kinds, flags, rows, records, notes, at, made, said)
+}
+
+// 13.15 AssignmentExpression: where a head could open, it is passed, tried or read for good.
+pub fn arrow(
+    kinds: &[u8],
+    flags: &[u8],
+    rows: &mut [u32],
+    records: &mut [u32],
+    notes: &mut [u8; 2048],
+    at: usize,
+    made: usize,
+    said: usize,
+) -> Step
+    requires { ⌜ Room (now kinds) (now rows) (now records) (cursor at made said) ⌝ }
+    ensures { λ x. ⌜ Met (now (kinds .entry)) (now (flags .entry)) (now (rows .entry)) (now (records .entry)) (now (notes .entry)) (now (rows .exit)) (now (records .exit)) (now (notes .exit)) (Job.assignment at) made said x ⌝ }
+{
     let way = heads::way_at(kinds, flags, notes, at);
     match way {
-        Way::Pass => value(kinds, flags, rows, records, notes, c),
+        Way::Pass => {}
         Way::Attempt => {
-            let got = head(kinds, flags, rows, records, notes, c);
+            let got = head(kinds, flags, rows, records, notes, at, made, said);
             match got {
                 Listed::Done(d, kids) => {
-                    let head = heads::head_of(kinds, at, c.rows, kids);
-                    body(kinds, flags, rows, records, notes, d, head)
+                    let head = heads::head_of(kinds, at, made, kids);
+                    return body(
+                        kinds,
+                        flags,
+                        rows,
+                        records,
+                        notes,
+                        d.at,
+                        d.rows,
+                        d.records,
+                        head,
+                    );
                 }
                 Listed::Fail(_) => {
                     notes[at] = 1;
-                    let again = Cursor {
-                        at,
-                        rows: c.rows,
-                        records: c.records,
-                    };
-                    value(kinds, flags, rows, records, notes, again)
                 }
             }
         }
         Way::Commit => {
-            let got = head(kinds, flags, rows, records, notes, c);
+            let got = head(kinds, flags, rows, records, notes, at, made, said);
             match got {
                 Listed::Done(d, kids) => {
-                    let head = heads::head_of(kinds, at, c.rows, kids);
-                    body(kinds, flags, rows, records, notes, d, head)
+                    let head = heads::head_of(kinds, at, made, kids);
+                    return body(
+                        kinds,
+                        flags,
+                        rows,
+                        records,
+                        notes,
+                        d.at,
+                        d.rows,
+                        d.records,
+                        head,
+                    );
                 }
-                Listed::Fail(cause) => Step::Fail(cause),
+                Listed::Fail(cause) => {
+                    return Step::Fail(cause);
+                }
             }
         }
     }
+    value(kinds, flags, rows, records, notes, at, made, said)
 }
 
 // The assignment level past a head: an async arrow of one name, or the binary level and what may follow it.
@@ -120,29 +166,34 @@ pub fn value(
     rows: &mut [u32],
     records: &mut [u32],
     notes: &mut [u8; 2048],
-    c: Cursor,
+    at: usize,
+    made: usize,
+    said: usize,
 ) -> Step
-    requires { ⌜ Room (now kinds) (now rows) (now records) c ⌝ }
-    ensures { λ x. ⌜ Met (now (kinds .entry)) (now (flags .entry)) (now (rows .entry)) (now (records .entry)) (now (notes .entry)) (now (rows .exit)) (now (records .exit)) (now (notes .exit)) (Job.value (c .at)) (c .rows) (c .records) x ⌝ }
+    requires { ⌜ Room (now kinds) (now rows) (now records) (cursor at made said) ⌝ }
+    ensures { λ x. ⌜ Met (now (kinds .entry)) (now (flags .entry)) (now (rows .entry)) (now (records .entry)) (now (notes .entry)) (now (rows .exit)) (now (records .exit)) (now (notes .exit)) (Job.value at) made said x ⌝ }
 {
-    let at = c.at;
-    let from = c.rows;
     if heads::is_async_name(kinds, flags, at) {
-        let name = Cursor {
-            at: at + 1,
-            rows: from,
-            records: c.records,
-        };
-        let d = leaf(rows, name, row::BINDING_NAME);
+        let d = leaf(rows, at + 1, made, said, row::BINDING_NAME);
         let head = Head {
             kind: row::ASYNC_ARROW,
             first: at,
-            from,
+            from: made,
             kids: 1,
         };
-        return body(kinds, flags, rows, records, notes, d, head);
+        return body(
+            kinds,
+            flags,
+            rows,
+            records,
+            notes,
+            d.at,
+            d.rows,
+            d.records,
+            head,
+        );
     }
-    let got = binary(kinds, flags, rows, records, notes, c, 0);
+    let got = binary(kinds, flags, rows, records, notes, at, made, said, 0);
     let Step::Done(d) = got else {
         return got;
     };
@@ -151,32 +202,54 @@ pub fn value(
     if next == kind::ARROW {
         let root = d.rows - 1;
         if rows::row_word(rows, root, 0) == row::IDENTIFIER {
-            let name = Cursor {
-                at,
-                rows: from,
-                records: d.records,
-            };
-            let read = leaf(rows, name, row::BINDING_NAME);
-            let mark = Cursor {
-                at: end,
-                rows: read.rows,
-                records: read.records,
-            };
+            let name = leaf(rows, at, made, d.records, row::BINDING_NAME);
             let head = Head {
                 kind: row::ARROW,
                 first: at,
-                from,
+                from: made,
                 kids: 1,
             };
-            return body(kinds, flags, rows, records, notes, mark, head);
+            return body(
+                kinds,
+                flags,
+                rows,
+                records,
+                notes,
+                end,
+                name.rows,
+                name.records,
+                head,
+            );
         }
         return got;
     }
     if operation::is_assignment_operator(next) {
-        return assigned(kinds, flags, rows, records, notes, d, at, from);
+        return assigned(
+            kinds,
+            flags,
+            rows,
+            records,
+            notes,
+            d.at,
+            d.rows,
+            d.records,
+            at,
+            made,
+        );
     }
     if next == kind::QUESTION {
-        return choice(kinds, flags, rows, records, notes, d, at, from);
+        return choice(
+            kinds,
+            flags,
+            rows,
+            records,
+            notes,
+            d.at,
+            d.rows,
+            d.records,
+            at,
+            made,
+        );
     }
     got
 }
@@ -188,28 +261,31 @@ pub fn assigned(
     rows: &mut [u32],
     records: &mut [u32],
     notes: &mut [u8; 2048],
-    c: Cursor,
+    at: usize,
+    made: usize,
+    said: usize,
     first: usize,
     from: usize,
 ) -> Step
-    requires { ⌜ Room (now kinds) (now rows) (now records) c ⌝ }
-    requires { ⌜ Operand (now kinds) (now rows) c first from ⌝ }
-    ensures { λ x. ⌜ MetOver (now (kinds .entry)) (now (flags .entry)) (now (rows .entry)) (now (records .entry)) (now (notes .entry)) (now (rows .exit)) (now (records .exit)) (now (notes .exit)) (Job.assign first (c .at)) from (c .rows) (c .records) x ⌝ }
+    requires { ⌜ Room (now kinds) (now rows) (now records) (cursor at made said) ⌝ }
+    requires { ⌜ Operand (now kinds) (now rows) (cursor at made said) first from ⌝ }
+    ensures { λ x. ⌜ MetOver (now (kinds .entry)) (now (flags .entry)) (now (rows .entry)) (now (records .entry)) (now (notes .entry)) (now (rows .exit)) (now (records .exit)) (now (notes .exit)) (Job.assign first at) from made said x ⌝ }
 {
-    let at = c.at;
     let plain = tokens::kind_at(kinds, at) == kind::EQ;
-    let left = c.rows;
-    let used = c.records;
-    let turned = targets::convert_row(rows, left - 1, !plain, records, used);
+    let turned = targets::convert_row(rows, made - 1, !plain, records, said);
     match turned {
         Conversion::Refused(cause) => Step::Fail(cause),
         Conversion::Turned(count) => {
-            let next = Cursor {
-                at: at + 1,
-                rows: left,
-                records: used + count,
-            };
-            let got = assign(kinds, flags, rows, records, notes, next);
+            let got = assign(
+                kinds,
+                flags,
+                rows,
+                records,
+                notes,
+                at + 1,
+                made,
+                said + count,
+            );
             let Step::Done(d) = got else {
                 return got;
             };
@@ -230,21 +306,17 @@ pub fn choice(
     rows: &mut [u32],
     records: &mut [u32],
     notes: &mut [u8; 2048],
-    c: Cursor,
+    at: usize,
+    made: usize,
+    said: usize,
     first: usize,
     from: usize,
 ) -> Step
-    requires { ⌜ Room (now kinds) (now rows) (now records) c ⌝ }
-    requires { ⌜ Operand (now kinds) (now rows) c first from ⌝ }
-    ensures { λ x. ⌜ MetOver (now (kinds .entry)) (now (flags .entry)) (now (rows .entry)) (now (records .entry)) (now (notes .entry)) (now (rows .exit)) (now (records .exit)) (now (notes .exit)) (Job.conditional first (c .at)) from (c .rows) (c .records) x ⌝ }
+    requires { ⌜ Room (now kinds) (now rows) (now records) (cursor at made said) ⌝ }
+    requires { ⌜ Operand (now kinds) (now rows) (cursor at made said) first from ⌝ }
+    ensures { λ x. ⌜ MetOver (now (kinds .entry)) (now (flags .entry)) (now (rows .entry)) (now (records .entry)) (now (notes .entry)) (now (rows .exit)) (now (records .exit)) (now (notes .exit)) (Job.conditional first at) from made said x ⌝ }
 {
-    let at = c.at;
-    let next = Cursor {
-        at: at + 1,
-        rows: c.rows,
-        records: c.records,
-    };
-    let got = assign(kinds, flags, rows, records, notes, next);
+    let got = assign(kinds, flags, rows, records, notes, at + 1, made, said);
     let Step::Done(d) = got else {
         return got;
     };
@@ -252,12 +324,16 @@ pub fn choice(
     if tokens::kind_at(kinds, colon) != kind::COLON {
         return Step::Fail(Cause::Unexpected(colon));
     }
-    let other = Cursor {
-        at: colon + 1,
-        rows: d.rows,
-        records: d.records,
-    };
-    let more = assign(kinds, flags, rows, records, notes, other);
+    let more = assign(
+        kinds,
+        flags,
+        rows,
+        records,
+        notes,
+        colon + 1,
+        d.rows,
+        d.records,
+    );
     let Step::Done(e) = more else {
         return more;
     };
@@ -271,12 +347,13 @@ pub fn head(
     rows: &mut [u32],
     records: &mut [u32],
     notes: &mut [u8; 2048],
-    c: Cursor,
+    at: usize,
+    made: usize,
+    said: usize,
 ) -> Listed
-    requires { ⌜ Room (now kinds) (now rows) (now records) c ⌝ }
-    ensures { λ x. ⌜ MetList (now (kinds .entry)) (now (flags .entry)) (now (rows .entry)) (now (records .entry)) (now (notes .entry)) (now (rows .exit)) (now (records .exit)) (now (notes .exit)) (Job.head (c .at)) (c .rows) (c .records) x ⌝ }
+    requires { ⌜ Room (now kinds) (now rows) (now records) (cursor at made said) ⌝ }
+    ensures { λ x. ⌜ MetList (now (kinds .entry)) (now (flags .entry)) (now (rows .entry)) (now (records .entry)) (now (notes .entry)) (now (rows .exit)) (now (records .exit)) (now (notes .exit)) (Job.head at) made said x ⌝ }
 {
-    let at = c.at;
     let mut open = at;
     if tokens::kind_at(kinds, at) == kind::ASYNC {
         open = at + 1;
@@ -287,12 +364,7 @@ pub fn head(
     if tokens::kind_at(kinds, open) != kind::L_PAREN {
         return Listed::Fail(Cause::Unexpected(open));
     }
-    let next = Cursor {
-        at: open + 1,
-        rows: c.rows,
-        records: c.records,
-    };
-    let got = params(kinds, flags, rows, records, notes, next);
+    let got = params(kinds, flags, rows, records, notes, open + 1, made, said);
     let Listed::Done(d, kids) = got else {
         return got;
     };
@@ -310,23 +382,39 @@ pub fn params(
     rows: &mut [u32],
     records: &mut [u32],
     notes: &mut [u8; 2048],
-    c: Cursor,
+    at: usize,
+    made: usize,
+    said: usize,
 ) -> Listed
-    requires { ⌜ Room (now kinds) (now rows) (now records) c ⌝ }
-    ensures { λ x. ⌜ MetList (now (kinds .entry)) (now (flags .entry)) (now (rows .entry)) (now (records .entry)) (now (notes .entry)) (now (rows .exit)) (now (records .exit)) (now (notes .exit)) (Job.parameters (c .at) nil) (c .rows) (c .records) x ⌝ }
+    requires { ⌜ Room (now kinds) (now rows) (now records) (cursor at made said) ⌝ }
+    ensures { λ x. ⌜ MetList (now (kinds .entry)) (now (flags .entry)) (now (rows .entry)) (now (records .entry)) (now (notes .entry)) (now (rows .exit)) (now (records .exit)) (now (notes .exit)) (Job.parameters at nil) made said x ⌝ }
 {
-    let mut here = c;
+    let mut here = Cursor {
+        at,
+        rows: made,
+        records: said,
+    };
     let mut kids = 0;
     loop {
-        let at = here.at;
-        let k = tokens::kind_at(kinds, at);
+        let place = here.at;
+        let k = tokens::kind_at(kinds, place);
         if k == kind::R_PAREN {
-            here.at = at + 1;
+            here.at = place + 1;
             break;
         }
         kids += 1;
         if k == kind::DOT3 {
-            let got = last(kinds, flags, rows, records, notes, here, kind::R_PAREN);
+            let got = last(
+                kinds,
+                flags,
+                rows,
+                records,
+                notes,
+                here.at,
+                here.rows,
+                here.records,
+                kind::R_PAREN,
+            );
             match got {
                 Step::Fail(cause) => {
                     return Listed::Fail(cause);
@@ -337,7 +425,16 @@ pub fn params(
             }
             break;
         }
-        let got = element(kinds, flags, rows, records, notes, here);
+        let got = element(
+            kinds,
+            flags,
+            rows,
+            records,
+            notes,
+            here.at,
+            here.rows,
+            here.records,
+        );
         match got {
             Step::Fail(cause) => {
                 return Listed::Fail(cause);
@@ -366,26 +463,36 @@ pub fn body(
     rows: &mut [u32],
     records: &mut [u32],
     notes: &mut [u8; 2048],
-    c: Cursor,
+    at: usize,
+    made: usize,
+    said: usize,
     head: Head,
 ) -> Step
-    requires { ⌜ Room (now kinds) (now rows) (now records) c ⌝ }
-    requires { ⌜ HeadFits (now kinds) c head ⌝ }
-    ensures { λ x. ⌜ MetAfter (now (kinds .entry)) (now (flags .entry)) (now (rows .entry)) (now (records .entry)) (now (notes .entry)) (now (rows .exit)) (now (records .exit)) (now (notes .exit)) (Job.body (head .kind) (head .first) (c .at)) (head .from) (c .rows) (head .kids) (c .records) x ⌝ }
+    requires { ⌜ Room (now kinds) (now rows) (now records) (cursor at made said) ⌝ }
+    requires { ⌜ HeadFits (now kinds) (cursor at made said) head ⌝ }
+    ensures { λ x. ⌜ MetAfter (now (kinds .entry)) (now (flags .entry)) (now (rows .entry)) (now (records .entry)) (now (notes .entry)) (now (rows .exit)) (now (records .exit)) (now (notes .exit)) (Job.body (head .kind) (head .first) at) (head .from) made (head .kids) said x ⌝ }
 {
-    let mark = c.at;
-    if tokens::kind_at(kinds, mark + 1) == kind::L_CURLY {
-        return Step::Fail(Cause::Unexpected(mark + 1));
+    if tokens::kind_at(kinds, at + 1) == kind::L_CURLY {
+        return Step::Fail(Cause::Unexpected(at + 1));
     }
     let mut next = Cursor {
-        at: mark + 1,
-        rows: c.rows,
-        records: c.records,
+        at: at + 1,
+        rows: made,
+        records: said,
     };
-    if tokens::flag_at(flags, mark) == 1 {
-        next = say(records, next, 1, mark);
+    if tokens::flag_at(flags, at) == 1 {
+        next = say(records, next, 1, at);
     }
-    let got = assign(kinds, flags, rows, records, notes, next);
+    let got = assign(
+        kinds,
+        flags,
+        rows,
+        records,
+        notes,
+        next.at,
+        next.rows,
+        next.records,
+    );
     let Step::Done(d) = got else {
         return got;
     };
@@ -393,7 +500,7 @@ pub fn body(
         rows,
         d,
         head.kind,
-        mark,
+        at,
         head.first,
         d.at,
         head.kids + 1,
@@ -408,43 +515,40 @@ pub fn binary(
     rows: &mut [u32],
     records: &mut [u32],
     notes: &mut [u8; 2048],
-    c: Cursor,
+    at: usize,
+    made: usize,
+    said: usize,
     floor: u8,
 ) -> Step
-    requires { ⌜ Room (now kinds) (now rows) (now records) c ⌝ }
-    ensures { λ x. ⌜ Met (now (kinds .entry)) (now (flags .entry)) (now (rows .entry)) (now (records .entry)) (now (notes .entry)) (now (rows .exit)) (now (records .exit)) (now (notes .exit)) (Job.binary floor (c .at)) (c .rows) (c .records) x ⌝ }
+    requires { ⌜ Room (now kinds) (now rows) (now records) (cursor at made said) ⌝ }
+    ensures { λ x. ⌜ Met (now (kinds .entry)) (now (flags .entry)) (now (rows .entry)) (now (records .entry)) (now (notes .entry)) (now (rows .exit)) (now (records .exit)) (now (notes .exit)) (Job.binary floor at) made said x ⌝ }
 {
-    let first = c.at;
-    let from = c.rows;
-    let got = unary(kinds, flags, rows, records, notes, c);
+    let got = unary(kinds, flags, rows, records, notes, at, made, said);
     let Step::Done(operand) = got else {
         return got;
     };
     let mut here = operand;
-    let mut at = operand.at;
-    let mut operator = tokens::kind_at(kinds, at);
+    let mut mark = operand.at;
+    let mut operator = tokens::kind_at(kinds, mark);
     while floor < operators::expression_precedence(operator) {
         let left = here.rows;
-        let next = Cursor {
-            at: at + 1,
-            rows: left,
-            records: here.records,
-        };
         let more = binary(
             kinds,
             flags,
             rows,
             records,
             notes,
-            next,
+            mark + 1,
+            left,
+            here.records,
             operation::right_floor(operator),
         );
         let Step::Done(d) = more else {
             return more;
         };
-        here = operation::finish(kinds, rows, records, d, at, first, left, from);
-        at = d.at;
-        operator = tokens::kind_at(kinds, at);
+        here = operation::finish(kinds, rows, records, d, mark, at, left, made);
+        mark = d.at;
+        operator = tokens::kind_at(kinds, mark);
     }
     Step::Done(here)
 }
@@ -456,31 +560,30 @@ pub fn unary(
     rows: &mut [u32],
     records: &mut [u32],
     notes: &mut [u8; 2048],
-    c: Cursor,
+    at: usize,
+    made: usize,
+    said: usize,
 ) -> Step
-    requires { ⌜ Room (now kinds) (now rows) (now records) c ⌝ }
-    ensures { λ x. ⌜ Met (now (kinds .entry)) (now (flags .entry)) (now (rows .entry)) (now (records .entry)) (now (notes .entry)) (now (rows .exit)) (now (records .exit)) (now (notes .exit)) (Job.unary (c .at)) (c .rows) (c .records) x ⌝ }
+    requires { ⌜ Room (now kinds) (now rows) (now records) (cursor at made said) ⌝ }
+    ensures { λ x. ⌜ Met (now (kinds .entry)) (now (flags .entry)) (now (rows .entry)) (now (records .entry)) (now (notes .entry)) (now (rows .exit)) (now (records .exit)) (now (notes .exit)) (Job.unary at) made said x ⌝ }
 {
-    let first = c.at;
-    let from = c.rows;
-    let mut at = first;
-    while operation::is_prefix_operator(tokens::kind_at(kinds, at)) {
-        at += 1;
+    let single = singles::single_operand(kinds, at);
+    if single != 0 {
+        return Step::Done(leaf(rows, at, made, said, single));
     }
-    let start = Cursor {
-        at,
-        rows: from,
-        records: c.records,
-    };
-    let got = left(kinds, flags, rows, records, notes, start);
+    let mut start = at;
+    while operation::is_prefix_operator(tokens::kind_at(kinds, start)) {
+        start += 1;
+    }
+    let got = left(kinds, flags, rows, records, notes, start, made, said);
     let Step::Done(d) = got else {
         return got;
     };
-    let operand = operation::postfix(kinds, flags, rows, records, d, at, from);
+    let operand = operation::postfix(kinds, flags, rows, records, d, start, made);
     let Step::Done(e) = operand else {
         return operand;
     };
-    operation::prefixes(kinds, rows, records, e, first, at, from)
+    operation::prefixes(kinds, rows, records, e, at, start, made)
 }
 
 // 13.3: a primary expression and the members, indexes and calls that follow it.
@@ -490,36 +593,57 @@ pub fn left(
     rows: &mut [u32],
     records: &mut [u32],
     notes: &mut [u8; 2048],
-    c: Cursor,
+    at: usize,
+    made: usize,
+    said: usize,
 ) -> Step
-    requires { ⌜ Room (now kinds) (now rows) (now records) c ⌝ }
-    ensures { λ x. ⌜ Met (now (kinds .entry)) (now (flags .entry)) (now (rows .entry)) (now (records .entry)) (now (notes .entry)) (now (rows .exit)) (now (records .exit)) (now (notes .exit)) (Job.left-hand-side (c .at)) (c .rows) (c .records) x ⌝ }
+    requires { ⌜ Room (now kinds) (now rows) (now records) (cursor at made said) ⌝ }
+    ensures { λ x. ⌜ Met (now (kinds .entry)) (now (flags .entry)) (now (rows .entry)) (now (records .entry)) (now (notes .entry)) (now (rows .exit)) (now (records .exit)) (now (notes .exit)) (Job.left-hand-side at) made said x ⌝ }
 {
-    let first = c.at;
-    let from = c.rows;
-    let got = primary(kinds, flags, rows, records, notes, c);
+    let got = primary(kinds, flags, rows, records, notes, at, made, said);
     let Step::Done(base) = got else {
         return got;
     };
     let mut here = base;
     loop {
-        let at = here.at;
-        match tokens::kind_at(kinds, at) {
+        let place = here.at;
+        match tokens::kind_at(kinds, place) {
             kind::DOT => {
-                if !tokens::is_word(tokens::kind_at(kinds, at + 1)) {
-                    return Step::Fail(Cause::Unexpected(at + 1));
+                if !tokens::is_word(tokens::kind_at(kinds, place + 1)) {
+                    return Step::Fail(Cause::Unexpected(place + 1));
                 }
-                here = over(rows, here, row::MEMBER, at + 1, first, at + 2, 1, from);
+                here = over(rows, here, row::MEMBER, place + 1, at, place + 2, 1, made);
             }
             kind::L_BRACK => {
-                let inner = inside(kinds, flags, rows, records, notes, here, kind::R_BRACK);
+                let inner = inside(
+                    kinds,
+                    flags,
+                    rows,
+                    records,
+                    notes,
+                    here.at,
+                    here.rows,
+                    here.records,
+                    kind::R_BRACK,
+                );
                 let Step::Done(d) = inner else {
                     return inner;
                 };
-                here = over(rows, d, row::INDEX, first, first, d.at, 2, from);
+                here = over(rows, d, row::INDEX, at, at, d.at, 2, made);
             }
             kind::L_PAREN => {
-                let call = args(kinds, flags, rows, records, notes, here, first, from);
+                let call = args(
+                    kinds,
+                    flags,
+                    rows,
+                    records,
+                    notes,
+                    here.at,
+                    here.rows,
+                    here.records,
+                    at,
+                    made,
+                );
                 let Step::Done(d) = call else {
                     return call;
                 };
@@ -539,26 +663,37 @@ pub fn args(
     rows: &mut [u32],
     records: &mut [u32],
     notes: &mut [u8; 2048],
-    c: Cursor,
+    at: usize,
+    made: usize,
+    said: usize,
     first: usize,
     from: usize,
 ) -> Step
-    requires { ⌜ Room (now kinds) (now rows) (now records) c ⌝ }
-    requires { ⌜ Operand (now kinds) (now rows) c first from ⌝ }
-    ensures { λ x. ⌜ MetOver (now (kinds .entry)) (now (flags .entry)) (now (rows .entry)) (now (records .entry)) (now (notes .entry)) (now (rows .exit)) (now (records .exit)) (now (notes .exit)) (λ left. Job.arguments first (c .at + 1) (one left)) from (c .rows) (c .records) x ⌝ }
+    requires { ⌜ Room (now kinds) (now rows) (now records) (cursor at made said) ⌝ }
+    requires { ⌜ Operand (now kinds) (now rows) (cursor at made said) first from ⌝ }
+    ensures { λ x. ⌜ MetOver (now (kinds .entry)) (now (flags .entry)) (now (rows .entry)) (now (records .entry)) (now (notes .entry)) (now (rows .exit)) (now (records .exit)) (now (notes .exit)) (λ left. Job.arguments first (at + 1) (one left)) from made said x ⌝ }
 {
     let mut here = Cursor {
-        at: c.at + 1,
-        rows: c.rows,
-        records: c.records,
+        at: at + 1,
+        rows: made,
+        records: said,
     };
     let mut kids = 1;
     let read = loop {
-        let at = here.at;
-        if tokens::kind_at(kinds, at) == kind::R_PAREN {
-            break over(rows, here, row::CALL, first, first, at + 1, kids, from);
+        let place = here.at;
+        if tokens::kind_at(kinds, place) == kind::R_PAREN {
+            break over(rows, here, row::CALL, first, first, place + 1, kids, from);
         }
-        let got = item(kinds, flags, rows, records, notes, here);
+        let got = item(
+            kinds,
+            flags,
+            rows,
+            records,
+            notes,
+            here.at,
+            here.rows,
+            here.records,
+        );
         let Step::Done(d) = got else {
             return got;
         };
@@ -587,19 +722,16 @@ pub fn inside(
     rows: &mut [u32],
     records: &mut [u32],
     notes: &mut [u8; 2048],
-    c: Cursor,
+    at: usize,
+    made: usize,
+    said: usize,
     close: u8,
 ) -> Step
-    requires { ⌜ Room (now kinds) (now rows) (now records) c ⌝ }
-    requires { ⌜ c .at < length (now kinds) ⌝ }
-    ensures { λ x. ⌜ MetClosed (now (kinds .entry)) (now (flags .entry)) (now (rows .entry)) (now (records .entry)) (now (notes .entry)) (now (rows .exit)) (now (records .exit)) (now (notes .exit)) (Job.expression (c .at + 1)) close Cause.Unexpected (c .rows) (c .records) x ⌝ }
+    requires { ⌜ Room (now kinds) (now rows) (now records) (cursor at made said) ⌝ }
+    requires { ⌜ at < length (now kinds) ⌝ }
+    ensures { λ x. ⌜ MetClosed (now (kinds .entry)) (now (flags .entry)) (now (rows .entry)) (now (records .entry)) (now (notes .entry)) (now (rows .exit)) (now (records .exit)) (now (notes .exit)) (Job.expression (at + 1)) close Cause.Unexpected made said x ⌝ }
 {
-    let next = Cursor {
-        at: c.at + 1,
-        rows: c.rows,
-        records: c.records,
-    };
-    let got = comma(kinds, flags, rows, records, notes, next);
+    let got = comma(kinds, flags, rows, records, notes, at + 1, made, said);
     let Step::Done(d) = got else {
         return got;
     };
@@ -621,32 +753,38 @@ pub fn primary(
     rows: &mut [u32],
     records: &mut [u32],
     notes: &mut [u8; 2048],
-    c: Cursor,
+    at: usize,
+    made: usize,
+    said: usize,
 ) -> Step
-    requires { ⌜ Room (now kinds) (now rows) (now records) c ⌝ }
-    ensures { λ x. ⌜ Met (now (kinds .entry)) (now (flags .entry)) (now (rows .entry)) (now (records .entry)) (now (notes .entry)) (now (rows .exit)) (now (records .exit)) (now (notes .exit)) (Job.primary (c .at)) (c .rows) (c .records) x ⌝ }
+    requires { ⌜ Room (now kinds) (now rows) (now records) (cursor at made said) ⌝ }
+    ensures { λ x. ⌜ Met (now (kinds .entry)) (now (flags .entry)) (now (rows .entry)) (now (records .entry)) (now (notes .entry)) (now (rows .exit)) (now (records .exit)) (now (notes .exit)) (Job.primary at) made said x ⌝ }
 {
-    let at = c.at;
     let k = tokens::kind_at(kinds, at);
-    if tokens::is_name(k) {
-        return Step::Done(leaf(rows, c, row::IDENTIFIER));
-    }
-    if k == kind::THIS {
-        return Step::Done(leaf(rows, c, row::THIS));
-    }
-    if tokens::is_literal(k) {
-        return Step::Done(leaf(rows, c, row::LITERAL));
+    let single = singles::single_row(k);
+    if single != 0 {
+        return Step::Done(leaf(rows, at, made, said, single));
     }
     match k {
         kind::L_PAREN => {
-            let got = inside(kinds, flags, rows, records, notes, c, kind::R_PAREN);
+            let got = inside(
+                kinds,
+                flags,
+                rows,
+                records,
+                notes,
+                at,
+                made,
+                said,
+                kind::R_PAREN,
+            );
             let Step::Done(d) = got else {
                 return got;
             };
-            Step::Done(over(rows, d, row::PAREN, at, at, d.at, 1, c.rows))
+            Step::Done(over(rows, d, row::PAREN, at, at, d.at, 1, made))
         }
-        kind::L_BRACK => array(kinds, flags, rows, records, notes, c),
-        kind::L_CURLY => object(kinds, flags, rows, records, notes, c),
+        kind::L_BRACK => array(kinds, flags, rows, records, notes, at, made, said),
+        kind::L_CURLY => object(kinds, flags, rows, records, notes, at, made, said),
         _ => Step::Fail(Cause::Unexpected(at)),
     }
 }
@@ -658,15 +796,17 @@ pub fn item(
     rows: &mut [u32],
     records: &mut [u32],
     notes: &mut [u8; 2048],
-    c: Cursor,
+    at: usize,
+    made: usize,
+    said: usize,
 ) -> Step
-    requires { ⌜ Room (now kinds) (now rows) (now records) c ⌝ }
-    ensures { λ x. ⌜ Met (now (kinds .entry)) (now (flags .entry)) (now (rows .entry)) (now (records .entry)) (now (notes .entry)) (now (rows .exit)) (now (records .exit)) (now (notes .exit)) (if getD (now (kinds .entry)) (c .at) 0 is Dot3 then Job.spread (c .at) else Job.assignment (c .at)) (c .rows) (c .records) x ⌝ }
+    requires { ⌜ Room (now kinds) (now rows) (now records) (cursor at made said) ⌝ }
+    ensures { λ x. ⌜ Met (now (kinds .entry)) (now (flags .entry)) (now (rows .entry)) (now (records .entry)) (now (notes .entry)) (now (rows .exit)) (now (records .exit)) (now (notes .exit)) (if getD (now (kinds .entry)) at 0 is Dot3 then Job.spread at else Job.assignment at) made said x ⌝ }
 {
-    if tokens::kind_at(kinds, c.at) == kind::DOT3 {
-        return spread(kinds, flags, rows, records, notes, c);
+    if tokens::kind_at(kinds, at) == kind::DOT3 {
+        return spread(kinds, flags, rows, records, notes, at, made, said);
     }
-    assign(kinds, flags, rows, records, notes, c)
+    assign(kinds, flags, rows, records, notes, at, made, said)
 }
 
 // 13.2.4 SpreadElement.
@@ -676,23 +816,19 @@ pub fn spread(
     rows: &mut [u32],
     records: &mut [u32],
     notes: &mut [u8; 2048],
-    c: Cursor,
+    at: usize,
+    made: usize,
+    said: usize,
 ) -> Step
-    requires { ⌜ Room (now kinds) (now rows) (now records) c ⌝ }
-    requires { ⌜ c .at < length (now kinds) ⌝ }
-    ensures { λ x. ⌜ Met (now (kinds .entry)) (now (flags .entry)) (now (rows .entry)) (now (records .entry)) (now (notes .entry)) (now (rows .exit)) (now (records .exit)) (now (notes .exit)) (Job.spread (c .at)) (c .rows) (c .records) x ⌝ }
+    requires { ⌜ Room (now kinds) (now rows) (now records) (cursor at made said) ⌝ }
+    requires { ⌜ at < length (now kinds) ⌝ }
+    ensures { λ x. ⌜ Met (now (kinds .entry)) (now (flags .entry)) (now (rows .entry)) (now (records .entry)) (now (notes .entry)) (now (rows .exit)) (now (records .exit)) (now (notes .exit)) (Job.spread at) made said x ⌝ }
 {
-    let at = c.at;
-    let next = Cursor {
-        at: at + 1,
-        rows: c.rows,
-        records: c.records,
-    };
-    let got = assign(kinds, flags, rows, records, notes, next);
+    let got = assign(kinds, flags, rows, records, notes, at + 1, made, said);
     let Step::Done(d) = got else {
         return got;
     };
-    Step::Done(over(rows, d, row::SPREAD, at, at, d.at, 1, c.rows))
+    Step::Done(over(rows, d, row::SPREAD, at, at, d.at, 1, made))
 }
 
 // 13.2.4 ArrayLiteral: elements and holes up to the `]`.
@@ -702,40 +838,50 @@ pub fn array(
     rows: &mut [u32],
     records: &mut [u32],
     notes: &mut [u8; 2048],
-    c: Cursor,
+    at: usize,
+    made: usize,
+    said: usize,
 ) -> Step
-    requires { ⌜ Room (now kinds) (now rows) (now records) c ⌝ }
-    requires { ⌜ c .at < length (now kinds) ⌝ }
-    ensures { λ x. ⌜ Met (now (kinds .entry)) (now (flags .entry)) (now (rows .entry)) (now (records .entry)) (now (notes .entry)) (now (rows .exit)) (now (records .exit)) (now (notes .exit)) (Job.elements (c .at) (c .at + 1) Row.Array nil) (c .rows) (c .records) x ⌝ }
+    requires { ⌜ Room (now kinds) (now rows) (now records) (cursor at made said) ⌝ }
+    requires { ⌜ at < length (now kinds) ⌝ }
+    ensures { λ x. ⌜ Met (now (kinds .entry)) (now (flags .entry)) (now (rows .entry)) (now (records .entry)) (now (notes .entry)) (now (rows .exit)) (now (records .exit)) (now (notes .exit)) (Job.elements at (at + 1) Row.Array nil) made said x ⌝ }
 {
-    let first = c.at;
     let mut here = Cursor {
-        at: first + 1,
-        rows: c.rows,
-        records: c.records,
+        at: at + 1,
+        rows: made,
+        records: said,
     };
     let mut kids = 0;
     let mut kind = row::ARRAY;
     let read = loop {
-        let at = here.at;
-        let k = tokens::kind_at(kinds, at);
+        let place = here.at;
+        let k = tokens::kind_at(kinds, place);
         if k == kind::R_BRACK {
-            break over(rows, here, kind, first, first, at + 1, kids, c.rows);
+            break over(rows, here, kind, at, at, place + 1, kids, made);
         }
         kind = row::ARRAY;
         kids += 1;
         if k == kind::COMMA {
-            here = leaf(rows, here, row::HOLE);
+            here = leaf(rows, here.at, here.rows, here.records, row::HOLE);
             continue;
         }
-        let got = item(kinds, flags, rows, records, notes, here);
+        let got = item(
+            kinds,
+            flags,
+            rows,
+            records,
+            notes,
+            here.at,
+            here.rows,
+            here.records,
+        );
         let Step::Done(d) = got else {
             return got;
         };
         let close = d.at;
         let next = tokens::kind_at(kinds, close);
         if next == kind::R_BRACK {
-            break over(rows, d, row::ARRAY, first, first, close + 1, kids, c.rows);
+            break over(rows, d, row::ARRAY, at, at, close + 1, kids, made);
         }
         if next != kind::COMMA {
             return Step::Fail(Cause::Unexpected(close));
@@ -759,36 +905,46 @@ pub fn object(
     rows: &mut [u32],
     records: &mut [u32],
     notes: &mut [u8; 2048],
-    c: Cursor,
+    at: usize,
+    made: usize,
+    said: usize,
 ) -> Step
-    requires { ⌜ Room (now kinds) (now rows) (now records) c ⌝ }
-    requires { ⌜ c .at < length (now kinds) ⌝ }
-    ensures { λ x. ⌜ Met (now (kinds .entry)) (now (flags .entry)) (now (rows .entry)) (now (records .entry)) (now (notes .entry)) (now (rows .exit)) (now (records .exit)) (now (notes .exit)) (Job.properties (c .at) (c .at + 1) Row.Object nil) (c .rows) (c .records) x ⌝ }
+    requires { ⌜ Room (now kinds) (now rows) (now records) (cursor at made said) ⌝ }
+    requires { ⌜ at < length (now kinds) ⌝ }
+    ensures { λ x. ⌜ Met (now (kinds .entry)) (now (flags .entry)) (now (rows .entry)) (now (records .entry)) (now (notes .entry)) (now (rows .exit)) (now (records .exit)) (now (notes .exit)) (Job.properties at (at + 1) Row.Object nil) made said x ⌝ }
 {
-    let first = c.at;
     let mut here = Cursor {
-        at: first + 1,
-        rows: c.rows,
-        records: c.records,
+        at: at + 1,
+        rows: made,
+        records: said,
     };
     let mut kids = 0;
     let mut kind = row::OBJECT;
     let read = loop {
-        let at = here.at;
-        let k = tokens::kind_at(kinds, at);
+        let place = here.at;
+        let k = tokens::kind_at(kinds, place);
         if k == kind::R_CURLY {
-            break over(rows, here, kind, first, first, at + 1, kids, c.rows);
+            break over(rows, here, kind, at, at, place + 1, kids, made);
         }
         kind = row::OBJECT;
         kids += 1;
-        let got = part(kinds, flags, rows, records, notes, here);
+        let got = part(
+            kinds,
+            flags,
+            rows,
+            records,
+            notes,
+            here.at,
+            here.rows,
+            here.records,
+        );
         let Step::Done(d) = got else {
             return got;
         };
         let close = d.at;
         let next = tokens::kind_at(kinds, close);
         if next == kind::R_CURLY {
-            break over(rows, d, row::OBJECT, first, first, close + 1, kids, c.rows);
+            break over(rows, d, row::OBJECT, at, at, close + 1, kids, made);
         }
         if next != kind::COMMA {
             return Step::Fail(Cause::Unexpected(close));
@@ -812,16 +968,18 @@ pub fn part(
     rows: &mut [u32],
     records: &mut [u32],
     notes: &mut [u8; 2048],
-    c: Cursor,
+    at: usize,
+    made: usize,
+    said: usize,
 ) -> Step
-    requires { ⌜ Room (now kinds) (now rows) (now records) c ⌝ }
-    requires { ⌜ c .rows < c .at ⌝ }
-    ensures { λ x. ⌜ Met (now (kinds .entry)) (now (flags .entry)) (now (rows .entry)) (now (records .entry)) (now (notes .entry)) (now (rows .exit)) (now (records .exit)) (now (notes .exit)) (if getD (now (kinds .entry)) (c .at) 0 is Dot3 then Job.spread (c .at) else Job.property (c .at)) (c .rows) (c .records) x ⌝ }
+    requires { ⌜ Room (now kinds) (now rows) (now records) (cursor at made said) ⌝ }
+    requires { ⌜ made < at ⌝ }
+    ensures { λ x. ⌜ Met (now (kinds .entry)) (now (flags .entry)) (now (rows .entry)) (now (records .entry)) (now (notes .entry)) (now (rows .exit)) (now (records .exit)) (now (notes .exit)) (if getD (now (kinds .entry)) at 0 is Dot3 then Job.spread at else Job.property at) made said x ⌝ }
 {
-    if tokens::kind_at(kinds, c.at) == kind::DOT3 {
-        return spread(kinds, flags, rows, records, notes, c);
+    if tokens::kind_at(kinds, at) == kind::DOT3 {
+        return spread(kinds, flags, rows, records, notes, at, made, said);
     }
-    property(kinds, flags, rows, records, notes, c)
+    property(kinds, flags, rows, records, notes, at, made, said)
 }
 
 // 13.2.5 PropertyDefinition: a shorthand, or a key with its value.
@@ -831,17 +989,18 @@ pub fn property(
     rows: &mut [u32],
     records: &mut [u32],
     notes: &mut [u8; 2048],
-    c: Cursor,
+    at: usize,
+    made: usize,
+    said: usize,
 ) -> Step
-    requires { ⌜ Room (now kinds) (now rows) (now records) c ⌝ }
-    requires { ⌜ c .rows < c .at ⌝ }
-    ensures { λ x. ⌜ Met (now (kinds .entry)) (now (flags .entry)) (now (rows .entry)) (now (records .entry)) (now (notes .entry)) (now (rows .exit)) (now (records .exit)) (now (notes .exit)) (Job.property (c .at)) (c .rows) (c .records) x ⌝ }
+    requires { ⌜ Room (now kinds) (now rows) (now records) (cursor at made said) ⌝ }
+    requires { ⌜ made < at ⌝ }
+    ensures { λ x. ⌜ Met (now (kinds .entry)) (now (flags .entry)) (now (rows .entry)) (now (records .entry)) (now (notes .entry)) (now (rows .exit)) (now (records .exit)) (now (notes .exit)) (Job.property at) made said x ⌝ }
 {
-    let at = c.at;
     if keys::is_shorthand(kinds, at) {
-        let d = leaf(rows, c, row::IDENTIFIER);
+        let d = leaf(rows, at, made, said, row::IDENTIFIER);
         if tokens::kind_at(kinds, at + 1) != kind::EQ {
-            return Step::Done(over(rows, d, row::SHORTHAND, at, at, at + 1, 1, c.rows));
+            return Step::Done(over(rows, d, row::SHORTHAND, at, at, at + 1, 1, made));
         }
         return init(
             kinds,
@@ -849,12 +1008,14 @@ pub fn property(
             rows,
             records,
             notes,
-            d,
+            d.at,
+            d.rows,
+            d.records,
             row::SHORTHAND_INIT,
-            c.rows,
+            made,
         );
     }
-    let got = key(kinds, flags, rows, records, notes, c);
+    let got = key(kinds, flags, rows, records, notes, at, made, said);
     let Step::Done(d) = got else {
         return got;
     };
@@ -862,16 +1023,20 @@ pub fn property(
     if tokens::kind_at(kinds, colon) != kind::COLON {
         return Step::Fail(Cause::Unexpected(colon));
     }
-    let next = Cursor {
-        at: colon + 1,
-        rows: d.rows,
-        records: d.records,
-    };
-    let more = assign(kinds, flags, rows, records, notes, next);
+    let more = assign(
+        kinds,
+        flags,
+        rows,
+        records,
+        notes,
+        colon + 1,
+        d.rows,
+        d.records,
+    );
     let Step::Done(e) = more else {
         return more;
     };
-    Step::Done(over(rows, e, row::PROPERTY, at, at, e.at, 2, c.rows))
+    Step::Done(over(rows, e, row::PROPERTY, at, at, e.at, 2, made))
 }
 
 // A name's initializer, from its `=` on: the name's row stands at `from`, and its token just before.
@@ -881,25 +1046,21 @@ pub fn init(
     rows: &mut [u32],
     records: &mut [u32],
     notes: &mut [u8; 2048],
-    c: Cursor,
+    at: usize,
+    made: usize,
+    said: usize,
     kind: u32,
     from: usize,
 ) -> Step
-    requires { ⌜ Room (now kinds) (now rows) (now records) c ⌝ }
-    requires { ⌜ NameFits (now kinds) c from ⌝ }
-    ensures { λ x. ⌜ MetInit (now (kinds .entry)) (now (flags .entry)) (now (rows .entry)) (now (records .entry)) (now (notes .entry)) (now (rows .exit)) (now (records .exit)) (now (notes .exit)) (c .at) kind from (c .rows) (c .records) x ⌝ }
+    requires { ⌜ Room (now kinds) (now rows) (now records) (cursor at made said) ⌝ }
+    requires { ⌜ NameFits (now kinds) (cursor at made said) from ⌝ }
+    ensures { λ x. ⌜ MetInit (now (kinds .entry)) (now (flags .entry)) (now (rows .entry)) (now (records .entry)) (now (notes .entry)) (now (rows .exit)) (now (records .exit)) (now (notes .exit)) at kind from made said x ⌝ }
 {
-    let mark = c.at;
-    let next = Cursor {
-        at: mark + 1,
-        rows: c.rows,
-        records: c.records,
-    };
-    let got = assign(kinds, flags, rows, records, notes, next);
+    let got = assign(kinds, flags, rows, records, notes, at + 1, made, said);
     let Step::Done(d) = got else {
         return got;
     };
-    Step::Done(over(rows, d, kind, mark, mark - 1, d.at, 2, from))
+    Step::Done(over(rows, d, kind, at, at - 1, d.at, 2, from))
 }
 
 // 13.2.5 PropertyName: a word, a string, a number, or `[` an AssignmentExpression `]`.
@@ -909,25 +1070,21 @@ pub fn key(
     rows: &mut [u32],
     records: &mut [u32],
     notes: &mut [u8; 2048],
-    c: Cursor,
+    at: usize,
+    made: usize,
+    said: usize,
 ) -> Step
-    requires { ⌜ Room (now kinds) (now rows) (now records) c ⌝ }
-    ensures { λ x. ⌜ Met (now (kinds .entry)) (now (flags .entry)) (now (rows .entry)) (now (records .entry)) (now (notes .entry)) (now (rows .exit)) (now (records .exit)) (now (notes .exit)) (Job.key (c .at)) (c .rows) (c .records) x ⌝ }
+    requires { ⌜ Room (now kinds) (now rows) (now records) (cursor at made said) ⌝ }
+    ensures { λ x. ⌜ Met (now (kinds .entry)) (now (flags .entry)) (now (rows .entry)) (now (records .entry)) (now (notes .entry)) (now (rows .exit)) (now (records .exit)) (now (notes .exit)) (Job.key at) made said x ⌝ }
 {
-    let at = c.at;
     let k = tokens::kind_at(kinds, at);
     if keys::is_key(k) {
-        return Step::Done(leaf(rows, c, row::KEY));
+        return Step::Done(leaf(rows, at, made, said, row::KEY));
     }
     if k != kind::L_BRACK {
         return Step::Fail(Cause::Unexpected(at));
     }
-    let next = Cursor {
-        at: at + 1,
-        rows: c.rows,
-        records: c.records,
-    };
-    let got = assign(kinds, flags, rows, records, notes, next);
+    let got = assign(kinds, flags, rows, records, notes, at + 1, made, said);
     let Step::Done(d) = got else {
         return got;
     };
@@ -935,7 +1092,7 @@ pub fn key(
     if tokens::kind_at(kinds, end) != kind::R_BRACK {
         return Step::Fail(Cause::Unexpected(end));
     }
-    Step::Done(over(rows, d, row::COMPUTED_KEY, at, at, end + 1, 1, c.rows))
+    Step::Done(over(rows, d, row::COMPUTED_KEY, at, at, end + 1, 1, made))
 }
 
 // 14.3.3 BindingPattern, or a BindingIdentifier.
@@ -945,19 +1102,20 @@ pub fn binding(
     rows: &mut [u32],
     records: &mut [u32],
     notes: &mut [u8; 2048],
-    c: Cursor,
+    at: usize,
+    made: usize,
+    said: usize,
 ) -> Step
-    requires { ⌜ Room (now kinds) (now rows) (now records) c ⌝ }
-    ensures { λ x. ⌜ Met (now (kinds .entry)) (now (flags .entry)) (now (rows .entry)) (now (records .entry)) (now (notes .entry)) (now (rows .exit)) (now (records .exit)) (now (notes .exit)) (Job.binding (c .at)) (c .rows) (c .records) x ⌝ }
+    requires { ⌜ Room (now kinds) (now rows) (now records) (cursor at made said) ⌝ }
+    ensures { λ x. ⌜ Met (now (kinds .entry)) (now (flags .entry)) (now (rows .entry)) (now (records .entry)) (now (notes .entry)) (now (rows .exit)) (now (records .exit)) (now (notes .exit)) (Job.binding at) made said x ⌝ }
 {
-    let at = c.at;
     let k = tokens::kind_at(kinds, at);
     if tokens::is_name(k) {
-        return Step::Done(leaf(rows, c, row::BINDING_NAME));
+        return Step::Done(leaf(rows, at, made, said, row::BINDING_NAME));
     }
     match k {
-        kind::L_BRACK => barray(kinds, flags, rows, records, notes, c),
-        kind::L_CURLY => bobject(kinds, flags, rows, records, notes, c),
+        kind::L_BRACK => barray(kinds, flags, rows, records, notes, at, made, said),
+        kind::L_CURLY => bobject(kinds, flags, rows, records, notes, at, made, said),
         _ => Step::Fail(Cause::Unexpected(at)),
     }
 }
@@ -969,13 +1127,14 @@ pub fn element(
     rows: &mut [u32],
     records: &mut [u32],
     notes: &mut [u8; 2048],
-    c: Cursor,
+    at: usize,
+    made: usize,
+    said: usize,
 ) -> Step
-    requires { ⌜ Room (now kinds) (now rows) (now records) c ⌝ }
-    ensures { λ x. ⌜ Met (now (kinds .entry)) (now (flags .entry)) (now (rows .entry)) (now (records .entry)) (now (notes .entry)) (now (rows .exit)) (now (records .exit)) (now (notes .exit)) (Job.binding-element (c .at)) (c .rows) (c .records) x ⌝ }
+    requires { ⌜ Room (now kinds) (now rows) (now records) (cursor at made said) ⌝ }
+    ensures { λ x. ⌜ Met (now (kinds .entry)) (now (flags .entry)) (now (rows .entry)) (now (records .entry)) (now (notes .entry)) (now (rows .exit)) (now (records .exit)) (now (notes .exit)) (Job.binding-element at) made said x ⌝ }
 {
-    let at = c.at;
-    let got = binding(kinds, flags, rows, records, notes, c);
+    let got = binding(kinds, flags, rows, records, notes, at, made, said);
     let Step::Done(d) = got else {
         return got;
     };
@@ -983,16 +1142,20 @@ pub fn element(
     if tokens::kind_at(kinds, mark) != kind::EQ {
         return got;
     }
-    let next = Cursor {
-        at: mark + 1,
-        rows: d.rows,
-        records: d.records,
-    };
-    let more = assign(kinds, flags, rows, records, notes, next);
+    let more = assign(
+        kinds,
+        flags,
+        rows,
+        records,
+        notes,
+        mark + 1,
+        d.rows,
+        d.records,
+    );
     let Step::Done(e) = more else {
         return more;
     };
-    Step::Done(over(rows, e, row::BINDING_DEFAULT, mark, at, e.at, 2, c.rows))
+    Step::Done(over(rows, e, row::BINDING_DEFAULT, mark, at, e.at, 2, made))
 }
 
 // 14.3.3 BindingRestElement: an initializer is record 2 at its `=`.
@@ -1002,29 +1165,25 @@ pub fn rest(
     rows: &mut [u32],
     records: &mut [u32],
     notes: &mut [u8; 2048],
-    c: Cursor,
+    at: usize,
+    made: usize,
+    said: usize,
 ) -> Step
-    requires { ⌜ Room (now kinds) (now rows) (now records) c ⌝ }
-    requires { ⌜ c .at < length (now kinds) ⌝ }
-    ensures { λ x. ⌜ Met (now (kinds .entry)) (now (flags .entry)) (now (rows .entry)) (now (records .entry)) (now (notes .entry)) (now (rows .exit)) (now (records .exit)) (now (notes .exit)) (Job.binding-rest (c .at)) (c .rows) (c .records) x ⌝ }
+    requires { ⌜ Room (now kinds) (now rows) (now records) (cursor at made said) ⌝ }
+    requires { ⌜ at < length (now kinds) ⌝ }
+    ensures { λ x. ⌜ Met (now (kinds .entry)) (now (flags .entry)) (now (rows .entry)) (now (records .entry)) (now (notes .entry)) (now (rows .exit)) (now (records .exit)) (now (notes .exit)) (Job.binding-rest at) made said x ⌝ }
 {
-    let at = c.at;
-    let next = Cursor {
-        at: at + 1,
-        rows: c.rows,
-        records: c.records,
-    };
-    let got = element(kinds, flags, rows, records, notes, next);
+    let got = element(kinds, flags, rows, records, notes, at + 1, made, said);
     let Step::Done(d) = got else {
         return got;
     };
     let root = d.rows - 1;
     if rows::row_word(rows, root, 0) != row::BINDING_DEFAULT {
-        return Step::Done(over(rows, d, row::BINDING_REST, at, at, d.at, 1, c.rows));
+        return Step::Done(over(rows, d, row::BINDING_REST, at, at, d.at, 1, made));
     }
     let mark = rows::row_word(rows, root, 1) as usize;
     let here = say(records, d, 2, mark);
-    Step::Done(over(rows, here, row::BINDING_REST, at, at, here.at, 1, c.rows))
+    Step::Done(over(rows, here, row::BINDING_REST, at, at, here.at, 1, made))
 }
 
 // A rest and its closing token, or 12.
@@ -1034,14 +1193,16 @@ pub fn last(
     rows: &mut [u32],
     records: &mut [u32],
     notes: &mut [u8; 2048],
-    c: Cursor,
+    at: usize,
+    made: usize,
+    said: usize,
     close: u8,
 ) -> Step
-    requires { ⌜ Room (now kinds) (now rows) (now records) c ⌝ }
-    requires { ⌜ c .at < length (now kinds) ⌝ }
-    ensures { λ x. ⌜ MetClosed (now (kinds .entry)) (now (flags .entry)) (now (rows .entry)) (now (records .entry)) (now (notes .entry)) (now (rows .exit)) (now (records .exit)) (now (notes .exit)) (Job.binding-rest (c .at)) close Cause.RestLast (c .rows) (c .records) x ⌝ }
+    requires { ⌜ Room (now kinds) (now rows) (now records) (cursor at made said) ⌝ }
+    requires { ⌜ at < length (now kinds) ⌝ }
+    ensures { λ x. ⌜ MetClosed (now (kinds .entry)) (now (flags .entry)) (now (rows .entry)) (now (records .entry)) (now (notes .entry)) (now (rows .exit)) (now (records .exit)) (now (notes .exit)) (Job.binding-rest at) close Cause.RestLast made said x ⌝ }
 {
-    let got = rest(kinds, flags, rows, records, notes, c);
+    let got = rest(kinds, flags, rows, records, notes, at, made, said);
     let Step::Done(d) = got else {
         return got;
     };
@@ -1063,64 +1224,74 @@ pub fn barray(
     rows: &mut [u32],
     records: &mut [u32],
     notes: &mut [u8; 2048],
-    c: Cursor,
+    at: usize,
+    made: usize,
+    said: usize,
 ) -> Step
-    requires { ⌜ Room (now kinds) (now rows) (now records) c ⌝ }
-    requires { ⌜ c .at < length (now kinds) ⌝ }
-    ensures { λ x. ⌜ Met (now (kinds .entry)) (now (flags .entry)) (now (rows .entry)) (now (records .entry)) (now (notes .entry)) (now (rows .exit)) (now (records .exit)) (now (notes .exit)) (Job.binding-elements (c .at) (c .at + 1) nil) (c .rows) (c .records) x ⌝ }
+    requires { ⌜ Room (now kinds) (now rows) (now records) (cursor at made said) ⌝ }
+    requires { ⌜ at < length (now kinds) ⌝ }
+    ensures { λ x. ⌜ Met (now (kinds .entry)) (now (flags .entry)) (now (rows .entry)) (now (records .entry)) (now (notes .entry)) (now (rows .exit)) (now (records .exit)) (now (notes .exit)) (Job.binding-elements at (at + 1) nil) made said x ⌝ }
 {
-    let first = c.at;
-    let from = c.rows;
     let mut here = Cursor {
-        at: first + 1,
-        rows: c.rows,
-        records: c.records,
+        at: at + 1,
+        rows: made,
+        records: said,
     };
     let mut kids = 0;
     let read = loop {
-        let at = here.at;
-        let k = tokens::kind_at(kinds, at);
+        let place = here.at;
+        let k = tokens::kind_at(kinds, place);
         if k == kind::R_BRACK {
             break over(
                 rows,
                 here,
                 row::BINDING_ARRAY,
-                first,
-                first,
-                at + 1,
+                at,
+                at,
+                place + 1,
                 kids,
-                from,
+                made,
             );
         }
         kids += 1;
         if k == kind::COMMA {
-            here = leaf(rows, here, row::HOLE);
+            here = leaf(rows, here.at, here.rows, here.records, row::HOLE);
             continue;
         }
         if k == kind::DOT3 {
-            let got = last(kinds, flags, rows, records, notes, here, kind::R_BRACK);
+            let got = last(
+                kinds,
+                flags,
+                rows,
+                records,
+                notes,
+                here.at,
+                here.rows,
+                here.records,
+                kind::R_BRACK,
+            );
             let Step::Done(d) = got else {
                 return got;
             };
-            break over(rows, d, row::BINDING_ARRAY, first, first, d.at, kids, from);
+            break over(rows, d, row::BINDING_ARRAY, at, at, d.at, kids, made);
         }
-        let got = element(kinds, flags, rows, records, notes, here);
+        let got = element(
+            kinds,
+            flags,
+            rows,
+            records,
+            notes,
+            here.at,
+            here.rows,
+            here.records,
+        );
         let Step::Done(d) = got else {
             return got;
         };
         let close = d.at;
         let next = tokens::kind_at(kinds, close);
         if next == kind::R_BRACK {
-            break over(
-                rows,
-                d,
-                row::BINDING_ARRAY,
-                first,
-                first,
-                close + 1,
-                kids,
-                from,
-            );
+            break over(rows, d, row::BINDING_ARRAY, at, at, close + 1, kids, made);
         }
         if next != kind::COMMA {
             return Step::Fail(Cause::Unexpected(close));
@@ -1141,63 +1312,73 @@ pub fn bobject(
     rows: &mut [u32],
     records: &mut [u32],
     notes: &mut [u8; 2048],
-    c: Cursor,
+    at: usize,
+    made: usize,
+    said: usize,
 ) -> Step
-    requires { ⌜ Room (now kinds) (now rows) (now records) c ⌝ }
-    requires { ⌜ c .at < length (now kinds) ⌝ }
-    ensures { λ x. ⌜ Met (now (kinds .entry)) (now (flags .entry)) (now (rows .entry)) (now (records .entry)) (now (notes .entry)) (now (rows .exit)) (now (records .exit)) (now (notes .exit)) (Job.binding-properties (c .at) (c .at + 1) nil) (c .rows) (c .records) x ⌝ }
+    requires { ⌜ Room (now kinds) (now rows) (now records) (cursor at made said) ⌝ }
+    requires { ⌜ at < length (now kinds) ⌝ }
+    ensures { λ x. ⌜ Met (now (kinds .entry)) (now (flags .entry)) (now (rows .entry)) (now (records .entry)) (now (notes .entry)) (now (rows .exit)) (now (records .exit)) (now (notes .exit)) (Job.binding-properties at (at + 1) nil) made said x ⌝ }
 {
-    let first = c.at;
-    let from = c.rows;
     let mut here = Cursor {
-        at: first + 1,
-        rows: c.rows,
-        records: c.records,
+        at: at + 1,
+        rows: made,
+        records: said,
     };
     let mut kids = 0;
     let read = loop {
-        let at = here.at;
-        let k = tokens::kind_at(kinds, at);
+        let place = here.at;
+        let k = tokens::kind_at(kinds, place);
         if k == kind::R_CURLY {
             break over(
                 rows,
                 here,
                 row::BINDING_OBJECT,
-                first,
-                first,
-                at + 1,
+                at,
+                at,
+                place + 1,
                 kids,
-                from,
+                made,
             );
         }
         kids += 1;
         if k == kind::DOT3 {
-            let got = last(kinds, flags, rows, records, notes, here, kind::R_CURLY);
+            let got = last(
+                kinds,
+                flags,
+                rows,
+                records,
+                notes,
+                here.at,
+                here.rows,
+                here.records,
+                kind::R_CURLY,
+            );
             let Step::Done(d) = got else {
                 return got;
             };
             if rows::row_word(rows, d.rows - 2, 0) != row::BINDING_NAME {
-                return Step::Fail(Cause::RestName(at + 1));
+                return Step::Fail(Cause::RestName(place + 1));
             }
-            break over(rows, d, row::BINDING_OBJECT, first, first, d.at, kids, from);
+            break over(rows, d, row::BINDING_OBJECT, at, at, d.at, kids, made);
         }
-        let got = bproperty(kinds, flags, rows, records, notes, here);
+        let got = bproperty(
+            kinds,
+            flags,
+            rows,
+            records,
+            notes,
+            here.at,
+            here.rows,
+            here.records,
+        );
         let Step::Done(d) = got else {
             return got;
         };
         let close = d.at;
         let next = tokens::kind_at(kinds, close);
         if next == kind::R_CURLY {
-            break over(
-                rows,
-                d,
-                row::BINDING_OBJECT,
-                first,
-                first,
-                close + 1,
-                kids,
-                from,
-            );
+            break over(rows, d, row::BINDING_OBJECT, at, at, close + 1, kids, made);
         }
         if next != kind::COMMA {
             return Step::Fail(Cause::Unexpected(close));
@@ -1218,17 +1399,18 @@ pub fn bproperty(
     rows: &mut [u32],
     records: &mut [u32],
     notes: &mut [u8; 2048],
-    c: Cursor,
+    at: usize,
+    made: usize,
+    said: usize,
 ) -> Step
-    requires { ⌜ Room (now kinds) (now rows) (now records) c ⌝ }
-    requires { ⌜ c .rows < c .at ⌝ }
-    ensures { λ x. ⌜ Met (now (kinds .entry)) (now (flags .entry)) (now (rows .entry)) (now (records .entry)) (now (notes .entry)) (now (rows .exit)) (now (records .exit)) (now (notes .exit)) (Job.binding-property (c .at)) (c .rows) (c .records) x ⌝ }
+    requires { ⌜ Room (now kinds) (now rows) (now records) (cursor at made said) ⌝ }
+    requires { ⌜ made < at ⌝ }
+    ensures { λ x. ⌜ Met (now (kinds .entry)) (now (flags .entry)) (now (rows .entry)) (now (records .entry)) (now (notes .entry)) (now (rows .exit)) (now (records .exit)) (now (notes .exit)) (Job.binding-property at) made said x ⌝ }
 {
-    let at = c.at;
     if keys::is_shorthand(kinds, at) {
-        let d = leaf(rows, c, row::BINDING_NAME);
+        let d = leaf(rows, at, made, said, row::BINDING_NAME);
         if tokens::kind_at(kinds, at + 1) != kind::EQ {
-            return Step::Done(over(rows, d, row::BINDING_SHORTHAND, at, at, at + 1, 1, c.rows));
+            return Step::Done(over(rows, d, row::BINDING_SHORTHAND, at, at, at + 1, 1, made));
         }
         return init(
             kinds,
@@ -1236,12 +1418,14 @@ pub fn bproperty(
             rows,
             records,
             notes,
-            d,
+            d.at,
+            d.rows,
+            d.records,
             row::BINDING_SHORTHAND_INIT,
-            c.rows,
+            made,
         );
     }
-    let got = key(kinds, flags, rows, records, notes, c);
+    let got = key(kinds, flags, rows, records, notes, at, made, said);
     let Step::Done(d) = got else {
         return got;
     };
@@ -1249,14 +1433,18 @@ pub fn bproperty(
     if tokens::kind_at(kinds, colon) != kind::COLON {
         return Step::Fail(Cause::Unexpected(colon));
     }
-    let next = Cursor {
-        at: colon + 1,
-        rows: d.rows,
-        records: d.records,
-    };
-    let more = element(kinds, flags, rows, records, notes, next);
+    let more = element(
+        kinds,
+        flags,
+        rows,
+        records,
+        notes,
+        colon + 1,
+        d.rows,
+        d.records,
+    );
     let Step::Done(e) = more else {
         return more;
     };
-    Step::Done(over(rows, e, row::PROPERTY, at, at, e.at, 2, c.rows))
+    Step::Done(over(rows, e, row::PROPERTY, at, at, e.at, 2, made))
 }

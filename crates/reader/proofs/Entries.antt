@@ -1,14 +1,17 @@
 -- The two entries: each way out of them.
 -- Assumes nothing.
-use Prim.Native.Nat.{ℕ}
+use Prim.Native.Nat.{ℕ, zero, suc, _≤_}
 use mathlib.Core.Path.{_≡_, refl, sym, subst, _∙_}
 use mathlib.Core.List.{List}
 use native.Mathlib.Omega.{arith}
-use lib.ListN.{length}
+use lib.ListN.{length, getD, replicate}
+use lib.Seq.{getD-set-other}
 use Rattle.tokens.specs.declared.cause.Cause.{Cause}
 use Rattle.tokens.specs.declared.cause.Answer.{Answer}
 use Rattle.tokens.specs.declared.check.Checked.{Checked}
-use Rattle.grammar.specs.Sheet.{Out}
+use Rattle.rows.specs.Tree.{Forest}
+use Rattle.rows.specs.Record.{Record}
+use Rattle.grammar.specs.Sheet.{Out, done}
 use Rattle.grammar.specs.Job.{Job}
 use Rattle.grammar.specs.Step as Step
 use Rattle.grammar.specs.Reading.{Whole, whole, refused, box, cleared, at-end, reading}
@@ -17,12 +20,13 @@ use Rattle.laws.specs.Settles.{in-plenty}
 use Rattle.laws.specs.Owed.{pays-lasts}
 use Rattle.laws.specs.Bounds.{limits, reads}
 use Rattle.laws.specs.Rel.{looked-at}
+use Rattle.laws.specs.Steady.{kept-if-done}
 use Rattle.laws.specs.Abandoned.{fine-cleared, notes-stay}
 use Rattle.making.specs.Post.{cursor, sheet-of, Room, Met}
 use Rattle.making.specs.declared.cursor.Step as Made
 use Rattle.making.proofs.Ends.{moved}
 use Rattle.reader.specs.Entry.{Answers}
-use Rattle.reader.specs.Post.{Checks, Ready, Came, CameOut, Finished}
+use Rattle.reader.specs.Post.{Within, Checks, Ready, Came, CameOut, Finished}
 use Rattle.reader.proofs.Checked.{ready}
 
 -- the list passes the checks: there is room to begin
@@ -40,6 +44,22 @@ ends {ks} {fs} {r₀} {s₀} e q u v =
 -- what the nonterminal comes to
 pub outcome : Job → (ks fs : List ℕ) → Out (List ℕ)
 outcome job ks fs = Step.read (box (sheet-of ks fs)) (sheet-of ks fs) (Step.plenty (sheet-of ks fs)) job cleared
+
+-- no place past the list is noted
+within-cleared : (size tokens : ℕ) → Within tokens (replicate size 0)
+within-cleared size tokens = record { past = λ place l. clear size place }
+  where
+    clear : (size place : ℕ) → _≡_ {A = ℕ} (getD (replicate size 0) place 0) 0
+    clear zero place = refl
+    clear (suc size) zero = refl
+    clear (suc size) (suc place) = clear size place
+
+within-stays : (ks fs : List ℕ) (job : Job) → looked-at job ≤ length ks → {end : ℕ} {trees : Forest} {records : List Record} {after : List ℕ}
+    → Step.read (box (sheet-of ks fs)) (sheet-of ks fs) (Step.plenty (sheet-of ks fs)) job cleared ≡ done end trees records after → Within (length ks) after
+within-stays ks fs job there e =
+    kept-if-done (box (sheet-of ks fs)) (sheet-of ks fs) 0 (Within (length ks))
+    (λ at m l i w. record { past = λ place h. getD-set-other m at place 1 0 (omega arith) ∙ w .past place h })
+    job (omega arith) there cleared (within-cleared 2048 (length ks)) (Step.plenty (sheet-of ks fs)) (in-plenty (sheet-of ks fs) job) e
 
 -- a nonterminal of one tree, read from the first token on, came to what it comes to
 pub came : {ks fs r₀ s₀ r s m : List ℕ} {got : Made.Step} (job : Job) → looked-at job ≡ 0 → limits (sheet-of ks fs) job ≡ reads (sheet-of ks fs) 0 0 0
@@ -60,6 +80,7 @@ came {ks} {fs} {m = m} job start lone h =
             few = omega (arith, b);
             paid = omega (arith, b, pays-lasts (g .trees));
             fine = notes-stay (sheet-of ks fs) job (omega (arith, start)) fine-cleared a;
+            within = within-stays ks fs job (omega (arith, start)) a;
           };
       fail-at = λ cause e. h .fail-at cause e .comes .settles .with (Step.plenty (sheet-of ks fs)) (in-plenty (sheet-of ks fs) job);
     }

@@ -18,7 +18,7 @@ use Rattle.rows.proofs.Flat.{length-flat, length-flats}
 use Rattle.rows.proofs.Records.{grown-records-none, grown-records-join, grown-record}
 use Rattle.grammar.specs.Reading.{noted-places, unconverted, unconverteds}
 use Rattle.laws.specs.Abandoned.{Fine}
-use Rattle.reader.specs.Post.{unconverted-row, unconverted-rows, LastRowRoom, LastRoom}
+use Rattle.reader.specs.Post.{unconverted-row, unconverted-rows, Within, LastRowRoom, LastRoom}
 
 -- so many notes stand before a place
 pub record Counted (m : List ℕ) (total at : ℕ) : Type 0 where
@@ -26,24 +26,29 @@ pub record Counted (m : List ℕ) (total at : ℕ) : Type 0 where
   pub few : total ≤ at
   pub same : total + noted-places (drop at m) ≡ noted-places m
 
+-- where no place is noted any more, there is nothing to count
+none-past : (m : List ℕ) (at : ℕ) → ((place : ℕ) → at ≤ place → getD m place 0 ≡ 0) → noted-places (drop at m) ≡ 0
+unfolding noted-places
+none-past [] zero h = refl
+none-past [] (suc at) h = refl
+none-past (note ∷ m) zero h = omega (arith, h 0 (omega arith), none-past m 0 (λ place l. h (suc place) (omega arith)))
+none-past (note ∷ m) (suc at) h = none-past m at (λ place l. h (suc place) (omega arith))
+
 module _ {m : List ℕ} where
   pub counted-none : Counted m 0 0
   counted-none = record { inside = omega arith; few = omega arith; same = zero-add (noted-places m) }
 
-  pub counted-more : {total at : ℕ} → Fine m → Counted m total at → at < 2048 → Counted m (total + getD m at 0) (at + 1)
+  pub counted-more : {total at tokens : ℕ} → Fine m → tokens ≤ 2048 → Counted m total at → at < tokens → Counted m (total + getD m at 0) (at + 1)
   unfolding noted-places
-  counted-more {total} {at} f c l =
+  counted-more {total} {at} f w c l =
       let each = f .each at in
       let long = f .long in
       let e : noted-places (drop at m) ≡ getD m at 0 + noted-places (drop (at + 1) m) = rw (drop-cons m at 0 (omega arith), add-one at) in
       let same = c .same in
       record { inside = omega arith; few = omega (arith, c .few, each); same = omega (arith, e, same) }
 
-  pub counted-all : {total at : ℕ} → Fine m → Counted m total at → 2048 ≤ at → total ≡ noted-places m
-  unfolding noted-places
-  counted-all {total} {at} f c l =
-      let e : noted-places (drop at m) ≡ 0 = ap noted-places (drop-of-length-le m {i = at} (omega (arith, f .long))) in
-      omega (arith, e, c .same)
+  pub counted-all : {total at tokens : ℕ} → Within tokens m → Counted m total at → tokens ≤ at → total ≡ noted-places m
+  counted-all {total} {at} w c l = omega (arith, none-past m at (λ place h. w .past place (omega arith)), c .same)
 
 -- the records 8 of some rows and of those after them
 split : (r : List ℕ) (a m n k : ℕ) → k ≡ m + n → unconverted-rows r a k ≡ unconverted-rows r a m ++ unconverted-rows r (a + m) n

@@ -55,6 +55,10 @@ pub record Ready (ks r s : List ℕ) : Type 0 where
   pub wide : 6 * length ks ≤ length r
   pub deep : 2 * length ks ≤ length s
 
+-- no place past so many tokens is noted
+pub record Within (tokens : ℕ) (notes : List ℕ) : Type 0 where
+  pub past : (place : ℕ) → tokens ≤ place → getD notes place 0 ≡ 0
+
 -- a reading is done: its rows and its records stand from the first words on, with room for those of the last pass
 pub record DoneTo (ks r s m : List ℕ) (d : Cursor) (out : Out (List ℕ)) : Type 0 where
   pub trees : Forest
@@ -65,6 +69,7 @@ pub record DoneTo (ks r s m : List ℕ) (d : Cursor) (out : Out (List ℕ)) : Ty
   pub few : d .rows ≤ length ks
   pub paid : d .records + length (unconverteds trees) ≤ length ks
   pub fine : Fine m
+  pub within : Within (length ks) m
 
 -- a step is what a reading came to
 pub record Came (ks r s m : List ℕ) (got : Step) (out : Out (List ℕ)) : Type 0 where

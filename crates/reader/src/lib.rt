@@ -8,8 +8,7 @@ ghost use Rattle.making.specs.Lent.{check-row-room, check-record-room, read-ent
 ghost use Rattle.laws.specs.Abandoned.{Fine};
 ghost use Rattle.making.specs.Post.{sheet-of};
 ghost use Rattle.reader.specs.Entry.{Answers};
-ghost use Rattle.reader.specs.Post.{unconverted-row, unconverted-rows, LastRowRoom, LastRoom, Checks, Ready, CameOut, Emptied, Finished};
-use making::cursor::Cursor;
+ghost use Rattle.reader.specs.Post.{Within, unconverted-row, unconverted-rows, LastRowRoom, LastRoom, Checks, Ready, CameOut, Emptied, Finished};
 use making::cursor::Step;
 use tokens::cause::Answer;
 use tokens::cause::Cause;
@@ -69,14 +68,16 @@ fn check(kinds: &[u8], flags: &[u8], rows: &[u32], records: &[u32]) -> Checked
     tokens::check::check_nesting(kinds)
 }
 
-// How many places are noted: a note is 0 or 1.
-fn noted(notes: &[u8; 2048]) -> usize
+// How many places are noted: a note is 0 or 1, and 0 from the end of the list on.
+fn noted(notes: &[u8; 2048], tokens: usize) -> usize
     requires { ⌜ Fine (now notes) ⌝ }
+    requires { ⌜ Within tokens (now notes) ⌝ }
+    requires { ⌜ tokens ≤ 2048 ⌝ }
     ensures { λ x. ⌜ x ≡ noted-places (now (notes .entry)) ⌝ }
 {
     let mut count: usize = 0;
     let mut at = 0;
-    while at < 2048 {
+    while at < tokens {
         count += notes[at] as usize;
         at += 1;
     }
@@ -145,7 +146,7 @@ fn finish(
             Answer::Read(Counts {
                 rows: n,
                 records: used,
-                abandoned: noted(notes),
+                abandoned: noted(notes, end),
             })
         }
     }
@@ -160,12 +161,7 @@ pub fn read(kinds: &[u8], flags: &[u8], rows: &mut [u32], records: &mut [u32]) -
         Checked::Refused(cause) => Answer::Refused(cause),
         Checked::Fine => {
             let mut notes = [0u8; 2048]; // no head of the sheet has failed yet
-            let start = Cursor {
-                at: 0,
-                rows: 0,
-                records: 0,
-            };
-            let got = parse::comma(kinds, flags, rows, records, &mut notes, start);
+            let got = parse::comma(kinds, flags, rows, records, &mut notes, 0, 0, 0);
             finish(kinds, rows, records, &notes, got)
         }
     }
@@ -180,12 +176,7 @@ pub fn pattern(kinds: &[u8], flags: &[u8], rows: &mut [u32], records: &mut [u32]
         Checked::Refused(cause) => Answer::Refused(cause),
         Checked::Fine => {
             let mut notes = [0u8; 2048]; // no head of an initializer has failed yet
-            let start = Cursor {
-                at: 0,
-                rows: 0,
-                records: 0,
-            };
-            let got = parse::element(kinds, flags, rows, records, &mut notes, start);
+            let got = parse::element(kinds, flags, rows, records, &mut notes, 0, 0, 0);
             finish(kinds, rows, records, &notes, got)
         }
     }

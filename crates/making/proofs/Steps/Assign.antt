@@ -64,7 +64,7 @@ pub head-fits : (ks : List ℕ) {at n k kids kind : ℕ} {d : Cursor} {h : Head}
 head-fits ks w e = rw e record { arrow = w .arrow; first-before = w .forward; from-before = w .more; kids-few = w .kids-few }
 
 module _ {ks fs r₀ s₀ m₀ : List ℕ} {c : Cursor} where
-  pub assign-passes : {r s m : List ℕ} {x : Step} {w : Way} → way-of w ≡ way-at ks fs m₀ (c .at) → w ≡ Way.Pass
+  assign-passes : {r s m : List ℕ} {x : Step} {w : Way} → way-of w ≡ way-at ks fs m₀ (c .at) → w ≡ Way.Pass
       → Met ks fs r₀ s₀ m₀ r s m (value (c .at)) (c .rows) (c .records) x → Met ks fs r₀ s₀ m₀ r s m (assignment (c .at)) (c .rows) (c .records) x
   unfolding way-of
   assign-passes h e a =
@@ -111,22 +111,45 @@ module _ {ks fs r₀ s₀ m₀ : List ℕ} {c : Cursor} where
   unfolding way-of
   assign-commits room t e a q u b = arrow-of room (λ p ts rs out i j. assignment-commits (sym t ∙ ap way-of e) i j) a q u b
 
-  -- a head that failed is given up: its place is noted
-  pub assign-gives-up : {r₁ s₁ m₁ r s m : List ℕ} {x : Step} {y : Listed} {p : Cause} {w : Way} → way-of w ≡ way-at ks fs m₀ (c .at) → w ≡ Way.Attempt
-      → MetList ks fs r₀ s₀ m₀ r₁ s₁ m₁ (head (c .at)) (c .rows) (c .records) y → y ≡ Listed.Fail p
-      → Met ks fs r₁ s₁ (set m₁ (c .at) 1) r s m (value (c .at)) (c .rows) (c .records) x → Met ks fs r₀ s₀ m₀ r s m (assignment (c .at)) (c .rows) (c .records) x
-  unfolding way-of
-  assign-gives-up t e a q b =
-      let g = a .list-fail _ q in
-      let w = sym t ∙ ap way-of e in
-      record {
-        done-to = λ d i. let f = b .done-to d i in
-            record { trees = f .trees; records = f .records; comes = assignment-gives-up w (g .comes) (f .comes); made = made-again (g .unmade) (f .made) };
-        fail-at = λ p i. let f = b .fail-at p i in record { comes = assignment-gives-up w (g .comes) (f .comes); unmade = unmade-again (g .unmade) (f .unmade) };
-      }
-
   pub assign-fails : {r₁ s₁ m₁ : List ℕ} {y : Listed} {p : Cause} {w : Way} → way-of w ≡ way-at ks fs m₀ (c .at) → w ≡ Way.Commit
       → MetList ks fs r₀ s₀ m₀ r₁ s₁ m₁ (head (c .at)) (c .rows) (c .records) y → y ≡ Listed.Fail p
       → Met ks fs r₀ s₀ m₀ r₁ s₁ m₁ (assignment (c .at)) (c .rows) (c .records) (Step.Fail p)
   unfolding way-of
   assign-fails t e a q = let g = a .list-fail _ q in is-fail refl record { comes = assignment-fails (sym t ∙ ap way-of e) (g .comes); unmade = g .unmade }
+
+-- past a head: what the value comes to is what the assignment level comes to
+pub record Past (ks fs r₀ s₀ m₀ r₁ s₁ m₁ : List ℕ) (c : Cursor) : Type 0 where
+  pub long : length r₁ ≡ length r₀
+  pub deep : length s₁ ≡ length s₀
+  pub goes : (r s m : List ℕ) (x : Step) → Met ks fs r₁ s₁ m₁ r s m (value (c .at)) (c .rows) (c .records) x → Met ks fs r₀ s₀ m₀ r s m (assignment (c .at)) (c .rows) (c .records) x
+
+-- rows, records and notes under other names
+now : {ks fs r₁ s₁ m₁ r₂ s₂ m₂ r s m : List ℕ} {job : Job} {n k : ℕ} {x : Step} → r₁ ≡ r₂ → s₁ ≡ s₂ → m₁ ≡ m₂ → Met ks fs r₁ s₁ m₁ r s m job n k x → Met ks fs r₂ s₂ m₂ r s m job n k x
+now i j l a = rw (sym i, sym j, sym l) a
+
+module _ {ks fs r₀ s₀ m₀ r₁ s₁ m₁ : List ℕ} {c : Cursor} {w : Way} (t : way-of w ≡ way-at ks fs m₀ (c .at)) where
+  -- no head is tried
+  pub past-none : w ≡ Way.Pass → r₁ ≡ r₀ → s₁ ≡ s₀ → m₁ ≡ m₀ → Past ks fs r₀ s₀ m₀ r₁ s₁ m₁ c
+  past-none e i j l = record { long = ap length i; deep = ap length j; goes = λ r s m x a. assign-passes t e (now i j l a) }
+
+  -- a head that failed is given up: its place is noted
+  pub past-given-up : {r₂ s₂ m₂ : List ℕ} {y : Listed} {p : Cause} → w ≡ Way.Attempt → MetList ks fs r₀ s₀ m₀ r₂ s₂ m₂ (head (c .at)) (c .rows) (c .records) y → y ≡ Listed.Fail p
+      → length r₂ ≡ length r₀ → length s₂ ≡ length s₀ → r₁ ≡ r₂ → s₁ ≡ s₂ → m₁ ≡ set m₂ (c .at) 1 → Past ks fs r₀ s₀ m₀ r₁ s₁ m₁ c
+  unfolding way-of
+  past-given-up {r₂} {s₂} {m₂} e a q u v i j l =
+      let g = a .list-fail _ q in
+      let w = sym t ∙ ap way-of e in
+      record {
+        long = ap length i ∙ u;
+        deep = ap length j ∙ v;
+        goes = λ r s m x b.
+            let b′ : Met ks fs r₂ s₂ (set m₂ (c .at) 1) r s m (value (c .at)) (c .rows) (c .records) x = now i j l b in
+            record {
+              done-to = λ d z. let f = b′ .done-to d z in
+                  record { trees = f .trees; records = f .records; comes = assignment-gives-up w (g .comes) (f .comes); made = made-again (g .unmade) (f .made) };
+              fail-at = λ p z. let f = b′ .fail-at p z in record { comes = assignment-gives-up w (g .comes) (f .comes); unmade = unmade-again (g .unmade) (f .unmade) };
+            };
+      }
+
+pub past-as : (ks fs r₀ s₀ m₀ r₁ s₁ m₁ : List ℕ) (c : Cursor) → Past ks fs r₀ s₀ m₀ r₁ s₁ m₁ c → Past ks fs r₀ s₀ m₀ r₁ s₁ m₁ c
+past-as ks fs r₀ s₀ m₀ r₁ s₁ m₁ c p = p

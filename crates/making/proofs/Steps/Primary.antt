@@ -7,19 +7,19 @@ use mathlib.Core.List.{List}
 use native.Mathlib.Omega.{arith}
 use lib.ListN.{length, getD}
 use Rattle.tokens.specs.declared.cause.Cause.{Cause}
-use Rattle.tokens.specs.Token.{is-name, is-literal}
 use Rattle.rows.specs.Tree.{node, nil, one}
 use Rattle.rows.specs.Row as Row
 use Rattle.grammar.specs.Sheet.{Out, done, fail}
 use Rattle.grammar.specs.Job.{Job, expression, primary, elements, properties}
-use Rattle.laws.specs.Bounds.{bounded}
-use Rattle.making.specs.Post.{Room, Comes, Met, NotClosed, not-read, no-token, MetClosed, Leafed, Topped}
+use Rattle.making.specs.Post.{Room, Comes, Met, NotClosed, not-read, no-token, MetClosed, Topped}
+use Rattle.making.specs.Singles.{single-row}
 use Rattle.making.specs.declared.cursor.Cursor.{Cursor}
 use Rattle.making.specs.declared.cursor.Step.{Step}
-use Rattle.making.proofs.Rules.{primary-name, primary-this, primary-literal, primary-paren-fails, primary-paren-open, primary-paren, primary-array, primary-object, primary-none}
+use Rattle.making.proofs.Rules.{primary-paren-fails, primary-paren-open, primary-paren, primary-array, primary-object, primary-none}
 use Rattle.making.proofs.Ends.{is-fail, single}
-use Rattle.making.proofs.Makes.{unmade-none, count-one, is-topped, is-leafed}
+use Rattle.making.proofs.Makes.{unmade-none, count-one, is-topped}
 use Rattle.making.proofs.Steps.Inside.{closed-read}
+use Rattle.making.proofs.Steps.Singles.{no-single}
 
 -- a nonterminal that comes to what another comes to
 as-met : {ks fs r₀ s₀ m₀ r s m : List ℕ} {job job′ : Job} {n k : ℕ} {x : Step} → ((out : Out (List ℕ)) → Comes ks fs job m₀ out → Comes ks fs job′ m₀ out)
@@ -30,34 +30,11 @@ as-met f h =
       fail-at = λ p e. let g = h .fail-at p e in record { comes = f _ (g .comes); unmade = g .unmade };
     }
 
--- a test of the token at a place
-tested : (test : ℕ → Bool) {y z : ℕ} {b v : Bool} → y ≡ z → b ≡ test y → b ≡ v → test z ≡ v
-tested test k n t = ap test (sym k) ∙ sym n ∙ t
-
 why : {ks fs m₀ m : List ℕ} {at : ℕ} {p : Cause} → getD ks at 0 ≡ 18 → NotClosed ks fs m₀ m (expression (at + 1)) 19 Cause.Unexpected p → Comes ks fs (primary at) m₀ (fail p m)
 why k (not-read h) = primary-paren-fails k h
 why k (no-token end ts rs h t e) = rw e (primary-paren-open k h t)
 
--- the tokens that are read stand before the end
-module _ {ks r s : List ℕ} {c : Cursor} {y : ℕ} (room : Room ks r s c) (k : y ≡ getD ks (c .at) 0) where
-  pub name-stands : {b : Bool} → b ≡ is-name y → b ≡ true → c .at < length ks
-  name-stands n t = let w = bounded (primary-name {ks = ks} {fs = ks} {m = ks} (tested is-name k n t) .settles) in omega arith
-
-  pub literal-stands : {b l : Bool} → b ≡ is-name y → b ≡ false → (y ≡ 7 → ⊥) → l ≡ is-literal y → l ≡ true → c .at < length ks
-  literal-stands n t o l v = let w = bounded (primary-literal {ks = ks} {fs = ks} {m = ks} (tested is-name k n t) (λ q. o (k ∙ q)) (tested is-literal k l v) .settles) in omega arith
-
 module _ {ks fs r₀ s₀ m₀ : List ℕ} {c : Cursor} {y : ℕ} (room : Room ks r₀ s₀ c) (k : y ≡ getD ks (c .at) 0) where
-  pub primary-names : {r : List ℕ} {b : Bool} {d : Cursor} → b ≡ is-name y → b ≡ true → Leafed r₀ c Row.Identifier r d
-      → Met ks fs r₀ s₀ m₀ r s₀ m₀ (primary (c .at)) (c .rows) (c .records) (Step.Done d)
-  primary-names n t top = is-leafed top (primary-name (tested is-name k n t))
-
-  pub primary-thises : {r : List ℕ} {d : Cursor} → y ≡ 7 → Leafed r₀ c Row.This r d → Met ks fs r₀ s₀ m₀ r s₀ m₀ (primary (c .at)) (c .rows) (c .records) (Step.Done d)
-  primary-thises t top = is-leafed top (primary-this (sym k ∙ t))
-
-  pub primary-literals : {r : List ℕ} {b l : Bool} {d : Cursor} → b ≡ is-name y → b ≡ false → (y ≡ 7 → ⊥) → l ≡ is-literal y → l ≡ true → Leafed r₀ c Row.Literal r d
-      → Met ks fs r₀ s₀ m₀ r s₀ m₀ (primary (c .at)) (c .rows) (c .records) (Step.Done d)
-  primary-literals n t o l v top = is-leafed top (primary-literal (tested is-name k n t) (λ q. o (k ∙ q)) (tested is-literal k l v))
-
   pub primary-refuses : {r s m : List ℕ} {x : Step} {p : Cause} → y ≡ 18 → MetClosed ks fs r₀ s₀ m₀ r s m (expression (c .at + 1)) 19 Cause.Unexpected (c .rows) (c .records) x → x ≡ Step.Fail p
       → Met ks fs r₀ s₀ m₀ r s m (primary (c .at)) (c .rows) (c .records) x
   primary-refuses t h e = let f = h .closed-fail _ e in is-fail e record { comes = why (sym k ∙ t) (f .why); unmade = f .unmade }
@@ -78,10 +55,8 @@ module _ {ks fs r₀ s₀ m₀ : List ℕ} {c : Cursor} {y : ℕ} (room : Room k
       → Met ks fs r₀ s₀ m₀ r s m (primary (c .at)) (c .rows) (c .records) x
   primary-objects t h = as-met (λ out a. primary-object (sym k ∙ t) a) h
 
-  pub primary-nones : {b l : Bool} → b ≡ is-name y → b ≡ false → (y ≡ 7 → ⊥) → l ≡ is-literal y → l ≡ false → (y ≡ 18 → ⊥) → (y ≡ 20 → ⊥) → (y ≡ 22 → ⊥)
+  pub primary-nones : {x : ℕ} → x ≡ single-row y → x ≡ 0 → (y ≡ 18 → ⊥) → (y ≡ 20 → ⊥) → (y ≡ 22 → ⊥)
       → Met ks fs r₀ s₀ m₀ r₀ s₀ m₀ (primary (c .at)) (c .rows) (c .records) (Step.Fail (Cause.Unexpected (c .at)))
-  primary-nones n t o l v a b d =
-      is-fail refl record {
-        comes = primary-none (tested is-name k n t) (λ q. o (k ∙ q)) (tested is-literal k l v) (λ q. a (k ∙ q)) (λ q. b (k ∙ q)) (λ q. d (k ∙ q));
-        unmade = unmade-none;
-      }
+  primary-nones n o a b d =
+      let e = no-single (getD ks (c .at) 0) (ap single-row (sym k) ∙ sym n ∙ o) in
+      is-fail refl record { comes = primary-none (e .name) (e .this) (e .literal) (λ q. a (k ∙ q)) (λ q. b (k ∙ q)) (λ q. d (k ∙ q)); unmade = unmade-none }

@@ -43,7 +43,7 @@ clear-from-requires-2 : tie.Need-clear-from-requires-2
 clear-from-requires-2 c κs = search needs
 
 noted-requires : tie.Need-noted-requires
-noted-requires c κs = c .before .before .before .before .before .before .before .before .before .before .before .before .before .before .before .before .before .before .before .before .pre .1 .came .done-to _ (c .before .before .before .before .before .before .before .before .before .before .before .before .before .before .before .got2 .given .1) .fine
+noted-requires c κs = ((c .before .before .before .before .before .before .before .before .before .before .before .before .before .before .before .before .before .before .before .before .pre .1 .came .done-to _ (c .before .before .before .before .before .before .before .before .before .before .before .before .before .before .before .got2 .given .1)) .fine, (rw (c .before .before .before .before .before .before .before .before .before .before .before .before .before .if1 .left) ((c .before .before .before .before .before .before .before .before .before .before .before .before .before .before .before .before .before .before .before .before .pre .1 .came .done-to _ (c .before .before .before .before .before .before .before .before .before .before .before .before .before .before .before .got2 .given .1)) .within), omega (arith, c .before .before .before .before .before .before .before .before .before .before .before .before .before .before .before .before .before .before .before .before .pre .0, c .before .before .before .before .before .before .before .before .before .before .before .before .before .if1 .left)))
 
 same-length-3 : tie.Need-same-length-3
 same-length-3 c = omega (arith, c .before .before .before .before .refuse .kept)

@@ -8,10 +8,10 @@ use Rattle.reader.proofs.noted.Statement.{statement}
 use Rattle.reader.proofs.noted.Tie as tie
 
 abbrev Inv-loop : tie.InvT-loop
-Inv-loop notes count₀ at₀ count at = Counted notes count at
+Inv-loop notes tokens count₀ at₀ count at = Counted notes count at
 
 abbrev μ-loop : tie.MeasureT-loop
-μ-loop notes count₀ at₀ count at = 2048 - at
+μ-loop notes tokens count₀ at₀ count at = tokens - at
 
 loop-holds : tie.Need-loop-holds Inv-loop μ-loop
 loop-holds c = counted-none
@@ -20,22 +20,22 @@ element-copy-out-count : tie.Need-element-copy-out-count Inv-loop μ-loop
 element-copy-out-count c = search needs
 
 cast-count : tie.Need-cast-count Inv-loop μ-loop
-cast-count c = omega (arith, c .before .before .loop .inv, c .before .before .before .pre, c .before .before .before .pre .each (c .before .before .loop .at))
+cast-count c = omega (arith, c .before .before .loop .inv, c .before .before .before .pre, c .before .before .before .pre .0 .each (c .before .before .loop .at))
 
 add-count : tie.Need-add-count Inv-loop μ-loop
-add-count c = omega (arith, c .before .before .loop .inv, c .before .before .before .pre, c .before .before .before .pre .each (c .before .before .loop .at))
+add-count c = omega (arith, c .before .before .loop .inv, c .before .before .before .pre, c .before .before .before .pre .0 .each (c .before .before .loop .at))
 
 add-at : tie.Need-add-at Inv-loop μ-loop
-add-at c = omega (arith, c .before .before .loop .inv, c .before .before .before .pre, c .before .before .before .pre .each (c .before .before .loop .at))
+add-at c = omega (arith, c .before .before .loop .inv, c .before .before .before .pre, c .before .before .before .pre .0 .each (c .before .before .loop .at))
 
 loop-less : tie.Need-loop-less Inv-loop μ-loop
-loop-less c = omega (arith, c .before .before .loop .inv, c .before .before .before .pre, c .before .before .before .pre .each (c .before .before .loop .at))
+loop-less c = omega (arith, c .before .before .loop .inv, c .before .before .before .pre, c .before .before .before .pre .0 .each (c .before .before .loop .at))
 
 loop-again : tie.Need-loop-again Inv-loop μ-loop
-loop-again c = counted-more (c .before .before .before .pre) (c .before .before .loop .inv) (c .before .loop-test .taken)
+loop-again c = counted-more (c .before .before .before .pre .0) (c .before .before .before .pre .1 .1) (c .before .before .loop .inv) (c .before .loop-test .taken)
 
 returns : tie.Need-returns Inv-loop μ-loop
-returns c = counted-all (c .before .before .pre) (c .before .loop .inv) (c .loop-test .left)
+returns c = counted-all (c .before .before .pre .1 .0) (c .before .loop .inv) (c .loop-test .left)
 
 pub noted-spec : {M : Type 1} → statement M
 noted-spec = tie.close (tie.spec Inv-loop μ-loop loop-holds element-copy-out-count cast-count add-count add-at loop-less loop-again returns)

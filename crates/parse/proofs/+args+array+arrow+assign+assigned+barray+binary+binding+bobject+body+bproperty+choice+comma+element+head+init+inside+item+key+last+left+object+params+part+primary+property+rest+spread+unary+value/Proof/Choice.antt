@@ -1,0 +1,88 @@
+-- `parse::choice` meets its contract, at the measure t.
+-- Made from answers/choice.ans by tools/fill.py. Assumes nothing.
+use Prim.Native.Nat.{ℕ}
+use mathlib.Core.Path.{refl, sym, _∙_}
+use native.Mathlib.Omega.{arith}
+use borrow.Author.Needs.{needs}
+use Rattle.tokens.proofs.Stands.{stands}
+use Rattle.making.proofs.Ends.{moved}
+use Rattle.making.proofs.Steps.Choice.{choice-fails, choice-opens, choice-fails-after, choice-done}
+use Rattle.parse.proofs.+args+array+arrow+assign+assigned+barray+binary+binding+bobject+body+bproperty+choice+comma+element+head+init+inside+item+key+last+left+object+params+part+primary+property+rest+spread+unary+value.Lts-choice as lts
+use Rattle.parse.proofs.+args+array+arrow+assign+assigned+barray+binary+binding+bobject+body+bproperty+choice+comma+element+head+init+inside+item+key+last+left+object+params+part+primary+property+rest+spread+unary+value.Proof.Measures.{assign-below, choice-at}
+use Rattle.making.proofs.cursor.over.Reads as over
+use Rattle.parse.proofs.assign.Reads as assign
+use Rattle.parse.proofs.choice.Reads as choice
+use Rattle.tokens.proofs.kind_at.Reads as kind-at
+
+module _ (t : ℕ) where
+  abbrev K : lts.Claims
+  K = (assign-below t, assign.Post, kind-at.Asked, kind-at.Learnt, over.Asked, over.Learnt)
+
+  add-assign : lts.Need-add-assign K (choice-at t) choice.Post
+  add-assign c = omega (arith, c .before .before .before .before .before .before .before .pre)
+
+  assign-requires : lts.Need-assign-requires K (choice-at t) choice.Post
+  assign-requires c κs = omega (arith, c .before .before .before .before .before .before .before .pre)
+
+  enum-known-got : lts.Need-enum-known-got K (choice-at t) choice.Post
+  enum-known-got c = search needs
+
+  enum-told : lts.Need-enum-told K (choice-at t) choice.Post
+  enum-told c = search needs
+
+  same-length : lts.Need-same-length K (choice-at t) choice.Post
+  same-length c = omega (arith, c .before .before .before .before .before .before .before .before .before .before .before .before .before .before .pre, c .before .before .before .before .before .before .assign .kept)
+
+  same-length-2 : lts.Need-same-length-2 K (choice-at t) choice.Post
+  same-length-2 c = omega (arith, c .before .before .before .before .before .before .before .before .before .before .before .before .before .before .pre, c .before .before .before .before .before .before .assign .kept)
+
+  returns : lts.Need-returns K (choice-at t) choice.Post
+  returns c = choice-fails (c .before .before .before .before .before .before .before .before .before .before .before .before .before .before .pre .1 .0) (c .before .before .before .before .before .before .before .before .before .before .before .before .before .before .pre .1 .1) (c .before .before .before .before .before .before .assign .ensures) (c .enum-told .given .1)
+
+  kind-at-requires : lts.Need-kind-at-requires K (choice-at t) choice.Post
+  kind-at-requires c κs = search needs
+
+  same-length-3 : lts.Need-same-length-3 K (choice-at t) choice.Post
+  same-length-3 c = omega (arith, c .before .before .before .before .before .before .before .before .before .before .before .before .before .before .before .before .before .pre, c .before .before .before .before .before .before .before .before .before .assign .kept, moved _ (c .before .before .before .before .before .before .before .before .before .assign .ensures .done-to _ (c .before .before .before .got .given .1)) refl)
+
+  same-length-4 : lts.Need-same-length-4 K (choice-at t) choice.Post
+  same-length-4 c = omega (arith, c .before .before .before .before .before .before .before .before .before .before .before .before .before .before .before .before .before .pre, c .before .before .before .before .before .before .before .before .before .assign .kept, moved _ (c .before .before .before .before .before .before .before .before .before .assign .ensures .done-to _ (c .before .before .before .got .given .1)) refl)
+
+  returns-2 : lts.Need-returns-2 K (choice-at t) choice.Post
+  returns-2 c = choice-opens (c .before .before .before .before .before .before .before .before .before .before .before .before .before .before .before .before .before .pre .1 .0) (c .before .before .before .before .before .before .before .before .before .before .before .before .before .before .before .before .before .pre .1 .1) (c .before .before .before .before .before .before .before .before .before .assign .ensures) (c .before .before .before .got .given .1) (c .before .kind-at .ensures) (c .if1 .taken)
+
+  add-assign-2 : lts.Need-add-assign-2 K (choice-at t) choice.Post
+  add-assign-2 c = omega (arith, c .before .before .before .before .before .before .before .before .before .before .before .before .before .before .before .before .before .before .before .before .pre, c .before .before .before .before .before .before .before .before .before .before .before .before .assign .kept, moved _ (c .before .before .before .before .before .before .before .before .before .before .before .before .assign .ensures .done-to _ (c .before .before .before .before .before .before .got .given .1)) refl, stands (c .before .before .before .before .before .before .before .before .before .before .before .before .before .before .before .before .before .before .before .before .args .kinds .now) (sym (c .before .before .before .before .kind-at .ensures) ∙ c .before .before .before .if1 .left))
+
+  assign-requires-2 : lts.Need-assign-requires-2 K (choice-at t) choice.Post
+  assign-requires-2 c κs = omega (arith, c .before .before .before .before .before .before .before .before .before .before .before .before .before .before .before .before .before .before .before .before .pre, c .before .before .before .before .before .before .before .before .before .before .before .before .assign .kept, moved _ (c .before .before .before .before .before .before .before .before .before .before .before .before .assign .ensures .done-to _ (c .before .before .before .before .before .before .got .given .1)) refl, stands (c .before .before .before .before .before .before .before .before .before .before .before .before .before .before .before .before .before .before .before .before .args .kinds .now) (sym (c .before .before .before .before .kind-at .ensures) ∙ c .before .before .before .if1 .left))
+
+  enum-known-more : lts.Need-enum-known-more K (choice-at t) choice.Post
+  enum-known-more c = search needs
+
+  enum-told-2 : lts.Need-enum-told-2 K (choice-at t) choice.Post
+  enum-told-2 c = search needs
+
+  same-length-5 : lts.Need-same-length-5 K (choice-at t) choice.Post
+  same-length-5 c = omega (arith, c .before .before .before .before .before .before .before .before .before .before .before .before .before .before .before .before .before .before .before .before .before .before .before .before .before .before .before .pre, c .before .before .before .before .before .before .before .before .before .before .before .before .before .before .before .before .before .before .before .assign .kept, moved _ (c .before .before .before .before .before .before .before .before .before .before .before .before .before .before .before .before .before .before .before .assign .ensures .done-to _ (c .before .before .before .before .before .before .before .before .before .before .before .before .before .got .given .1)) refl, stands (c .before .before .before .before .before .before .before .before .before .before .before .before .before .before .before .before .before .before .before .before .before .before .before .before .before .before .before .args .kinds .now) (sym (c .before .before .before .before .before .before .before .before .before .before .before .kind-at .ensures) ∙ c .before .before .before .before .before .before .before .before .before .before .if1 .left), c .before .before .before .before .before .before .assign2 .kept)
+
+  same-length-6 : lts.Need-same-length-6 K (choice-at t) choice.Post
+  same-length-6 c = omega (arith, c .before .before .before .before .before .before .before .before .before .before .before .before .before .before .before .before .before .before .before .before .before .before .before .before .before .before .before .pre, c .before .before .before .before .before .before .before .before .before .before .before .before .before .before .before .before .before .before .before .assign .kept, moved _ (c .before .before .before .before .before .before .before .before .before .before .before .before .before .before .before .before .before .before .before .assign .ensures .done-to _ (c .before .before .before .before .before .before .before .before .before .before .before .before .before .got .given .1)) refl, stands (c .before .before .before .before .before .before .before .before .before .before .before .before .before .before .before .before .before .before .before .before .before .before .before .before .before .before .before .args .kinds .now) (sym (c .before .before .before .before .before .before .before .before .before .before .before .kind-at .ensures) ∙ c .before .before .before .before .before .before .before .before .before .before .if1 .left), c .before .before .before .before .before .before .assign2 .kept)
+
+  returns-3 : lts.Need-returns-3 K (choice-at t) choice.Post
+  returns-3 c = choice-fails-after (c .before .before .before .before .before .before .before .before .before .before .before .before .before .before .before .before .before .before .before .before .before .before .before .before .before .before .before .pre .1 .0) (c .before .before .before .before .before .before .before .before .before .before .before .before .before .before .before .before .before .before .before .before .before .before .before .before .before .before .before .pre .1 .1) (c .before .before .before .before .before .before .before .before .before .before .before .before .before .before .before .before .before .before .before .assign .ensures) (c .before .before .before .before .before .before .before .before .before .before .before .before .before .got .given .1) (c .before .before .before .before .before .before .before .before .before .before .before .kind-at .ensures) (c .before .before .before .before .before .before .before .before .before .before .if1 .left) (c .before .before .before .before .before .before .assign2 .ensures) (c .enum-told2 .given .1)
+
+  over-requires : lts.Need-over-requires K (choice-at t) choice.Post
+  over-requires c κs = omega (arith, c .before .before .before .before .before .before .before .before .before .before .before .before .before .before .before .before .before .before .before .before .before .before .before .before .before .before .before .before .before .pre, c .before .before .before .before .before .before .before .before .before .before .before .before .before .before .before .before .before .before .before .before .before .assign .kept, moved _ (c .before .before .before .before .before .before .before .before .before .before .before .before .before .before .before .before .before .before .before .before .before .assign .ensures .done-to _ (c .before .before .before .before .before .before .before .before .before .before .before .before .before .before .before .got .given .1)) refl, stands (c .before .before .before .before .before .before .before .before .before .before .before .before .before .before .before .before .before .before .before .before .before .before .before .before .before .before .before .before .before .args .kinds .now) (sym (c .before .before .before .before .before .before .before .before .before .before .before .before .before .kind-at .ensures) ∙ c .before .before .before .before .before .before .before .before .before .before .before .before .if1 .left), c .before .before .before .before .before .before .before .before .assign2 .kept, moved _ (c .before .before .before .before .before .before .before .before .assign2 .ensures .done-to _ (c .before .before .more .given .1)) refl)
+
+  same-length-7 : lts.Need-same-length-7 K (choice-at t) choice.Post
+  same-length-7 c = omega (arith, c .before .before .before .before .before .before .before .before .before .before .before .before .before .before .before .before .before .before .before .before .before .before .before .before .before .before .before .before .before .before .before .before .pre, c .before .before .before .before .before .before .before .before .before .before .before .before .before .before .before .before .before .before .before .before .before .before .before .before .assign .kept, moved _ (c .before .before .before .before .before .before .before .before .before .before .before .before .before .before .before .before .before .before .before .before .before .before .before .before .assign .ensures .done-to _ (c .before .before .before .before .before .before .before .before .before .before .before .before .before .before .before .before .before .before .got .given .1)) refl, stands (c .before .before .before .before .before .before .before .before .before .before .before .before .before .before .before .before .before .before .before .before .before .before .before .before .before .before .before .before .before .before .before .before .args .kinds .now) (sym (c .before .before .before .before .before .before .before .before .before .before .before .before .before .before .before .before .kind-at .ensures) ∙ c .before .before .before .before .before .before .before .before .before .before .before .before .before .before .before .if1 .left), c .before .before .before .before .before .before .before .before .before .before .before .assign2 .kept, moved _ (c .before .before .before .before .before .before .before .before .before .before .before .assign2 .ensures .done-to _ (c .before .before .before .before .before .more .given .1)) refl)
+
+  same-length-8 : lts.Need-same-length-8 K (choice-at t) choice.Post
+  same-length-8 c = omega (arith, c .before .before .before .before .before .before .before .before .before .before .before .before .before .before .before .before .before .before .before .before .before .before .before .before .before .before .before .before .before .before .before .before .pre, c .before .before .before .before .before .before .before .before .before .before .before .before .before .before .before .before .before .before .before .before .before .before .before .before .assign .kept, moved _ (c .before .before .before .before .before .before .before .before .before .before .before .before .before .before .before .before .before .before .before .before .before .before .before .before .assign .ensures .done-to _ (c .before .before .before .before .before .before .before .before .before .before .before .before .before .before .before .before .before .before .got .given .1)) refl, stands (c .before .before .before .before .before .before .before .before .before .before .before .before .before .before .before .before .before .before .before .before .before .before .before .before .before .before .before .before .before .before .before .before .args .kinds .now) (sym (c .before .before .before .before .before .before .before .before .before .before .before .before .before .before .before .before .kind-at .ensures) ∙ c .before .before .before .before .before .before .before .before .before .before .before .before .before .before .before .if1 .left), c .before .before .before .before .before .before .before .before .before .before .before .assign2 .kept, moved _ (c .before .before .before .before .before .before .before .before .before .before .before .assign2 .ensures .done-to _ (c .before .before .before .before .before .more .given .1)) refl)
+
+  returns-4 : lts.Need-returns-4 K (choice-at t) choice.Post
+  returns-4 c = choice-done (c .before .before .before .before .before .before .before .before .before .before .before .before .before .before .before .before .before .before .before .before .before .before .before .before .before .before .before .before .before .before .before .before .pre .1 .0) (c .before .before .before .before .before .before .before .before .before .before .before .before .before .before .before .before .before .before .before .before .before .before .before .before .before .before .before .before .before .before .before .before .pre .1 .1) (c .before .before .before .before .before .before .before .before .before .before .before .before .before .before .before .before .before .before .before .before .before .before .before .before .assign .ensures) (c .before .before .before .before .before .before .before .before .before .before .before .before .before .before .before .before .before .before .got .given .1) (c .before .before .before .before .before .before .before .before .before .before .before .before .before .before .before .before .kind-at .ensures) (c .before .before .before .before .before .before .before .before .before .before .before .before .before .before .before .if1 .left) (c .before .before .before .before .before .before .before .before .before .before .before .assign2 .ensures) (c .before .before .before .before .before .more .given .1) (c .before .before .over .ensures)
+
+  pub choice-closed : {M : Type 1} → lts.Closed K (choice-at t) choice.Post M
+  choice-closed = lts.spec K (choice-at t) choice.Post add-assign assign-requires enum-known-got enum-told same-length same-length-2 returns kind-at-requires same-length-3 same-length-4 returns-2 add-assign-2 assign-requires-2 enum-known-more enum-told-2 same-length-5 same-length-6 returns-3 over-requires same-length-7 same-length-8 returns-4
