@@ -18,6 +18,6 @@ if ! printf '1.85\n%s\n' "$(rustc --version | cut -d' ' -f2)" | sort --check=qui
     echo "left out, rustc is older than 1.85: the answers that other parsers agreed on"
     exit 0
 fi
-(cd bench/harness && RUSTFLAGS='-D warnings' cargo build --quiet --offline --release --features archive --target-dir ../../target/harness)
+(cd bench/harness && RUSTFLAGS='-D warnings' cargo build --quiet --offline --release --features archive --bin answer --target-dir ../../target/harness)
 bash tests/judged/replay.sh target/harness/release/answer
 python3 -B tests/sheets.py target/harness/release/answer

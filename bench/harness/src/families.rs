@@ -1,12 +1,34 @@
-//! The sheets that are timed: real-looking ones of 20 to 300 tokens, and one of up to 2,048 tokens of each family.
+//! The sheets that are measured: real-looking ones of 26 to 349 tokens, and for each other family one sheet of a given size.
 use lists::List;
 
-const TOKENS: usize = 2048;
+/// How large a sheet may be: tokens, and brackets open at once.
+#[derive(Clone, Copy)]
+pub struct Size {
+    pub tokens: usize,
+    pub depth: usize,
+}
 
-/// A family: its name and its sheets.
+/// The largest sheet that is read.
+pub const LARGEST: Size = Size { tokens: 2048, depth: 64 };
+
+/// A family: its name, and what its sheets are made of.
 pub struct Family {
     pub name: &'static str,
-    pub sheets: Vec<List>,
+    shape: Shape,
+}
+
+/// What the sheets of a family are made of.
+enum Shape {
+    /// The texts of `REAL`, of any size.
+    Real,
+    /// A start, a part as often as it fits, an end.
+    Repeated(&'static str, &'static str, &'static str),
+    /// An opening as often as it fits, what is inside, a closing as often.
+    Mirrored(&'static str, &'static str, &'static str),
+    /// The same as deep as brackets may be; such with commas between, as many as fit.
+    Nested(&'static str, &'static str, &'static str),
+    /// Random lists near the limit of the largest sheet, whatever the size, that are read, or that are refused.
+    Random(bool),
 }
 
 /// Measuring sheets as an engineer writes them.
@@ -78,64 +100,104 @@ pub fn tokens(text: &str) -> List {
     list
 }
 
-/// `start`, then `part` as often as it fits, then `end`: 2,048 tokens at most.
-fn repeated(start: &str, part: &str, end: &str) -> Vec<List> {
-    let [start, part, end] = [start, part, end].map(|text| tokens(text).kinds);
-    let times = (TOKENS - start.len() - end.len()) / part.len();
-    let kinds = [start, part.repeat(times), end].concat();
-    vec![List::plain(&kinds)]
+/// The kinds of three texts.
+fn kinds(texts: [&str; 3]) -> [Vec<u8>; 3] {
+    texts.map(|text| tokens(text).kinds)
 }
 
-/// `open` 64 deep, `inside`, `close` 64 times; such sheets with commas between, as many as fit.
-fn nested(open: &str, inside: &str, close: &str) -> Vec<List> {
-    let [open, inside, close] = [open, inside, close].map(|text| tokens(text).kinds);
-    let depth = 64 / open.iter().filter(|k| matches!(k, 18 | 20 | 22)).count();
-    let one = [open.repeat(depth), inside, close.repeat(depth)].concat();
-    let mut kinds = one.clone();
-    while kinds.len() + 1 + one.len() <= TOKENS {
-        kinds.push(24);
-        kinds.extend(&one);
-    }
-    vec![List::plain(&kinds)]
-}
-
-/// Random lists near the limit that are read, or that are refused.
+/// Random lists near the limit, of over 1,500 tokens, that are read, or that are refused.
 fn random(read: bool) -> Vec<List> {
-    let mut rows = vec![0; 6 * TOKENS];
-    let mut records = vec![0; 2 * TOKENS];
+    let limit = LARGEST.tokens;
+    let mut rows = vec![0; 6 * limit];
+    let mut records = vec![0; 2 * limit];
     let mut fits = |list: &List| list.len() > 1500 && twin::read(&list.kinds, &list.flags, &mut rows, &mut records).is_ok() == read;
-    (0..).map(|number| lists::random(7, number, TOKENS)).filter(|list| fits(list)).take(8).collect()
+    (0..).map(|number| lists::random(7, number, limit)).filter(|list| fits(list)).take(8).collect()
+}
+
+/// A sheet, and as many more of it as fit, with commas between.
+fn side_by_side(one: &[u8], limit: usize) -> Vec<u8> {
+    let mut kinds = one.to_vec();
+    while kinds.len() + 1 + one.len() <= limit {
+        kinds.push(24);
+        kinds.extend(one);
+    }
+    kinds
+}
+
+impl Family {
+    /// Whether the sheets grow with the size, by levels.
+    pub fn grows(&self) -> bool {
+        !matches!(self.shape, Shape::Real | Shape::Random(_))
+    }
+
+    /// How often a sheet of this size repeats what the family repeats: the levels of its nesting, or the links of its chain.
+    pub fn levels(&self, size: Size) -> usize {
+        match self.shape {
+            Shape::Real | Shape::Random(_) => 0,
+            Shape::Repeated(start, part, end) => {
+                let [start, part, end] = kinds([start, part, end]);
+                (size.tokens - start.len() - end.len()) / part.len()
+            }
+            Shape::Mirrored(open, inside, close) => {
+                let [open, inside, close] = kinds([open, inside, close]);
+                (size.tokens - inside.len()) / (open.len() + close.len())
+            }
+            Shape::Nested(open, ..) => size.depth / tokens(open).kinds.iter().filter(|k| matches!(k, 18 | 20 | 22)).count(),
+        }
+    }
+
+    /// The sheets of this size.
+    pub fn sheets(&self, size: Size) -> Vec<List> {
+        let times = self.levels(size);
+        let kinds = match self.shape {
+            Shape::Real => return REAL.iter().map(|text| tokens(text)).collect(),
+            Shape::Random(read) => return random(read),
+            Shape::Repeated(start, part, end) => {
+                let [start, part, end] = kinds([start, part, end]);
+                [start, part.repeat(times), end].concat()
+            }
+            Shape::Mirrored(open, inside, close) | Shape::Nested(open, inside, close) => {
+                let [open, inside, close] = kinds([open, inside, close]);
+                let one = [open.repeat(times), inside, close.repeat(times)].concat();
+                side_by_side(&one, size.tokens)
+            }
+        };
+        vec![List::plain(&kinds)]
+    }
+}
+
+/// A family of a shape.
+const fn family(name: &'static str, shape: Shape) -> Family {
+    Family { name, shape }
 }
 
 /// All families.
-pub fn all() -> Vec<Family> {
-    let family = |name, sheets| Family { name, sheets };
-    vec![
-        family("real sheets", REAL.iter().map(|text| tokens(text)).collect()),
-        family("flat sum", repeated("", "a +", "a")),
-        family("all levels", repeated("", "a || a && a | a ^ a & a == a < a << a + a * a ** a ||", "a")),
-        family("a ** a ** ..", repeated("", "a **", "a")),
-        family("members, calls", repeated("a", ".a (a) [a]", "")),
-        family("nested (..)", nested("(", "a", ")")),
-        family("heads that fail", nested("(a =", "a", ")")),
-        family("wide heads that fail", repeated("(", "a = (a), ", "a)")),
-        family("(a) => (a) => ..", repeated("", "(a) =>", "a")),
-        family("a => a => ..", repeated("", "a =>", "a")),
-        family("arrows in defaults", nested("(a = ", "a", ") => a")),
-        family("patterns as heads", repeated("({a: [a", ", a = a", "]}) => a")),
-        family("array", repeated("[", "a, ", "]")),
-        family("array, converted", repeated("[", "a, ", "] = a")),
-        family("nested arrays, converted", nested("[a, ", "a", "] = a")),
-        family("object", repeated("{", "a: a, ", "}")),
-        family("object, converted", repeated("{", "a: a, ", "} = a")),
-        family("shorthands, converted", repeated("{", "a = a, ", "} = a")),
-        family("unary chain", repeated("", "-", "a")),
-        family("assignment chain", repeated("", "a =", "a")),
-        family("conditional chain", repeated("", "a ? a :", "a")),
-        family("a ? a ? .. : a : a", vec![List::plain(&[[1, 26].repeat(500), vec![1], [25, 1].repeat(500)].concat())]),
-        family("random, read", random(true)),
-        family("random, refused", random(false)),
-        family("refused at the end", repeated("", "a +", "")),
-        family("refused as a target", repeated("[", "a, ", "1] = a")),
-    ]
-}
+#[rustfmt::skip]
+pub static FAMILIES: [Family; 26] = [
+    family("real sheets", Shape::Real),
+    family("flat sum", Shape::Repeated("", "a +", "a")),
+    family("all levels", Shape::Repeated("", "a || a && a | a ^ a & a == a < a << a + a * a ** a ||", "a")),
+    family("a ** a ** ..", Shape::Repeated("", "a **", "a")),
+    family("members, calls", Shape::Repeated("a", ".a (a) [a]", "")),
+    family("nested (..)", Shape::Nested("(", "a", ")")),
+    family("heads that fail", Shape::Nested("(a =", "a", ")")),
+    family("wide heads that fail", Shape::Repeated("(", "a = (a), ", "a)")),
+    family("(a) => (a) => ..", Shape::Repeated("", "(a) =>", "a")),
+    family("a => a => ..", Shape::Repeated("", "a =>", "a")),
+    family("arrows in defaults", Shape::Nested("(a = ", "a", ") => a")),
+    family("patterns as heads", Shape::Repeated("({a: [a", ", a = a", "]}) => a")),
+    family("array", Shape::Repeated("[", "a, ", "]")),
+    family("array, converted", Shape::Repeated("[", "a, ", "] = a")),
+    family("nested arrays, converted", Shape::Nested("[a, ", "a", "] = a")),
+    family("object", Shape::Repeated("{", "a: a, ", "}")),
+    family("object, converted", Shape::Repeated("{", "a: a, ", "} = a")),
+    family("shorthands, converted", Shape::Repeated("{", "a = a, ", "} = a")),
+    family("unary chain", Shape::Repeated("", "-", "a")),
+    family("assignment chain", Shape::Repeated("", "a =", "a")),
+    family("conditional chain", Shape::Repeated("", "a ? a :", "a")),
+    family("a ? a ? .. : a : a", Shape::Mirrored("a ?", "a", ": a")),
+    family("random, read", Shape::Random(true)),
+    family("random, refused", Shape::Random(false)),
+    family("refused at the end", Shape::Repeated("", "a +", "")),
+    family("refused as a target", Shape::Repeated("[", "a, ", "1] = a")),
+];

@@ -1,4 +1,6 @@
-//! What the bench and the answering program share: the sheets of each family, and the archive's entries.
+//! What the programs share: the sheets of each family, the readers, the archive's entries, and tables.
 #[cfg(feature = "archive")]
 pub mod archive;
 pub mod families;
+pub mod readers;
+pub mod table;

@@ -1,0 +1,74 @@
+//! The readers that are measured, and the memory they are lent.
+use crate::families::{Family, Size};
+use lists::List;
+use twin::entries::Twin;
+use twin::protocol::{Entries, Read, Refused};
+
+pub type Entry = fn(&[u8], &[u8], &mut [u32], &mut [u32]) -> Result<Read, Refused>;
+
+/// A reader: its name and its entry.
+pub type Reader = (&'static str, Entry);
+
+/// The readers that are there, the first the measure of the others.
+pub static READERS: &[Reader] = &[
+    ("twin", Twin::read as Entry),
+    #[cfg(feature = "archive")]
+    ("archive", crate::archive::Archive::read as Entry),
+];
+
+/// The readers' names.
+pub fn names() -> Vec<&'static str> {
+    READERS.iter().map(|(name, _)| *name).collect()
+}
+
+/// Lent memory, as on the box: 6 and 2 words for each token, not cleared between readings.
+pub struct Room {
+    rows: Vec<u32>,
+    records: Vec<u32>,
+}
+
+impl Room {
+    /// Memory full of words that no reader leaves, so that one that forgets a word is found out.
+    pub fn new() -> Room {
+        Room { rows: vec![u32::MAX; 6 * 2048], records: vec![u32::MAX; 2 * 2048] }
+    }
+
+    /// Reads a sheet into this memory.
+    pub fn read(&mut self, entry: Entry, sheet: &List) -> Result<Read, Refused> {
+        let n = sheet.len();
+        entry(&sheet.kinds, &sheet.flags, &mut self.rows[..6 * n], &mut self.records[..2 * n])
+    }
+}
+
+impl Default for Room {
+    fn default() -> Room {
+        Room::new()
+    }
+}
+
+/// All readers give the same answer and leave the same words.
+fn agree(sheet: &List) -> bool {
+    let mut seen = READERS.iter().map(|(_, entry)| {
+        let mut room = Room::new();
+        (room.read(*entry, sheet), room.rows, room.records)
+    });
+    let first = seen.next();
+    seen.all(|other| Some(other) == first)
+}
+
+/// The sheets of a family, after all readers have been compared on each.
+pub fn compared(family: &Family, size: Size) -> Vec<List> {
+    let sheets = family.sheets(size);
+    assert!(sheets.iter().all(agree), "{}: the readers differ", family.name);
+    sheets
+}
+
+/// How many tokens the sheets have.
+pub fn tokens(sheets: &[List]) -> usize {
+    sheets.iter().map(List::len).sum()
+}
+
+/// Runs on a stack that no reader comes to the end of: chains of 2,048 go deep.
+pub fn with_room_to_recurse(work: fn()) {
+    std::thread::Builder::new().stack_size(1 << 28).spawn(work).unwrap().join().unwrap();
+}

@@ -1,0 +1,93 @@
+#!/usr/bin/env bash
+# Measures the archive beside the twin, and writes the tables of docs/PERFORMANCE.md between their marker comments; the text around them stays.
+#
+#     bench/run.sh              all parts: times instructions stack size context
+#     bench/run.sh PART..       some of them
+#
+# VUOLMASET_ARCHIVE names the archive; without it, it is the one that `rt staticlib vuolmaset` writes. ROUNDS: how often is timed, 300.
+set -euo pipefail
+shopt -s inherit_errexit
+export VUOLMASET_ARCHIVE
+here=$(cd "$(dirname "${BASH_SOURCE[0]}")" && pwd)
+VUOLMASET_ARCHIVE=$(realpath -m "${VUOLMASET_ARCHIVE:-$here/../target/staticlib/libvuolmaset.a}")
+document=$here/../docs/PERFORMANCE.md
+programs=$here/harness/target/release
+rounds=${ROUNDS:-300}
+
+# Debian's packages, where they are not there yet.
+install_missing() {
+    local need=()
+    command -v valgrind > /dev/null || need+=(valgrind)
+    command -v size > /dev/null || need+=(binutils)
+    command -v lscpu > /dev/null || need+=(util-linux)
+    command -v node > /dev/null || need+=(nodejs)
+    [ -e /usr/share/nodejs/acorn ] || need+=(node-acorn)
+    [ -e /usr/share/nodejs/@babel/parser ] || need+=(node-babel7)
+    [ ${#need[@]} -gt 0 ] || return 0
+    echo "installing ${need[*]}"
+    { apt-get update && DEBIAN_FRONTEND=noninteractive apt-get install -y --no-install-recommends "${need[@]}"; } > /dev/null
+}
+
+# What stands in the document between the markers of a part.
+section() { # PART
+    sed -n "/^<!-- $1 -->\$/,/^<!-- end of $1 -->\$/p" "$document"
+}
+
+# Puts a text between the markers of a part.
+fill() { # PART TEXT
+    local new
+    new=$(PART=$1 TEXT=$2 awk '
+        $0 == "<!-- end of " ENVIRON["PART"] " -->" { print ""; inside = 0; found = 1 }
+        !inside { print }
+        $0 == "<!-- " ENVIRON["PART"] " -->" { print ""; print ENVIRON["TEXT"]; inside = 1 }
+        END { exit !found }' "$document") || { echo "no markers of $1 in $document" >&2; return 1; }
+    printf '%s\n' "$new" > "$document"
+}
+
+# Nanoseconds a token of both readers, in turns.
+part_times() {
+    echo "Processor, as \`lscpu\` names it: $(lscpu | sed -n 's/^Model name: *//p'). Compiler of the twin: $(rustc --version | cut -d' ' -f1,2)."
+    echo
+    "$programs/bench" "$rounds"
+}
+
+# Instructions a token of both readers, and how they grow.
+part_instructions() { "$programs/count"; }
+
+# The deepest byte of a painted stack that each reader writes to.
+part_stack() { "$programs/stack"; }
+
+# The bytes of the archive's sections, by what they hold.
+part_size() {
+    echo "| of the archive's objects | sections | bytes |"
+    echo "|---|---|--:|"
+    size -A "$VUOLMASET_ARCHIVE" | awk '
+        $1 ~ /^\.text/ { code += $2 }
+        $1 ~ /^\.(rodata|data\.rel\.ro)/ { constant += $2; next }
+        $1 ~ /^\.eh_frame/ { unwind += $2 }
+        $1 ~ /^\.(data|bss|tdata|tbss)/ { state += $2 }
+        END {
+            printf "| code | `.text*` | %d |\n| read-only data | `.rodata*` | %d |\n", code, constant
+            printf "| tables for unwinding | `.eh_frame` | %d |\n| data that can be written | `.data*`, `.bss*` | %d |\n", unwind, state
+        }'
+}
+
+# The same sheets through parsers of JavaScript text. Long chains are read by recursion: as much stack as there is.
+part_context() {
+    ulimit -s unlimited 2> /dev/null || ulimit -s "$(ulimit -H -s)"
+    local stack
+    stack=$(ulimit -s)
+    [ "$stack" != unlimited ] || stack=65536
+    "$programs/sheets" | node --no-compilation-cache --stack-size=$((stack * 3 / 4)) "$here/context.js" 100 <(section times)
+}
+
+[ -e "$VUOLMASET_ARCHIVE" ] || { echo "no archive at $VUOLMASET_ARCHIVE: rt staticlib vuolmaset builds it" >&2; exit 1; }
+install_missing
+(cd "$here/harness" && cargo build --quiet --offline --release --features archive)
+[ $# -gt 0 ] || set -- times instructions stack size context
+for part in "$@"; do
+    echo "measuring: $part"
+    declare -F "part_$part" > /dev/null || { echo "no such part: $part" >&2; exit 1; }
+    text=$("part_$part")
+    fill "$part" "$text"
+done
