@@ -201,7 +201,7 @@ static void reading(int which, const input_t *in) {
         CHECK(words[6 * i + 1] < in->tokens);
         reach_row(words[6 * i], in->kinds[words[6 * i + 1]]);
     }
-    conversion(words, 6 * n, in->choice & 8 ? in->choice % (n + 1) : in->spot % (n + 1), 2 * n);
+    conversion(words, 6 * n, in->choice & 8 ? in->choice % (n + 1) : in->spot % (n + 1), room_for(2 * n, in, 2, 128));
     if (in->choice & 4) {
         words[in->spot % (6 * n)] ^= 1u << in->choice % 6;
         conversion(words, 6 * n, n - 1, 2 * n);
