@@ -5,9 +5,10 @@
 # next run in target/fuzz/finding-*, with the log of its process, and fails the run.
 # ARCHIVE names the archive; without it target/staticlib/libvuolmaset.a is taken, which `rt staticlib vuolmaset` makes.
 set -euo pipefail
-cd "$(dirname "${BASH_SOURCE[0]}")/../.."
+root=$(cd "$(dirname "${BASH_SOURCE[0]}")/../.." && pwd)
+archive=$(realpath -m "${ARCHIVE:-$root/target/staticlib/libvuolmaset.a}")
+cd "$root"
 executions=${1:-1000000} seed=${2:-1} jobs=${JOBS:-$(nproc)}
-archive=${ARCHIVE:-target/staticlib/libvuolmaset.a}
 [ -e "$archive" ] || rt staticlib vuolmaset
 
 # clang with its runtime libraries, which newer Debians have in a package of their own.

@@ -9,7 +9,9 @@
 #
 # READER names the reader: a program that answers the lines of bench/twin/src/protocol.rs. Without it the twin is asked.
 set -euo pipefail
-cd "$(dirname "${BASH_SOURCE[0]}")"
+here=$(cd "$(dirname "${BASH_SOURCE[0]}")" && pwd)
+reader=$(realpath -m "${READER:-$here/../../bench/twin/target/release/twin}")
+cd "$here"
 root=../..
 
 # Debian's parsers, where they are not there yet. What cannot be installed is left out.
@@ -40,4 +42,4 @@ esac
 ulimit -s unlimited 2> /dev/null || ulimit -s "$(ulimit -H -s)"
 stack=$(ulimit -s)
 [ "$stack" != unlimited ] || stack=65536
-exec nice -n 10 node --stack-size=$((stack * 3 / 4)) judge.js --jobs "${JOBS:-$(nproc)}" --reader "${READER:-$PWD/$root/bench/twin/target/release/twin}" "${runs[@]}"
+exec nice -n 10 node --stack-size=$((stack * 3 / 4)) judge.js --jobs "${JOBS:-$(nproc)}" --reader "$reader" "${runs[@]}"
