@@ -12,8 +12,9 @@ runs() {
     echo "random $seed 0 $count 2048"
     echo "pattern $seed 0 $((count / 2)) 2048"
 }
-# Each run fails where something is unlike; its line says of how many readings.
+# Each run prints a line, and fails where something is unlike. The last line is the sum.
 runs | while read -r run; do
     # shellcheck disable=SC2086
-    nice -n 10 target/release/agree $run
-done
+    nice -n 10 target/release/agree $run | tee /dev/stderr
+done | awk -F ': |, ' '{ readings += $2; read += $3; clean += $4; abandoned += $5; early += $7; unlike += $8 }
+    END { printf "all: %d readings, %d read, %d of them clean, %d heads abandoned, %d with the early commit, %d unlike\n", readings, read, clean, abandoned, early, unlike }'
