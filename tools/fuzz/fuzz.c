@@ -84,14 +84,17 @@ static void *lent(int which, size_t bytes) {
 /* A list of exactly these bytes. */
 static void *lent_copy(int which, const void *bytes, size_t count) { return memcpy(lent(which, count), bytes, count); }
 
+/* Loops over all lent words, which the closed pages guard already: the sanitizers' checks of each step would only cost time. */
+#define QUICK __attribute__((noinline, no_sanitize("address", "undefined")))
+
 /* Words that are lent for writing, each with the same word in it. */
-static uint32_t *lent_words(int which, size_t length, uint32_t word) {
+QUICK static uint32_t *lent_words(int which, size_t length, uint32_t word) {
     uint32_t *words = lent(which, 4 * length);
     for (size_t i = 0; i < length; i++) words[i] = word;
     return words;
 }
 
-static int all_are(const uint32_t *words, size_t from, size_t to, uint32_t word) {
+QUICK static int all_are(const uint32_t *words, size_t from, size_t to, uint32_t word) {
     uint32_t unlike = 0;
     for (size_t i = from; i < to; i++) unlike |= words[i] ^ word;
     return unlike == 0;
