@@ -1,5 +1,5 @@
 #!/usr/bin/env python3
-"""Writes some of the judged lists as inputs of fuzz.c: a byte for what is done, a byte for the room, and a byte a token."""
+"""Writes some of the judged lists as inputs of fuzz.c: four bytes for what is done, and a byte a token."""
 import os
 import sys
 
@@ -12,7 +12,7 @@ for name in files:
                 continue
             _, kinds, flags = line.split(' > ')[0].split()[:3]
             kinds, flags = bytes.fromhex(kinds), bytes.fromhex(flags)
-            data = bytes([0, 3]) + bytes(kind - 1 + 128 * flag for kind, flag in zip(kinds, flags))
+            data = bytes([0, 3, 0, 0]) + bytes(kind - 1 + 128 * flag for kind, flag in zip(kinds, flags))
             with open(os.path.join(folder, '%04d' % count), 'wb') as out:
                 out.write(data)
             count += 1

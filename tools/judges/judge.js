@@ -1,14 +1,16 @@
 // Holds a reader to the outside judges over many lists: clean or not with all of them, every word of every row with acorn and babel, and every
 // reading with the plain reader of demand 3. Each disagreement is put into a class of classes.js; one that fits none is made small, shown, and fails the run.
 //
-//     node judge.js [--reader COMMAND] [--batch N] [--keep FILE] RUN..      RUN: small:LENGTH | matched:LENGTH:ALPHABET | random:SEED:COUNT:LONGEST |
-//                                                                            pattern:SEED:COUNT:LONGEST (the pattern entry)
+//     node judge.js [--reader COMMAND] [--jobs N] [--batch N] [--keep FILE] RUN..      RUN: small:LENGTH | matched:LENGTH:ALPHABET |
+//                                                                                      random:SEED:COUNT:LONGEST |
+//                                                                                      pattern:SEED:COUNT:LONGEST (the pattern entry)
 //
-// COMMAND reads lines of bench/twin/src/protocol.rs from standard input. --keep writes each list that was judged, with the answer that was agreed on.
+// COMMAND reads lines of bench/twin/src/protocol.rs from standard input. --jobs says how many processes judge, each its share of the batches.
+// --keep writes each list that was judged, with the answer that was agreed on.
 'use strict';
 const fs = require('fs');
 const path = require('path');
-const { execFileSync } = require('child_process');
+const { execFileSync, fork } = require('child_process');
 const { spell, outside, outsidePattern, balanced } = require('./spell.js');
 const { rowsOf } = require('./estree.js');
 const parsers = require('./parsers.js');
@@ -18,7 +20,7 @@ const LISTS = path.join(__dirname, 'lists/target/release/lists');
 const PLAIN = path.join(__dirname, '../plain/target/release/plain');
 const BIG = { maxBuffer: 1 << 30, encoding: 'latin1' };
 
-const options = { reader: path.join(__dirname, '../../bench/twin/target/release/twin'), batch: '20000', keep: null };
+const options = { reader: path.join(__dirname, '../../bench/twin/target/release/twin'), batch: '20000', jobs: '1', keep: null, share: null };
 const runs = [];
 for (let i = 2; i < process.argv.length; i++) {
   if (process.argv[i].startsWith('--')) options[process.argv[i].slice(2)] = process.argv[++i];
@@ -37,7 +39,7 @@ function answerOf(line) {
   if (line === 'long') return { long: true };
   if (!line.startsWith('read')) throw new Error('the reader said: ' + line);
   const [head, words, records] = line.split(':');
-  const numbers = (text) => text.trim().split(' ').filter(Boolean).map(Number);
+  const numbers = (text) => JSON.parse('[' + text.trim().replaceAll(' ', ',') + ']');
   const said = numbers(records);
   return { read: true, clean: said.length === 0, words: numbers(words), records: said, abandoned: Number(head.split(' ')[3]) };
 }
@@ -156,7 +158,15 @@ function minimize(it, unlike) {
 }
 
 const totals = { lists: 0, clean: 0, trees: 0, refused: 0, records: 0, early: 0, outside: {}, classes: {}, gaveUp: {} };
-const unknown = new Map();
+const unknown = {};
+
+// What is shown of a list.
+function sampleOf(it) {
+  return { length: it.kinds.length, text: it.spelled ? it.spelled.text.replace(/\n/g, ' ↵ ') : it.line, reader: it.reader.slice(0, 60) };
+}
+
+// The shorter of two samples; of two that are as long, always the same one.
+const smallerOf = (a, b) => (!a || b.length < a.length || (b.length === a.length && b.text < a.text) ? b : a);
 
 // Puts each disagreement of a list into its class.
 function sort(it) {
@@ -165,13 +175,10 @@ function sort(it) {
     const name = known || 'UNKNOWN ' + unlike.judge + ' ' + unlike.how + (it.ours.read ? '' : ' ours ' + it.ours.number);
     const entry = (totals.classes[name] ||= { count: 0, smallest: null });
     entry.count += 1;
-    if (!entry.smallest || it.kinds.length < entry.smallest.kinds.length) {
-      entry.smallest = { kinds: it.kinds, text: it.spelled ? it.spelled.text.replace(/\n/g, ' ↵ ') : it.line, reader: it.reader.slice(0, 60) };
-    }
+    if (!entry.smallest || it.kinds.length <= entry.smallest.length) entry.smallest = smallerOf(entry.smallest, sampleOf(it));
     if (known) continue;
-    const list = unknown.get(name) || [];
-    unknown.set(name, list);
-    if (list.length < 6) list.push([it, unlike]);
+    const list = (unknown[name] ||= []);
+    if (list.length < 6) list.push([it.line, unlike]);
   }
 }
 
@@ -197,58 +204,117 @@ function agreed(it) {
     Object.entries(it.verdicts).every(([name, verdict]) => name === 'TypeScript' || verdict === it.ours.clean);
 }
 
-// The batches of a run, as lines.
+// The batches of a run that are this process's share, as lines.
 function* batches(run) {
   const [sort, ...numbers] = run.split(':');
   const size = Number(options.batch);
-  if (sort === 'random' || sort === 'pattern') {
-    const [seed, count, longest] = numbers.map(Number);
-    const step = Math.max(200, Math.min(size, Math.floor((size * 64) / longest)));
-    for (let from = 0; from < count; from += step) {
-      const args = [sort, seed, from, Math.min(step, count - from), longest].map(String);
-      yield execFileSync(LISTS, args, BIG).trim().split('\n');
-    }
-    return;
+  const isRandom = sort === 'random' || sort === 'pattern';
+  const [seed, asked, longest] = numbers.map(Number);
+  const all = isRandom ? null : execFileSync(LISTS, [sort, ...numbers], BIG).trim().split('\n');
+  const count = isRandom ? asked : all.length;
+  const step = isRandom ? Math.max(200, Math.min(size, Math.floor((size * 64) / longest))) : size;
+  for (let from = Number(options.share) * step; from < count; from += Number(options.jobs) * step) {
+    if (!isRandom) yield all.slice(from, from + step);
+    else yield execFileSync(LISTS, [sort, seed, from, Math.min(step, count - from), longest].map(String), BIG).trim().split('\n');
   }
-  const all = execFileSync(LISTS, [sort, ...numbers], BIG).trim().split('\n');
-  for (let from = 0; from < all.length; from += size) yield all.slice(from, from + size);
 }
 
-const keep = options.keep && fs.createWriteStream(options.keep);
-console.log('judges: ' + Object.entries(parsers.versions).map(([name, version]) => `${name} ${version || '(not there)'}`).join(', '));
-for (const run of runs) {
-  const begun = Date.now();
-  let done = 0;
-  for (const lines of batches(run)) {
-    const cases = judged(lines, options.reader);
-    cases.forEach(tally);
-    if (keep) {
-      for (const it of cases) if (agreed(it)) keep.write(it.line + ' > ' + it.reader + '\n');
-    }
-    done += lines.length;
-    process.stderr.write(`\r${run}: ${done} lists, ${Math.round((Date.now() - begun) / 1000)} s, ${[...unknown.values()].flat().length} unknown   `);
-  }
-  process.stderr.write('\n');
-}
-if (keep) keep.end();
+const tell = (message) => new Promise((done) => process.send(message, done));
 
-console.log(`lists ${totals.lists}; judged: clean ${totals.clean}, with records ${totals.records}, refused ${totals.refused}; trees compared ${totals.trees}; ` +
-  `calls that the early commit refuses ${totals.early}`);
-for (const [why, count] of Object.entries(totals.outside)) console.log(`outside the comparison: ${why}: ${count}`);
-for (const [name, count] of Object.entries(totals.gaveUp)) console.log(`gave up: ${name}: ${count}`);
-for (const [name, { count, smallest }] of Object.entries(totals.classes).sort()) {
-  console.log(`${name}: ${count}; smallest seen: ${smallest.text.slice(0, 160)}   (${smallest.reader})`);
+// Judges this process's share of all runs; tells how far it is, and at last what it saw.
+async function work() {
+  for (const run of runs) {
+    for (const lines of batches(run)) {
+      const cases = judged(lines, options.reader);
+      cases.forEach(tally);
+      if (options.keep) fs.appendFileSync(options.keep, cases.filter(agreed).map((it) => it.line + ' > ' + it.reader + '\n').join(''));
+      await tell({ run, done: lines.length, unknown: Object.values(unknown).flat().length });
+    }
+  }
+  await tell({ totals, unknown });
+  process.disconnect();
 }
-const fails = [...unknown.entries()];
-for (const [name, list] of fails) {
+
+// Adds the counts of one share to the whole.
+function add(into, from) {
+  for (const [name, count] of Object.entries(from)) {
+    if (typeof count === 'object') add((into[name] ||= {}), count);
+    else into[name] = (into[name] || 0) + count;
+  }
+}
+
+// Adds what one share saw.
+function take(seen) {
+  for (const [name, { count, smallest }] of Object.entries(seen.totals.classes)) {
+    const entry = (totals.classes[name] ||= { count: 0, smallest });
+    entry.count += count;
+    entry.smallest = smallerOf(entry.smallest, smallest);
+  }
+  add(totals, { ...seen.totals, classes: {} });
+  for (const [name, list] of Object.entries(seen.unknown)) unknown[name] = [...(unknown[name] || []), ...list].slice(0, 6);
+}
+
+const begun = Date.now();
+const progress = {}; // the lists judged of each run
+const strangers = []; // the unknown disagreements of each share
+
+// Shows how far the runs are.
+function show(share, { run, done, unknown: strange }) {
+  progress[run] = (progress[run] || 0) + done;
+  strangers[share] = strange;
+  const found = strangers.reduce((a, b) => a + b, 0);
+  process.stderr.write(`\r${run}: ${progress[run]} lists, ${Math.round((Date.now() - begun) / 1000)} s, ${found} unknown   `);
+}
+
+// One process that judges a share. It must come to its end.
+function startShare(share) {
+  return new Promise((done, fail) => {
+    const child = fork(__filename, [...process.argv.slice(2), '--share', String(share)]);
+    let ended = false;
+    child.on('message', (message) => {
+      if (message.totals) take(message);
+      else show(share, message);
+      ended ||= !!message.totals;
+    });
+    child.on('close', (code) => (ended && code === 0 ? done() : fail(new Error('a judging process stopped: ' + code))));
+  });
+}
+
+// Prints the sums and the classes.
+function report() {
+  console.log(`lists ${totals.lists}; judged: clean ${totals.clean}, with records ${totals.records}, refused ${totals.refused}; trees compared ${totals.trees}; ` +
+    `calls that the early commit refuses ${totals.early}`);
+  for (const [why, count] of Object.entries(totals.outside).sort()) console.log(`outside the comparison: ${why}: ${count}`);
+  for (const [name, count] of Object.entries(totals.gaveUp).sort()) console.log(`gave up: ${name}: ${count}`);
+  for (const [name, { count, smallest }] of Object.entries(totals.classes).sort()) {
+    console.log(`${name}: ${count}; smallest seen: ${smallest.text.slice(0, 160)}   (${smallest.reader})`);
+  }
+}
+
+// Prints the disagreements of one sort that fit no class, each made small.
+function reportUnknown(name, list) {
   const shown = new Set();
-  for (const [it, unlike] of list) {
-    const least = minimize(it, unlike);
+  for (const [line, unlike] of list) {
+    const least = minimize(judged([line], options.reader)[0], unlike);
     const verdicts = least.verdicts ? Object.entries(least.verdicts).map(([judge, v]) => judge + ' ' + v).join(', ') : '';
     const text = `  ${least.spelled ? least.spelled.text.replace(/\n/g, ' ↵ ') : ''}   ${least.line}   ${least.reader.slice(0, 80)}   [${verdicts}]`;
     if (!shown.has(text)) console.log((shown.size ? '' : name + ', made small:\n') + text);
     shown.add(text);
   }
 }
-console.log(fails.length ? 'FAILED: disagreements of no known class' : 'every disagreement is of a known class');
-process.exitCode = fails.length ? 1 : 0;
+
+// Has all runs judged, and says how it went.
+async function main() {
+  console.log('judges: ' + Object.entries(parsers.versions).map(([name, version]) => `${name} ${version || '(not there)'}`).join(', '));
+  if (options.keep) fs.writeFileSync(options.keep, '');
+  await Promise.all(Array.from({ length: Number(options.jobs) }, (_, share) => startShare(share)));
+  process.stderr.write('\n');
+  report();
+  const fails = Object.entries(unknown);
+  fails.forEach(([name, list]) => reportUnknown(name, list));
+  console.log(fails.length ? 'FAILED: disagreements of no known class' : 'every disagreement is of a known class');
+  process.exitCode = fails.length ? 1 : 0;
+}
+
+if (options.share === null) main();
+else work();

@@ -27,14 +27,18 @@ const typescript = load('typescript');
 
 const gaveUp = (error) => error instanceof RangeError || (error && error.name === 'InternalError');
 
-// Runs a parser that throws where it refuses: its result, false, or null.
+// Runs a parser that throws where it refuses: its result, false, or null. No stack is written down with what it throws: that would take long.
 function attempt(parse) {
+  const limit = Error.stackTraceLimit;
+  Error.stackTraceLimit = 0;
   try {
     return parse();
   } catch (error) {
     if (gaveUp(error)) return null;
     if (error instanceof SyntaxError || error.pos !== undefined || error.loc !== undefined) return false;
     throw error;
+  } finally {
+    Error.stackTraceLimit = limit;
   }
 }
 

@@ -1,8 +1,11 @@
 #!/usr/bin/env bash
-# Holds one reader to another, answer by answer and word by word: tools/judges/same.sh READER OTHER. Both answer the lines of bench/twin/src/protocol.rs.
+# Holds one reader to another, answer by answer and word by word: tools/judges/same.sh READER [OTHER]. Both answer the lines of bench/twin/src/protocol.rs.
+# Without OTHER it is the twin.
 set -euo pipefail
 here=$(cd "$(dirname "${BASH_SOURCE[0]}")" && pwd)
 lists=$here/lists/target/release/lists
+twin=$here/../../bench/twin
+for crate in "$here/lists" "$twin"; do (cd "$crate" && CARGO_BUILD_JOBS=1 nice -n 10 cargo build --release --quiet); done
 asked=$(mktemp)
 trap 'rm -f "$asked"' EXIT
 same() { # NAME COMMAND..
@@ -13,7 +16,7 @@ same() { # NAME COMMAND..
     echo "$(wc -l < "$asked") answers the same: $name"
 }
 reader=$1
-other=$2
+other=${2:-$twin/target/release/twin}
 for length in 1 2 3; do same "all lists of $length" "$lists" small "$length"; done
 same "bracket-matched lists of 5" "$lists" matched 5 1
 same "bracket-matched lists of 6" "$lists" matched 6 0

@@ -21,14 +21,14 @@ const isName = (k) => k >= 1 && k <= 5;
 // The text, and where each token starts and ends. `renamed` has places that are spelled as plain names; `calm` leaves some reserved words out.
 // A binding is spelled as the parameter of an arrow.
 function spell(kinds, flags, { renamed, calm, pattern } = {}) {
-  let text = pattern ? '( ' : '';
+  const parts = pattern ? ['( '] : [];
+  let length = pattern ? 2 : 0;
   const starts = new Map();
   const ends = new Map();
   const reserved = calm ? RESERVED.filter((word) => !STATEMENT.has(word)) : RESERVED;
   const counts = { 5: 0, 11: 0, 12: 0, 17: 0 };
   for (let i = 0; i < kinds.length; i++) {
     const k = kinds[i];
-    if (i > 0 || flags[i]) text += flags[i] ? '\n' : ' ';
     const turn = (list) => list[counts[k]++ % list.length];
     let word = FIXED[k];
     if (k === 1 || (renamed && renamed.has(i))) word = 'x' + i;
@@ -36,12 +36,17 @@ function spell(kinds, flags, { renamed, calm, pattern } = {}) {
     else if (k === 11) word = turn(STRINGS);
     else if (k === 12) word = turn(NUMBERS);
     else if (k === 17) word = turn(reserved);
-    starts.set(text.length, i);
-    text += word;
-    ends.set(text.length, i + 1);
+    if (i > 0 || flags[i]) {
+      parts.push(flags[i] ? '\n' : ' ');
+      length += 1;
+    }
+    starts.set(length, i);
+    parts.push(word);
+    length += word.length;
+    ends.set(length, i + 1);
   }
-  if (pattern) text += ' ) => 0';
-  return { text, starts, ends };
+  if (pattern) parts.push(' ) => 0');
+  return { text: parts.join(''), starts, ends };
 }
 
 // Whether the token is a word after a dot or a key, by the tokens beside it.
