@@ -4,6 +4,7 @@ ghost use lib.ListN.{length};
 ghost use Rattle.targets.specs.Meaning as means;
 ghost use Rattle.targets.specs.Entry.{Answered};
 ghost use Rattle.targets.specs.Post.{Subtree, Looked, Judged, Sums, NoteFits, Written, Ready, TurnedRow, Room, RowConverted};
+ghost use Rattle.targets.specs.ShortCut.{NameTurned};
 
 mod role;
 
@@ -12,6 +13,7 @@ use role::Plan;
 use role::Role;
 use role::Seen;
 use rows::clear_from;
+use rows::row;
 use rows::row_word;
 use rows::set_kind;
 use rows::well_formed;
@@ -70,11 +72,24 @@ fn both(one: Conversion, rest: Conversion) -> Conversion
     }
 }
 
+// Whether the row is a name whose role makes it a TargetName, with no record.
+fn is_name(rows: &[u32], root: usize, role: Role) -> bool
+    ensures { λ r. ⌜ NameTurned (now (rows .entry)) root (means.role role) r ⌝ }
+{
+    if row_word(rows, root, 0) == row::IDENTIFIER {
+        return role::takes_name(role);
+    }
+    false
+}
+
 // Whether the row can become what its role asks, and with how many records. It changes nothing.
 fn judge(rows: &[u32], root: usize, role: Role) -> Conversion
     requires { ⌜ Subtree (now rows) root ⌝ }
     ensures { λ r. ⌜ Judged (now (rows .entry)) root (means.role role) r ⌝ }
 {
+    if is_name(rows, root, role) {
+        return Conversion::Turned(0);
+    }
     let seen = look(rows, root);
     let plan = role::plan_of(role, seen);
     match plan {
@@ -119,6 +134,10 @@ fn turn(rows: &mut [u32], root: usize, role: Role, records: &mut [u32], end: usi
     requires { ⌜ Ready (now rows) root (means.role role) (length (now records)) end ⌝ }
     ensures { λ r. ⌜ TurnedRow (now (rows .entry)) (now (records .entry)) root (means.role role) end (now (rows .exit)) (now (records .exit)) r ⌝ }
 {
+    if is_name(rows, root, role) {
+        set_kind(rows, root, row::TARGET_NAME);
+        return end;
+    }
     let seen = look(rows, root);
     let plan = role::plan_of(role, seen);
     match plan {

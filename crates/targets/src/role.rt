@@ -6,6 +6,7 @@ ghost use lib.ListN.{length};
 ghost use Rattle.tokens.specs.declared.cause.Cause.the-variants.{Target as NoTarget, Spread as SpreadNotLast};
 ghost use Rattle.targets.specs.Conversion as def;
 ghost use Rattle.targets.specs.Meaning as means;
+ghost use Rattle.targets.specs.ShortCut.{takes-name};
 use rows::row;
 use tokens::cause::Cause;
 
@@ -291,6 +292,23 @@ pub fn plan_of(role: Role, seen: Seen) -> Plan
         Role::Value => as_value(seen),
         Role::Name => as_name(seen),
         Role::Same => keep(seen.kind),
+    }
+}
+
+// Whether a name becomes a TargetName in this role.
+pub fn takes_name(role: Role) -> bool
+    ensures { λ r. ⌜ r ≡ takes-name (means.role role) ⌝ }
+{
+    match role {
+        Role::Any => true,
+        Role::Simple => true,
+        Role::Element => true,
+        Role::LastElement(_) => true,
+        Role::Property => false,
+        Role::LastProperty(_) => false,
+        Role::Value => true,
+        Role::Name => true,
+        Role::Same => false,
     }
 }
 
