@@ -269,7 +269,7 @@ module _ {rows₀ r₀ : List ℕ} {root kids : ℕ} {ch : Change} {start₀ : �
         inside = omega arith;
       }
 
-more-flat : (t : Tree) (ts : Forest) (R : List ℕ) → flats (cons t ts) ++ R ≡ flat t ++ (flats ts ++ R)
+pub more-flat : (t : Tree) (ts : Forest) (R : List ℕ) → flats (cons t ts) ++ R ≡ flat t ++ (flats ts ++ R)
 unfolding flats
 more-flat t ts R = append-assoc (flat t) (flats ts) R
 

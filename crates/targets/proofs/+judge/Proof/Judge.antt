@@ -9,9 +9,9 @@ use Rattle.targets.proofs.+judge.Lts-judge as lts
 use Rattle.targets.proofs.+judge.Proof.Measures.{judge-at, judge-below}
 use Rattle.rows.proofs.row_word.Reads as row-word
 use Rattle.targets.proofs.both.Reads as both
-use Rattle.targets.proofs.is_name.Reads as is-name
 use Rattle.targets.proofs.judge.Reads as judge
 use Rattle.targets.proofs.look.Reads as look
+use Rattle.targets.proofs.name_at.Reads as name-at
 use Rattle.targets.proofs.role.kid_role.Reads as kid-role
 use Rattle.targets.proofs.role.note_count.Reads as note-count
 use Rattle.targets.proofs.role.notes_count.Reads as notes-count
@@ -28,13 +28,13 @@ abbrev μ-loop : lts.MeasureT-loop
 
 module _ (t : ℕ) where
   abbrev K : lts.Claims
-  K = (is-name.Asked, is-name.Learnt, look.Asked, look.Learnt, plan-of.Asked, plan-of.Learnt, note-count.Asked, note-count.Learnt, wide.Asked, wide.Learnt, notes-count.Asked, notes-count.Learnt, row-word.Asked, row-word.Learnt, kid-role.Asked, kid-role.Learnt, judge-below t, judge.Post, both.Asked, both.Learnt)
+  K = (name-at.Asked, name-at.Learnt, look.Asked, look.Learnt, plan-of.Asked, plan-of.Learnt, note-count.Asked, note-count.Learnt, wide.Asked, wide.Learnt, notes-count.Asked, notes-count.Learnt, row-word.Asked, row-word.Learnt, kid-role.Asked, kid-role.Learnt, judge-below t, judge.Post, both.Asked, both.Learnt)
 
-  is-name-requires : lts.Need-is-name-requires K (judge-at t) judge.Post Inv-loop μ-loop
-  is-name-requires c κs = search needs
+  name-at-requires : lts.Need-name-at-requires K (judge-at t) judge.Post Inv-loop μ-loop
+  name-at-requires c κs = c .before .pre .1
 
   returns : lts.Need-returns K (judge-at t) judge.Post Inv-loop μ-loop
-  returns c = judge-name (c .before .is-name .ensures) (c .if1 .taken)
+  returns c = judge-name (c .before .name-at .ensures) (c .if1 .taken)
 
   look-requires : lts.Need-look-requires K (judge-at t) judge.Post Inv-loop μ-loop
   look-requires c κs = c .before .before .before .pre .1
@@ -106,4 +106,4 @@ module _ (t : ℕ) where
   returns-4 c = judge-ends (c .before .before .before .before .before .before .before .before .look .ensures) (c .before .before .before .before .before .before .before .plan-of .ensures) (c .before .before .before .before .before .plan3 .given .1) (c .before .before .notes-count .ensures) (c .before .loop .inv) (c .loop-test .left)
 
   pub judge-closed : {M : Type 1} → lts.Closed K (judge-at t) judge.Post M
-  judge-closed = lts.spec K (judge-at t) judge.Post Inv-loop μ-loop is-name-requires returns look-requires plan-of-requires enum-known-plan enum-known-plan-2 note-count-requires enum-known-plan-3 wide-requires notes-count-requires loop-holds sub-row-word row-word-requires wide-requires-2 sub-judge kid-role-requires judge-requires both-requires sub-end add-after loop-less loop-again returns-2 returns-3 returns-4
+  judge-closed = lts.spec K (judge-at t) judge.Post Inv-loop μ-loop name-at-requires returns look-requires plan-of-requires enum-known-plan enum-known-plan-2 note-count-requires enum-known-plan-3 wide-requires notes-count-requires loop-holds sub-row-word row-word-requires wide-requires-2 sub-judge kid-role-requires judge-requires both-requires sub-end add-after loop-less loop-again returns-2 returns-3 returns-4
