@@ -1,5 +1,6 @@
 // The operator tables (002): one constant table of precedence levels over the token kinds, and what operator a kind stands for.
 ghost use mathlib.Core.Path.{_≡_};
+ghost use Prim.Native.Nat.{_*_, _/_, _%_, _^_, _<_};
 ghost use Rattle.operators.specs.Precedence.{level, expression-level};
 ghost use Rattle.operators.specs.Operator.{binary-operator, unary-operator, logical-operator, update-operator, assignment-operator};
 use tokens::kind;
@@ -271,24 +272,40 @@ pub fn kind_to_precedence(k: u8) -> u8
     PRECEDENCE_TABLE[wide(k)]
 }
 
-// A kind as an index of the table.
+// A byte as an index.
 fn wide(k: u8) -> usize
     ensures { λ r. ⌜ r ≡ k ⌝ }
 {
     k as usize
 }
 
+// The levels of the table's operators, four bits each: from `??` to `in`, and from `<<` to `**`.
+const LOOSER_LEVELS: u64 = 9838263432676459297;
+
+const TIGHTER_LEVELS: u64 = 54689180057;
+
 // The level of a kind in an expression: As and Satisfies are no operators there.
 pub fn expression_precedence(k: u8) -> u8
     ensures { λ r. ⌜ r ≡ expression-level k ⌝ }
 {
-    if k == kind::AS {
+    if k < kind::QUESTION2 {
         return 0;
     }
-    if k == kind::SATISFIES {
-        return 0;
+    if k <= kind::IN {
+        return level_at(LOOSER_LEVELS, k - kind::QUESTION2);
     }
-    kind_to_precedence(k)
+    if k <= kind::STAR2 {
+        return level_at(TIGHTER_LEVELS, k - kind::SHIFT_LEFT);
+    }
+    0
+}
+
+// The four bits at a place of a word of levels.
+fn level_at(levels: u64, place: u8) -> u8
+    requires { ⌜ place < 16 ⌝ }
+    ensures { λ r. ⌜ r ≡ levels / 2 ^ (4 * place) % 16 ⌝ }
+{
+    ((levels >> (4 * wide(place))) % 16) as u8
 }
 
 // The binary operators (13.6 to 13.12), and None.

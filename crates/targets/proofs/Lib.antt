@@ -8,6 +8,7 @@ mod Records
 mod Judging
 pub mod Shapes
 mod Turning
+mod ShortCuts
 mod Converting
 mod Entering
 mod Once

@@ -54,7 +54,7 @@ near-is : (t : Tree) (s : Seen) → s .kind ≡ kind-of t → s .mark ≡ mark-o
 unfolding near kind-of mark-of first-of kids-of
 near-is (node k m f e kids) s a b c d l g = rw (a, b, c, d, l, g)
 
-no-kid : (ts : Forest) → count ts ≡ 0 → ts ≡ nil
+pub no-kid : (ts : Forest) → count ts ≡ 0 → ts ≡ nil
 unfolding count
 no-kid nil h = refl
 no-kid (cons t ts) h = absurd (omega arith)

@@ -76,7 +76,7 @@ accepted {ch = ch} l e q h t′ rs a =
     ∙ a)
 
 -- the kind of the root is changed over converted kids
-root-set : (t : Tree) (kids : Forest) (kind : ℕ) (before after rows rows′ : List ℕ) (root : ℕ) → SameShape (kids-of t) kids
+pub root-set : (t : Tree) (kids : Forest) (kind : ℕ) (before after rows rows′ : List ℕ) (root : ℕ) → SameShape (kids-of t) kids
     → rows ≡ before ++ (flats kids ++ (root-words t ++ after)) → 6 * root ≡ length before + 6 * sizes (kids-of t) → rows′ ≡ set rows (6 * root) kind
     → rows′ ≡ before ++ (flat (node kind (mark-of t) (first-of t) (end-of t) kids) ++ after)
 unfolding flat root-words kids-of mark-of first-of end-of
@@ -97,10 +97,10 @@ refuses-over : (c : Cause) (t : Tree) (out : Outcome Forest) → over (def.refus
 unfolding over
 refuses-over c t out = refl
 
-same-kids : (ts : Forest) → SameShape ts ts
+pub same-kids : (ts : Forest) → SameShape ts ts
 same-kids ts = record { many = refl; rows = refl }
 
-place-root : {rows : List ℕ} {root : ℕ} (h : Subtree rows root) → 6 * root ≡ length (h .before) + 6 * sizes (kids-of (h .tree))
+pub place-root : {rows : List ℕ} {root : ℕ} (h : Subtree rows root) → 6 * root ≡ length (h .before) + 6 * sizes (kids-of (h .tree))
 place-root h = omega (arith, h .place, size-root (h .tree))
 
 -- a row that is refused is not turned
@@ -269,7 +269,7 @@ module _ {rows₀ r₀ : List ℕ} {root kids : ℕ} {ch : Change} {start₀ : �
         inside = omega arith;
       }
 
-more-flat : (t : Tree) (ts : Forest) (R : List ℕ) → flats (cons t ts) ++ R ≡ flat t ++ (flats ts ++ R)
+pub more-flat : (t : Tree) (ts : Forest) (R : List ℕ) → flats (cons t ts) ++ R ≡ flat t ++ (flats ts ++ R)
 unfolding flats
 more-flat t ts R = append-assoc (flat t) (flats ts) R
 

@@ -7,4 +7,5 @@ pub mod Examples
 pub mod Meaning
 pub mod Potential
 pub mod Post
+pub mod ShortCut
 pub mod Entry

@@ -4,6 +4,7 @@ ghost use lib.ListN.{length};
 ghost use Rattle.targets.specs.Meaning as means;
 ghost use Rattle.targets.specs.Entry.{Answered};
 ghost use Rattle.targets.specs.Post.{Subtree, Looked, Judged, Sums, NoteFits, Written, Ready, TurnedRow, Room, RowConverted};
+ghost use Rattle.targets.specs.ShortCut.{NameAt, NameBelow, NameInside, NameSet};
 
 mod role;
 
@@ -12,6 +13,7 @@ use role::Plan;
 use role::Role;
 use role::Seen;
 use rows::clear_from;
+use rows::row;
 use rows::row_word;
 use rows::set_kind;
 use rows::well_formed;
@@ -70,11 +72,65 @@ fn both(one: Conversion, rest: Conversion) -> Conversion
     }
 }
 
+// The row of the name that is all there is to convert: the row itself, or a name in a property. The row after it where it is not so.
+fn name_at(rows: &[u32], root: usize, role: Role) -> usize
+    requires { ⌜ Subtree (now rows) root ⌝ }
+    ensures { λ r. ⌜ NameAt (now (rows .entry)) root (means.role role) r ⌝ }
+{
+    if role::takes_name(role) {
+        if row_word(rows, root, 0) == row::IDENTIFIER {
+            return root;
+        }
+        return root + 1;
+    }
+    if role::is_property(role) {
+        return name_below(rows, root);
+    }
+    root + 1
+}
+
+// The row of the name in a property, where all else in it stays; otherwise the row after the property's.
+fn name_below(rows: &[u32], root: usize) -> usize
+    requires { ⌜ Subtree (now rows) root ⌝ }
+    ensures { λ r. ⌜ NameBelow (now (rows .entry)) root r ⌝ }
+{
+    let kind = row_word(rows, root, 0);
+    let kids = row_word(rows, root, 4);
+    if role::is_initialized(kind, kids) {
+        let size = role::wide(row_word(rows, root - 1, 5));
+        let name = root - size - 1;
+        if row_word(rows, name, 0) == row::IDENTIFIER {
+            return name;
+        }
+        return root + 1;
+    }
+    if role::ends_in_target(kind, kids) {
+        if row_word(rows, root - 1, 0) == row::IDENTIFIER {
+            return root - 1;
+        }
+        return root + 1;
+    }
+    root + 1
+}
+
+// Makes a name a TargetName, and the row over it what it is over one.
+fn turn_name(rows: &mut [u32], root: usize, name: usize)
+    requires { ⌜ NameInside (length (now rows)) root name ⌝ }
+    ensures { λ _. ⌜ NameSet (now (rows .entry)) root name (now (rows .exit)) ⌝ }
+{
+    let kind = role::named_kind(row_word(rows, root, 0));
+    set_kind(rows, name, row::TARGET_NAME);
+    set_kind(rows, root, kind);
+}
+
 // Whether the row can become what its role asks, and with how many records. It changes nothing.
 fn judge(rows: &[u32], root: usize, role: Role) -> Conversion
     requires { ⌜ Subtree (now rows) root ⌝ }
     ensures { λ r. ⌜ Judged (now (rows .entry)) root (means.role role) r ⌝ }
 {
+    if name_at(rows, root, role) <= root {
+        return Conversion::Turned(0);
+    }
     let seen = look(rows, root);
     let plan = role::plan_of(role, seen);
     match plan {
@@ -119,6 +175,11 @@ fn turn(rows: &mut [u32], root: usize, role: Role, records: &mut [u32], end: usi
     requires { ⌜ Ready (now rows) root (means.role role) (length (now records)) end ⌝ }
     ensures { λ r. ⌜ TurnedRow (now (rows .entry)) (now (records .entry)) root (means.role role) end (now (rows .exit)) (now (records .exit)) r ⌝ }
 {
+    let name = name_at(rows, root, role);
+    if name <= root {
+        turn_name(rows, root, name);
+        return end;
+    }
     let seen = look(rows, root);
     let plan = role::plan_of(role, seen);
     match plan {

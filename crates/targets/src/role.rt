@@ -6,6 +6,7 @@ ghost use lib.ListN.{length};
 ghost use Rattle.tokens.specs.declared.cause.Cause.the-variants.{Target as NoTarget, Spread as SpreadNotLast};
 ghost use Rattle.targets.specs.Conversion as def;
 ghost use Rattle.targets.specs.Meaning as means;
+ghost use Rattle.targets.specs.ShortCut as short;
 use rows::row;
 use tokens::cause::Cause;
 
@@ -291,6 +292,69 @@ pub fn plan_of(role: Role, seen: Seen) -> Plan
         Role::Value => as_value(seen),
         Role::Name => as_name(seen),
         Role::Same => keep(seen.kind),
+    }
+}
+
+// Whether a name becomes a TargetName in this role.
+pub fn takes_name(role: Role) -> bool
+    ensures { λ r. ⌜ r ≡ short.takes-name (means.role role) ⌝ }
+{
+    match role {
+        Role::Any => true,
+        Role::Simple => true,
+        Role::Element => true,
+        Role::LastElement(_) => true,
+        Role::Property => false,
+        Role::LastProperty(_) => false,
+        Role::Value => true,
+        Role::Name => true,
+        Role::Same => false,
+    }
+}
+
+// Whether this is the role of an object's property.
+pub fn is_property(role: Role) -> bool
+    ensures { λ r. ⌜ r ≡ short.is-property (means.role role) ⌝ }
+{
+    match role {
+        Role::Any => false,
+        Role::Simple => false,
+        Role::Element => false,
+        Role::LastElement(_) => false,
+        Role::Property => true,
+        Role::LastProperty(_) => true,
+        Role::Value => false,
+        Role::Name => false,
+        Role::Same => false,
+    }
+}
+
+// A shorthand with an initializer: the name stands first.
+pub fn is_initialized(kind: u32, kids: u32) -> bool
+    ensures { λ r. ⌜ r ≡ short.is-initialized kind kids ⌝ }
+{
+    kind == row::SHORTHAND_INIT && kids == 2
+}
+
+// A key with its value, or a shorthand: what becomes a target stands last.
+pub fn ends_in_target(kind: u32, kids: u32) -> bool
+    ensures { λ r. ⌜ r ≡ short.ends-in-target kind kids ⌝ }
+{
+    if kind == row::PROPERTY {
+        return kids == 2;
+    }
+    kind == row::SHORTHAND && kids == 1
+}
+
+// The kind that a row gets with its name: of the name itself, or of a property.
+pub fn named_kind(kind: u32) -> u32
+    ensures { λ r. ⌜ r ≡ short.named-kind kind ⌝ }
+{
+    match kind {
+        row::IDENTIFIER => row::TARGET_NAME,
+        row::PROPERTY => row::TARGET_PROPERTY,
+        row::SHORTHAND => row::TARGET_SHORTHAND,
+        _ => row::TARGET_SHORTHAND_INIT,
     }
 }
 

@@ -1,25 +1,72 @@
--- `operators::expression_precedence` meets its contract.
+-- `operators::expression_precedence` meets its contract: in each of the four ranges of kinds by one test, which antt computes.
 -- Assumes nothing.
+use Prim.Native.Nat.{ℕ, _+_, _-_, _*_, _/_, _%_, _^_, _<_, _≤_}
+use mathlib.Core.Path.{_≡_, _∙_, ap}
+use mathlib.Core.List.{List}
+use native.Mathlib.Omega.{arith}
+use lib.Dec.{T, eqb, eqb→eq}
+use lib.ListN.{length, replicate}
 use borrow.Author.Needs.{needs}
-use borrow.Author.Tests.{ne-eqb}
-use Rattle.operators.specs.Precedence.{expression-level}
+use Rattle.tokens.proofs.Table.{every, entry}
+use Rattle.operators.specs.Precedence.{level, expression-level}
 use Rattle.operators.proofs.expression_precedence.Statement.{statement}
 use Rattle.operators.proofs.expression_precedence.Tie as tie
 
+-- the code's words of levels, four bits each
+abbrev looser-levels : ℕ
+looser-levels = 9838263432676459297
+
+abbrev tighter-levels : ℕ
+tighter-levels = 54689180057
+
+-- what is tested at each kind of a range, from a on, holds at each kind of it
+in-range : (f : ℕ → ℕ) (a : ℕ) (xs : List ℕ) → T (every (λ i x. eqb (f i) (expression-level (a + i))) 0 xs) → (k : ℕ) → a ≤ k → k - a < length xs → f (k - a) ≡ expression-level k
+in-range f a xs t k low high =
+    let e : a + (k - a) ≡ k = omega arith in
+    eqb→eq (f (k - a)) (expression-level (a + (k - a))) (entry (λ i x. eqb (f i) (expression-level (a + i))) xs t (k - a) high)
+    ∙ ap expression-level e
+
+-- none below `??`
+below : (k : ℕ) → k < 38 → 0 ≡ expression-level k
+unfolding expression-level level
+below k h = in-range (λ i. 0) 0 (replicate 38 0) tt k (omega arith) (omega arith)
+
+-- the levels from `??` to `in`
+looser : (k : ℕ) → 38 ≤ k → k < 54 → looser-levels / 2 ^ (4 * (k - 38)) % 16 ≡ expression-level k
+unfolding expression-level level
+looser k low high = in-range (λ i. looser-levels / 2 ^ (4 * i) % 16) 38 (replicate 16 0) tt k low (omega arith)
+
+-- the levels from `<<` to `**`
+tighter : (k : ℕ) → 54 ≤ k → k < 63 → tighter-levels / 2 ^ (4 * (k - 54)) % 16 ≡ expression-level k
+unfolding expression-level level
+tighter k low high = in-range (λ i. tighter-levels / 2 ^ (4 * i) % 16) 54 (replicate 9 0) tt k low (omega arith)
+
+-- none above `**`
+above : (k : ℕ) → 63 ≤ k → k < 256 → 0 ≡ expression-level k
+unfolding expression-level level
+above k low high = in-range (λ i. 0) 63 (replicate 193 0) tt k low (omega arith)
+
 returns : tie.Need-returns
-unfolding expression-level
-returns c = rw (c .if1 .taken)
+returns c = below (c .before .args .k) (search needs)
+
+level-at-requires : tie.Need-level-at-requires
+level-at-requires c κs = search needs
 
 returns-2 : tie.Need-returns-2
-unfolding expression-level
-returns-2 c = rw (c .if2 .taken)
+returns-2 c = c .level-at .ensures ∙ looser (c .before .before .before .args .k) (search needs) (search needs)
 
-kind-to-precedence-requires : tie.Need-kind-to-precedence-requires
-kind-to-precedence-requires c κs = search needs
+sub-level-at : tie.Need-sub-level-at
+sub-level-at c = search needs
+
+level-at-requires-2 : tie.Need-level-at-requires-2
+level-at-requires-2 c κs = search needs
 
 returns-3 : tie.Need-returns-3
-unfolding expression-level
-returns-3 c = rw (ne-eqb _ _ (c .before .before .if1 .left), ne-eqb _ _ (c .before .if2 .left)) (c .kind-to-precedence .ensures)
+returns-3 c = c .level-at2 .ensures ∙ tighter (c .before .before .before .before .args .k) (search needs) (search needs)
+
+returns-4 : tie.Need-returns-4
+returns-4 c = above (c .before .before .before .args .k) (search needs) (search needs)
 
 pub expression-precedence-spec : {M : Type 1} → statement M
-expression-precedence-spec = tie.close (tie.spec returns returns-2 kind-to-precedence-requires returns-3)
+expression-precedence-spec =
+    tie.close (tie.spec returns level-at-requires returns-2 sub-level-at level-at-requires-2 returns-3 returns-4)
