@@ -1,7 +1,7 @@
 -- Where a head may open, and the way that the box takes there.
 -- Assumes nothing: these are definitions.
 use Prim.Native.Nat.{ℕ}
-use mathlib.Core.Bool.{Bool}
+use mathlib.Core.Bool.{Bool, true, false}
 use mathlib.Core.List.{List}
 use lib.ListN.{getD}
 use Rattle.tokens.specs.Bool.{_or_, _is_, if_then_else_}
@@ -25,6 +25,18 @@ unfoldable pub way-of : Way → Grammar.Way
 way-of Way.Pass = Grammar.pass
 way-of Way.Attempt = Grammar.attempt
 way-of Way.Commit = Grammar.commit
+
+-- no head is read
+abbrev pub is-pass : Way → Bool
+is-pass Way.Pass = true
+is-pass Way.Attempt = false
+is-pass Way.Commit = false
+
+-- a head that fails is a refusal
+abbrev pub is-commit : Way → Bool
+is-commit Way.Pass = false
+is-commit Way.Attempt = false
+is-commit Way.Commit = true
 
 -- the row of an arrow whose head begins at a place
 unfoldable pub arrow-kind : List ℕ → ℕ → ℕ

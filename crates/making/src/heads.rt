@@ -4,7 +4,7 @@ ghost use Prim.Native.Nat.{_≤_};
 ghost use lib.ListN.{length};
 ghost use Rattle.grammar.specs.Assignment.{is-async-name};
 ghost use Rattle.making.specs.Post.{sheet-of};
-ghost use Rattle.making.specs.Heads.{may-open, way-at, way-of, arrow-kind};
+ghost use Rattle.making.specs.Heads.{is-pass, is-commit, may-open, way-at, way-of, arrow-kind};
 use lookahead::Tristate;
 use rows::row;
 use tokens::kind;
@@ -14,6 +14,28 @@ pub enum Way {
     Pass,
     Attempt,
     Commit,
+}
+
+// No head is read.
+pub fn is_pass(way: Way) -> bool
+    ensures { λ r. ⌜ r ≡ is-pass way ⌝ }
+{
+    match way {
+        Way::Pass => true,
+        Way::Attempt => false,
+        Way::Commit => false,
+    }
+}
+
+// A head that fails is a refusal.
+pub fn is_commit(way: Way) -> bool
+    ensures { λ r. ⌜ r ≡ is-commit way ⌝ }
+{
+    match way {
+        Way::Pass => false,
+        Way::Attempt => false,
+        Way::Commit => true,
+    }
 }
 
 // `(` and Async may open a head.

@@ -17,7 +17,6 @@ use making::cursor::over;
 use making::cursor::say;
 use making::heads;
 use making::heads::Head;
-use making::heads::Way;
 use making::keys;
 use making::operation;
 use making::singles;
@@ -73,7 +72,7 @@ pub fn comma(
     }
 }
 
-// 13.15 AssignmentExpression: one token that `,` `:` or a closing bracket follows, or any other.
+// 13.15 AssignmentExpression: one token by itself; or where a head could open, it is passed, tried or read for good.
 pub fn assign(
     kinds: &[u8],
     flags: &[u8],
@@ -91,68 +90,29 @@ pub fn assign(
     if single != 0 {
         return Step::Done(leaf(rows, at, made, said, single));
     }
-    arrow(kinds, flags, rows, records, notes, at, made, said)
-}
-
-// 13.15 AssignmentExpression: where a head could open, it is passed, tried or read for good.
-pub fn arrow(
-    kinds: &[u8],
-    flags: &[u8],
-    rows: &mut [u32],
-    records: &mut [u32],
-    notes: &mut [u8; 2048],
-    at: usize,
-    made: usize,
-    said: usize,
-) -> Step
-    requires { ⌜ Room (now kinds) (now rows) (now records) (cursor at made said) ⌝ }
-    ensures { λ x. ⌜ Met (now (kinds .entry)) (now (flags .entry)) (now (rows .entry)) (now (records .entry)) (now (notes .entry)) (now (rows .exit)) (now (records .exit)) (now (notes .exit)) (Job.assignment at) made said x ⌝ }
-{
     let way = heads::way_at(kinds, flags, notes, at);
-    match way {
-        Way::Pass => {}
-        Way::Attempt => {
-            let got = head(kinds, flags, rows, records, notes, at, made, said);
-            match got {
-                Listed::Done(d, kids) => {
-                    let head = heads::head_of(kinds, at, made, kids);
-                    return body(
-                        kinds,
-                        flags,
-                        rows,
-                        records,
-                        notes,
-                        d.at,
-                        d.rows,
-                        d.records,
-                        head,
-                    );
-                }
-                Listed::Fail(_) => {
-                    notes[at] = 1;
-                }
+    if !heads::is_pass(way) {
+        let got = head(kinds, flags, rows, records, notes, at, made, said);
+        match got {
+            Listed::Done(d, kids) => {
+                let head = heads::head_of(kinds, at, made, kids);
+                return body(
+                    kinds,
+                    flags,
+                    rows,
+                    records,
+                    notes,
+                    d.at,
+                    d.rows,
+                    d.records,
+                    head,
+                );
             }
-        }
-        Way::Commit => {
-            let got = head(kinds, flags, rows, records, notes, at, made, said);
-            match got {
-                Listed::Done(d, kids) => {
-                    let head = heads::head_of(kinds, at, made, kids);
-                    return body(
-                        kinds,
-                        flags,
-                        rows,
-                        records,
-                        notes,
-                        d.at,
-                        d.rows,
-                        d.records,
-                        head,
-                    );
-                }
-                Listed::Fail(cause) => {
+            Listed::Fail(cause) => {
+                if heads::is_commit(way) {
                     return Step::Fail(cause);
                 }
+                notes[at] = 1;
             }
         }
     }
@@ -805,6 +765,10 @@ pub fn item(
 {
     if tokens::kind_at(kinds, at) == kind::DOT3 {
         return spread(kinds, flags, rows, records, notes, at, made, said);
+    }
+    let single = singles::single_part(kinds, at);
+    if single != 0 {
+        return Step::Done(leaf(rows, at, made, said, single));
     }
     assign(kinds, flags, rows, records, notes, at, made, said)
 }

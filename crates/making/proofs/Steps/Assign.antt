@@ -18,7 +18,7 @@ use Rattle.grammar.specs.Reading.{box}
 use Rattle.laws.specs.Good.{inside}
 use Rattle.laws.specs.Bounds.{bounded}
 use Rattle.making.specs.Post.{sheet-of, Room, Comes, Met, MetAfter, MetList, HeadFits}
-use Rattle.making.specs.Heads.{may-open, way-at, way-of, arrow-kind}
+use Rattle.making.specs.Heads.{is-pass, is-commit, may-open, way-at, way-of, arrow-kind}
 use Rattle.making.specs.declared.cursor.Cursor.{Cursor}
 use Rattle.making.specs.declared.cursor.Step.{Step}
 use Rattle.making.specs.declared.cursor.Listed.{Listed}
@@ -27,6 +27,22 @@ use Rattle.making.specs.declared.heads.Way.{Way}
 use Rattle.making.proofs.Ways.{assignment-passes, assignment-tries, assignment-gives-up, assignment-commits, assignment-fails}
 use Rattle.making.proofs.Ends.{is-fail}
 use Rattle.making.proofs.Makes.{stands-now, made-over, unmade-over, made-again, unmade-again}
+
+-- what the tests of a way tell
+pub is-passed : (w : Way) {b : Bool} → b ≡ is-pass w → b ≡ true → w ≡ Way.Pass
+is-passed Way.Pass i j = refl
+is-passed Way.Attempt i j = let z : _≡_ {A = Bool} true false = sym j ∙ i in let y : _≡_ {A = ℕ} 0 1 = cc in absurd (omega arith)
+is-passed Way.Commit i j = let z : _≡_ {A = Bool} true false = sym j ∙ i in let y : _≡_ {A = ℕ} 0 1 = cc in absurd (omega arith)
+
+pub is-committed : (w : Way) {b : Bool} → b ≡ is-commit w → b ≡ true → w ≡ Way.Commit
+is-committed Way.Pass i j = let z : _≡_ {A = Bool} true false = sym j ∙ i in let y : _≡_ {A = ℕ} 0 1 = cc in absurd (omega arith)
+is-committed Way.Attempt i j = let z : _≡_ {A = Bool} true false = sym j ∙ i in let y : _≡_ {A = ℕ} 0 1 = cc in absurd (omega arith)
+is-committed Way.Commit i j = refl
+
+pub is-tried : (w : Way) {b q : Bool} → b ≡ is-pass w → b ≡ false → q ≡ is-commit w → q ≡ false → w ≡ Way.Attempt
+is-tried Way.Pass i j k l = let z : _≡_ {A = Bool} true false = sym i ∙ j in let y : _≡_ {A = ℕ} 0 1 = cc in absurd (omega arith)
+is-tried Way.Attempt i j k l = refl
+is-tried Way.Commit i j k l = let z : _≡_ {A = Bool} true false = sym k ∙ l in let y : _≡_ {A = ℕ} 0 1 = cc in absurd (omega arith)
 
 -- where a head is tried, a token stands
 pub tried-stands : (ks fs m : List ℕ) (at : ℕ) {w : Way} → way-of w ≡ way-at ks fs m at → w ≡ Way.Attempt → at < length ks
@@ -95,7 +111,7 @@ module _ {ks fs r₀ s₀ m₀ : List ℕ} {c : Cursor} where
             record { comes = rule _ _ _ _ (g .comes) (t .comes); unmade = unmade-over (omega (arith, room)) (omega (arith, room)) (g .made) (t .unmade) };
       }
 
-  pub assign-tries : {r₁ s₁ m₁ r s m : List ℕ} {x : Step} {y : Listed} {d : Cursor} {kids : ℕ} {h : Head} {w : Way} → Room ks r₀ s₀ c → way-of w ≡ way-at ks fs m₀ (c .at)
+  assign-tries : {r₁ s₁ m₁ r s m : List ℕ} {x : Step} {y : Listed} {d : Cursor} {kids : ℕ} {h : Head} {w : Way} → Room ks r₀ s₀ c → way-of w ≡ way-at ks fs m₀ (c .at)
       → w ≡ Way.Attempt → MetList ks fs r₀ s₀ m₀ r₁ s₁ m₁ (head (c .at)) (c .rows) (c .records) y → y ≡ Listed.Done d kids
       → h ≡ record { kind = arrow-kind ks (c .at); first = c .at; from = c .rows; kids = kids }
       → MetAfter ks fs r₁ s₁ m₁ r s m (body (h .kind) (h .first) (d .at)) (h .from) (d .rows) (h .kids) (d .records) x
@@ -103,13 +119,23 @@ module _ {ks fs r₀ s₀ m₀ : List ℕ} {c : Cursor} where
   unfolding way-of
   assign-tries room t e a q u b = arrow-of room (λ p ts rs out i j. assignment-tries (sym t ∙ ap way-of e) i j) a q u b
 
-  pub assign-commits : {r₁ s₁ m₁ r s m : List ℕ} {x : Step} {y : Listed} {d : Cursor} {kids : ℕ} {h : Head} {w : Way} → Room ks r₀ s₀ c → way-of w ≡ way-at ks fs m₀ (c .at)
+  assign-commits : {r₁ s₁ m₁ r s m : List ℕ} {x : Step} {y : Listed} {d : Cursor} {kids : ℕ} {h : Head} {w : Way} → Room ks r₀ s₀ c → way-of w ≡ way-at ks fs m₀ (c .at)
       → w ≡ Way.Commit → MetList ks fs r₀ s₀ m₀ r₁ s₁ m₁ (head (c .at)) (c .rows) (c .records) y → y ≡ Listed.Done d kids
       → h ≡ record { kind = arrow-kind ks (c .at); first = c .at; from = c .rows; kids = kids }
       → MetAfter ks fs r₁ s₁ m₁ r s m (body (h .kind) (h .first) (d .at)) (h .from) (d .rows) (h .kids) (d .records) x
       → Met ks fs r₀ s₀ m₀ r s m (assignment (c .at)) (c .rows) (c .records) x
   unfolding way-of
   assign-commits room t e a q u b = arrow-of room (λ p ts rs out i j. assignment-commits (sym t ∙ ap way-of e) i j) a q u b
+
+  -- a head that was read, and its body
+  pub assign-arrows : {r₁ s₁ m₁ r s m : List ℕ} {x : Step} {y : Listed} {d : Cursor} {kids : ℕ} {h : Head} (w : Way) {b : Bool} → Room ks r₀ s₀ c → way-of w ≡ way-at ks fs m₀ (c .at)
+      → b ≡ is-pass w → b ≡ false → MetList ks fs r₀ s₀ m₀ r₁ s₁ m₁ (head (c .at)) (c .rows) (c .records) y → y ≡ Listed.Done d kids
+      → h ≡ record { kind = arrow-kind ks (c .at); first = c .at; from = c .rows; kids = kids }
+      → MetAfter ks fs r₁ s₁ m₁ r s m (body (h .kind) (h .first) (d .at)) (h .from) (d .rows) (h .kids) (d .records) x
+      → Met ks fs r₀ s₀ m₀ r s m (assignment (c .at)) (c .rows) (c .records) x
+  assign-arrows Way.Pass room t i j a q u b = let z : _≡_ {A = Bool} true false = sym i ∙ j in let y : _≡_ {A = ℕ} 0 1 = cc in absurd (omega arith)
+  assign-arrows Way.Attempt room t i j a q u b = assign-tries room t refl a q u b
+  assign-arrows Way.Commit room t i j a q u b = assign-commits room t refl a q u b
 
   pub assign-fails : {r₁ s₁ m₁ : List ℕ} {y : Listed} {p : Cause} {w : Way} → way-of w ≡ way-at ks fs m₀ (c .at) → w ≡ Way.Commit
       → MetList ks fs r₀ s₀ m₀ r₁ s₁ m₁ (head (c .at)) (c .rows) (c .records) y → y ≡ Listed.Fail p

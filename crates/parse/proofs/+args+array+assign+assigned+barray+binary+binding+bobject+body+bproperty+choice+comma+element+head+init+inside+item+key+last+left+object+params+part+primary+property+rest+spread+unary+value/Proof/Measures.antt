@@ -9,8 +9,6 @@ use Rattle.parse.proofs.args.Reads as args
 use Rattle.parse.proofs.args.Kinds as args-kinds
 use Rattle.parse.proofs.array.Reads as array
 use Rattle.parse.proofs.array.Kinds as array-kinds
-use Rattle.parse.proofs.arrow.Reads as arrow
-use Rattle.parse.proofs.arrow.Kinds as arrow-kinds
 use Rattle.parse.proofs.assign.Reads as assign
 use Rattle.parse.proofs.assign.Kinds as assign-kinds
 use Rattle.parse.proofs.assigned.Reads as assigned
@@ -84,17 +82,8 @@ array-at t = and 5 array-kinds.ps (is 5 array-kinds.ps μ-array t) array.Pre
 abbrev pub array-below : ℕ → In 5 array-kinds.ps
 array-below t = and 5 array-kinds.ps (falls 5 array-kinds.ps _<_ μ-array t) array.Pre
 
-abbrev pub μ-arrow : Measures 5 arrow-kinds.ps ℕ
-μ-arrow κs a = 32 * (length (a .0 .now) - a .1 .1 .1 .1 .1 .0) + 11
-
-abbrev pub arrow-at : ℕ → In 5 arrow-kinds.ps
-arrow-at t = and 5 arrow-kinds.ps (is 5 arrow-kinds.ps μ-arrow t) arrow.Pre
-
-abbrev pub arrow-below : ℕ → In 5 arrow-kinds.ps
-arrow-below t = and 5 arrow-kinds.ps (falls 5 arrow-kinds.ps _<_ μ-arrow t) arrow.Pre
-
 abbrev pub μ-assign : Measures 5 assign-kinds.ps ℕ
-μ-assign κs a = 32 * (length (a .0 .now) - a .1 .1 .1 .1 .1 .0) + 12
+μ-assign κs a = 32 * (length (a .0 .now) - a .1 .1 .1 .1 .1 .0) + 11
 
 abbrev pub assign-at : ℕ → In 5 assign-kinds.ps
 assign-at t = and 5 assign-kinds.ps (is 5 assign-kinds.ps μ-assign t) assign.Pre
@@ -175,7 +164,7 @@ abbrev pub choice-below : ℕ → In 5 choice-kinds.ps
 choice-below t = and 5 choice-kinds.ps (falls 5 choice-kinds.ps _<_ μ-choice t) choice.Pre
 
 abbrev pub μ-comma : Measures 5 comma-kinds.ps ℕ
-μ-comma κs a = 32 * (length (a .0 .now) - a .1 .1 .1 .1 .1 .0) + 14
+μ-comma κs a = 32 * (length (a .0 .now) - a .1 .1 .1 .1 .1 .0) + 13
 
 abbrev pub comma-at : ℕ → In 5 comma-kinds.ps
 comma-at t = and 5 comma-kinds.ps (is 5 comma-kinds.ps μ-comma t) comma.Pre
@@ -220,7 +209,7 @@ abbrev pub inside-below : ℕ → In 5 inside-kinds.ps
 inside-below t = and 5 inside-kinds.ps (falls 5 inside-kinds.ps _<_ μ-inside t) inside.Pre
 
 abbrev pub μ-item : Measures 5 item-kinds.ps ℕ
-μ-item κs a = 32 * (length (a .0 .now) - a .1 .1 .1 .1 .1 .0) + 13
+μ-item κs a = 32 * (length (a .0 .now) - a .1 .1 .1 .1 .1 .0) + 12
 
 abbrev pub item-at : ℕ → In 5 item-kinds.ps
 item-at t = and 5 item-kinds.ps (is 5 item-kinds.ps μ-item t) item.Pre
