@@ -2,6 +2,4 @@ pub mod Rules
 pub mod Ways
 pub mod Ends
 pub mod Makes
-pub mod Converts
-pub mod Steps
 pub mod Lent

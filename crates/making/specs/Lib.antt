@@ -1,6 +1,5 @@
 pub mod Post
 pub mod Heads
 pub mod Keys
-pub mod Operation
 pub mod Lent
 pub mod Singles

@@ -1,6 +1,5 @@
-// What is made of what was read: rows over one token or over rows, records, operators with their operands, heads and keys.
+// What is made of what was read: rows over one token or over rows, records, heads and keys, expressions of one token.
 pub mod cursor;
 pub mod heads;
 pub mod keys;
-pub mod operation;
 pub mod singles;

@@ -1,7 +1,6 @@
 // Expressions of one token (13.2): a name, `this` or a literal from which nothing goes on.
 ghost use mathlib.Core.Path.{_≡_};
 ghost use Rattle.making.specs.Singles.{single-row, goes-on, closes, single-operand, single-part};
-use crate::operation::is_update_operator;
 use rows::row;
 use tokens::kind;
 
@@ -25,7 +24,10 @@ pub fn single_row(k: u8) -> u32
 fn goes_on(k: u8) -> bool
     ensures { λ r. ⌜ r ≡ goes-on k ⌝ }
 {
-    if is_update_operator(k) {
+    if k == kind::PLUS2 {
+        return true;
+    }
+    if k == kind::MINUS2 {
         return true;
     }
     if k == kind::DOT {

@@ -18,7 +18,6 @@ use making::cursor::say;
 use making::heads;
 use making::heads::Head;
 use making::keys;
-use making::operation;
 use making::singles;
 use rows::row;
 use targets::Conversion;

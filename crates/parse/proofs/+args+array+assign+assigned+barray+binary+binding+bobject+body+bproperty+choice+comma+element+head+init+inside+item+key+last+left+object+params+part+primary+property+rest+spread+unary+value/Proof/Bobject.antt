@@ -6,8 +6,8 @@ use native.Mathlib.Omega.{arith}
 use borrow.Author.Needs.{needs}
 use lib.ListN.{length}
 use Rattle.tokens.proofs.Stands.{stands}
-use Rattle.making.proofs.Steps.Listing.{closed-after}
-use Rattle.making.proofs.Steps.Bobject.{BobjectSoFar, property-moves, named-rest, bobject-starts, bobject-ends, bobject-rest-refused, bobject-no-name, bobject-rest-done, bobject-refused, bobject-turns, bobject-last, bobject-opens}
+use Rattle.steps.specs.Listing.{closed-after}
+use Rattle.steps.specs.Bobject.{BobjectSoFar, property-moves, named-rest, bobject-starts, bobject-ends, bobject-rest-refused, bobject-no-name, bobject-rest-done, bobject-refused, bobject-turns, bobject-last, bobject-opens}
 use Rattle.parse.proofs.+args+array+arrow+assign+assigned+barray+binary+binding+bobject+body+bproperty+choice+comma+element+head+init+inside+item+key+last+left+object+params+part+primary+property+rest+spread+unary+value.Lts-bobject as lts
 use Rattle.parse.proofs.+args+array+arrow+assign+assigned+barray+binary+binding+bobject+body+bproperty+choice+comma+element+head+init+inside+item+key+last+left+object+params+part+primary+property+rest+spread+unary+value.Proof.Measures.{bobject-at, bproperty-below, last-below}
 use Rattle.making.proofs.cursor.over.Reads as over

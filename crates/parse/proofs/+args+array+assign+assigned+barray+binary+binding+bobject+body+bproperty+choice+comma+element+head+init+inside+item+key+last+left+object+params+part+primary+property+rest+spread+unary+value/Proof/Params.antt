@@ -9,8 +9,8 @@ use Rattle.tokens.proofs.Stands.{stands}
 use Rattle.rows.specs.Tree.{nil}
 use Rattle.grammar.specs.Job as Job
 use Rattle.making.proofs.Ends.{moved}
-use Rattle.making.proofs.Steps.Listing.{SoFar, closed-after}
-use Rattle.making.proofs.Steps.Params.{params-starts, params-ends, params-rest-refused, params-rest-done, params-refused, params-turns, params-last, params-opens}
+use Rattle.steps.specs.Listing.{SoFar, closed-after}
+use Rattle.steps.specs.Params.{params-starts, params-ends, params-rest-refused, params-rest-done, params-refused, params-turns, params-last, params-opens}
 use Rattle.parse.proofs.+args+array+arrow+assign+assigned+barray+binary+binding+bobject+body+bproperty+choice+comma+element+head+init+inside+item+key+last+left+object+params+part+primary+property+rest+spread+unary+value.Lts-params as lts
 use Rattle.parse.proofs.+args+array+arrow+assign+assigned+barray+binary+binding+bobject+body+bproperty+choice+comma+element+head+init+inside+item+key+last+left+object+params+part+primary+property+rest+spread+unary+value.Proof.Measures.{element-below, last-below, params-at}
 use Rattle.parse.proofs.element.Reads as element

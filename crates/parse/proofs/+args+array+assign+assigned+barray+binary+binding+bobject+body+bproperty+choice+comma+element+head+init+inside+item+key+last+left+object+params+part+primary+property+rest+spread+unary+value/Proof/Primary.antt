@@ -6,9 +6,9 @@ use native.Mathlib.Omega.{arith}
 use borrow.Author.Needs.{needs}
 use Rattle.tokens.proofs.Stands.{stands}
 use Rattle.making.proofs.Ends.{moved}
-use Rattle.making.proofs.Steps.Inside.{closed-read}
-use Rattle.making.proofs.Steps.Singles.{primary-stands, primary-singles}
-use Rattle.making.proofs.Steps.Primary.{primary-refuses, primary-parens, primary-arrays, primary-objects, primary-nones}
+use Rattle.operation.proofs.Steps.Inside.{closed-read}
+use Rattle.steps.specs.Singles.{primary-stands, primary-singles}
+use Rattle.steps.specs.Primary.{primary-refuses, primary-parens, primary-arrays, primary-objects, primary-nones}
 use Rattle.parse.proofs.+args+array+arrow+assign+assigned+barray+binary+binding+bobject+body+bproperty+choice+comma+element+head+init+inside+item+key+last+left+object+params+part+primary+property+rest+spread+unary+value.Lts-primary as lts
 use Rattle.parse.proofs.+args+array+arrow+assign+assigned+barray+binary+binding+bobject+body+bproperty+choice+comma+element+head+init+inside+item+key+last+left+object+params+part+primary+property+rest+spread+unary+value.Proof.Measures.{array-below, inside-below, object-below, primary-at}
 use Rattle.making.proofs.cursor.leaf.Reads as leaf

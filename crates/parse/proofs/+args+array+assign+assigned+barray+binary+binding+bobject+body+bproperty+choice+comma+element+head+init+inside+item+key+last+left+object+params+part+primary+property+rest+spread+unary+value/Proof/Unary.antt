@@ -5,14 +5,14 @@ use mathlib.Core.Path.{refl, sym, ap, _∙_}
 use native.Mathlib.Omega.{arith}
 use lib.ListN.{length}
 use borrow.Author.Needs.{needs}
-use Rattle.making.proofs.Steps.Unary.{Skipped, skips-none, skips-one, skips-inside, unary-operand-fails, unary-update-fails, operand-fits, prefixes-fit, unary-ends}
-use Rattle.making.proofs.Steps.Singles.{unary-stands, unary-singles}
+use Rattle.steps.specs.Unary.{Skipped, skips-none, skips-one, skips-inside, unary-operand-fails, unary-update-fails, operand-fits, prefixes-fit, unary-ends}
+use Rattle.steps.specs.Singles.{unary-stands, unary-singles}
 use Rattle.parse.proofs.+args+array+arrow+assign+assigned+barray+binary+binding+bobject+body+bproperty+choice+comma+element+head+init+inside+item+key+last+left+object+params+part+primary+property+rest+spread+unary+value.Lts-unary as lts
 use Rattle.parse.proofs.+args+array+arrow+assign+assigned+barray+binary+binding+bobject+body+bproperty+choice+comma+element+head+init+inside+item+key+last+left+object+params+part+primary+property+rest+spread+unary+value.Proof.Measures.{left-below, unary-at}
 use Rattle.making.proofs.cursor.leaf.Reads as leaf
-use Rattle.making.proofs.operation.is_prefix_operator.Reads as is-prefix-operator
-use Rattle.making.proofs.operation.postfix.Reads as postfix
-use Rattle.making.proofs.operation.prefixes.Reads as prefixes
+use Rattle.operation.proofs.is_prefix_operator.Reads as is-prefix-operator
+use Rattle.operation.proofs.postfix.Reads as postfix
+use Rattle.operation.proofs.prefixes.Reads as prefixes
 use Rattle.making.proofs.singles.single_operand.Reads as single-operand
 use Rattle.parse.proofs.left.Reads as left
 use Rattle.parse.proofs.unary.Reads as unary

@@ -6,13 +6,13 @@ use native.Mathlib.Omega.{arith}
 use borrow.Author.Needs.{needs}
 use Rattle.tokens.proofs.Stands.{stands}
 use Rattle.making.proofs.Ends.{moved}
-use Rattle.making.proofs.Steps.Cursors.{leafed-now}
-use Rattle.making.proofs.Steps.Value.{async-stands, operator-stands, value-asyncs, value-refuses, value-some, value-operand, value-arrows, value-stays, value-assigned, value-choices, value-ends}
+use Rattle.steps.specs.Cursors.{leafed-now}
+use Rattle.steps.specs.Value.{async-stands, operator-stands, value-asyncs, value-refuses, value-some, value-operand, value-arrows, value-stays, value-assigned, value-choices, value-ends}
 use Rattle.parse.proofs.+args+array+arrow+assign+assigned+barray+binary+binding+bobject+body+bproperty+choice+comma+element+head+init+inside+item+key+last+left+object+params+part+primary+property+rest+spread+unary+value.Lts-value as lts
 use Rattle.parse.proofs.+args+array+arrow+assign+assigned+barray+binary+binding+bobject+body+bproperty+choice+comma+element+head+init+inside+item+key+last+left+object+params+part+primary+property+rest+spread+unary+value.Proof.Measures.{assigned-below, binary-below, body-below, choice-below, value-at}
 use Rattle.making.proofs.cursor.leaf.Reads as leaf
 use Rattle.making.proofs.heads.is_async_name.Reads as is-async-name
-use Rattle.making.proofs.operation.is_assignment_operator.Reads as is-assignment-operator
+use Rattle.operation.proofs.is_assignment_operator.Reads as is-assignment-operator
 use Rattle.parse.proofs.assigned.Reads as assigned
 use Rattle.parse.proofs.binary.Reads as binary
 use Rattle.parse.proofs.body.Reads as body

@@ -1,0 +1,2 @@
+pub mod Converts
+pub mod Steps
