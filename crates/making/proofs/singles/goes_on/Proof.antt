@@ -29,4 +29,4 @@ unfolding goes-on is-update-operator
 returns-5 c = rw (ne-eqb _ _ (c .before .before .before .if1 .left), ne-eqb _ _ (c .before .before .if2 .left), ne-eqb _ _ (c .before .if3 .left), ne-eqb _ _ (c .if4 .left))
 
 pub goes-on-spec : {M : Type 1} → statement M
-goes-on-spec = tie.close (tie.spec  returns returns-2 returns-3 returns-4 returns-5)
+goes-on-spec = tie.close (tie.spec returns returns-2 returns-3 returns-4 returns-5)

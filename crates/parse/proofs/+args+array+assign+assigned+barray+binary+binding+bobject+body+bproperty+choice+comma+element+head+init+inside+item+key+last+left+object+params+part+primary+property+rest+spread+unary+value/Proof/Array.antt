@@ -8,8 +8,8 @@ use borrow.Author.Needs.{needs}
 use Rattle.making.specs.Post.{cursor}
 use Rattle.tokens.proofs.Stands.{stands}
 use Rattle.steps.specs.Array.{ArraySoFar, array-moves, holed, array-starts, array-ends, array-holes, array-fails, array-opens, array-closes, array-turns, array-rests}
-use Rattle.parse.proofs.+args+array+arrow+assign+assigned+barray+binary+binding+bobject+body+bproperty+choice+comma+element+head+init+inside+item+key+last+left+object+params+part+primary+property+rest+spread+unary+value.Lts-array as lts
-use Rattle.parse.proofs.+args+array+arrow+assign+assigned+barray+binary+binding+bobject+body+bproperty+choice+comma+element+head+init+inside+item+key+last+left+object+params+part+primary+property+rest+spread+unary+value.Proof.Measures.{array-at, item-below}
+use Rattle.parse.proofs.+args+array+assign+assigned+barray+binary+binding+bobject+body+bproperty+choice+comma+element+head+init+inside+item+key+last+left+object+params+part+primary+property+rest+spread+unary+value.Lts-array as lts
+use Rattle.parse.proofs.+args+array+assign+assigned+barray+binary+binding+bobject+body+bproperty+choice+comma+element+head+init+inside+item+key+last+left+object+params+part+primary+property+rest+spread+unary+value.Proof.Measures.{array-at, item-below}
 use Rattle.making.proofs.cursor.leaf.Reads as leaf
 use Rattle.making.proofs.cursor.over.Reads as over
 use Rattle.parse.proofs.array.Reads as array

@@ -10,8 +10,8 @@ use Rattle.making.specs.declared.cursor.Cursor.{Cursor}
 use Rattle.making.proofs.Ends.{moved}
 use Rattle.steps.specs.Listing.{closed-after, leafed-to}
 use Rattle.steps.specs.Barray.{BarraySoFar, barray-starts, barray-ends, barray-holes, barray-rest-refused, barray-rest-done, barray-refused, barray-turns, barray-last, barray-opens}
-use Rattle.parse.proofs.+args+array+arrow+assign+assigned+barray+binary+binding+bobject+body+bproperty+choice+comma+element+head+init+inside+item+key+last+left+object+params+part+primary+property+rest+spread+unary+value.Lts-barray as lts
-use Rattle.parse.proofs.+args+array+arrow+assign+assigned+barray+binary+binding+bobject+body+bproperty+choice+comma+element+head+init+inside+item+key+last+left+object+params+part+primary+property+rest+spread+unary+value.Proof.Measures.{barray-at, element-below, last-below}
+use Rattle.parse.proofs.+args+array+assign+assigned+barray+binary+binding+bobject+body+bproperty+choice+comma+element+head+init+inside+item+key+last+left+object+params+part+primary+property+rest+spread+unary+value.Lts-barray as lts
+use Rattle.parse.proofs.+args+array+assign+assigned+barray+binary+binding+bobject+body+bproperty+choice+comma+element+head+init+inside+item+key+last+left+object+params+part+primary+property+rest+spread+unary+value.Proof.Measures.{barray-at, element-below, last-below}
 use Rattle.making.proofs.cursor.leaf.Reads as leaf
 use Rattle.making.proofs.cursor.over.Reads as over
 use Rattle.parse.proofs.barray.Reads as barray

@@ -7,8 +7,8 @@ use lib.ListN.{length}
 use borrow.Author.Needs.{needs}
 use Rattle.making.proofs.Ends.{moved}
 use Rattle.steps.specs.Binary.{Grouping, binary-starts, binary-turns, operator-stands, operand-rows, binary-refuses, binary-grouped, binary-ends, binary-stops, binary-operates}
-use Rattle.parse.proofs.+args+array+arrow+assign+assigned+barray+binary+binding+bobject+body+bproperty+choice+comma+element+head+init+inside+item+key+last+left+object+params+part+primary+property+rest+spread+unary+value.Lts-binary as lts
-use Rattle.parse.proofs.+args+array+arrow+assign+assigned+barray+binary+binding+bobject+body+bproperty+choice+comma+element+head+init+inside+item+key+last+left+object+params+part+primary+property+rest+spread+unary+value.Proof.Measures.{binary-at, binary-below, unary-below}
+use Rattle.parse.proofs.+args+array+assign+assigned+barray+binary+binding+bobject+body+bproperty+choice+comma+element+head+init+inside+item+key+last+left+object+params+part+primary+property+rest+spread+unary+value.Lts-binary as lts
+use Rattle.parse.proofs.+args+array+assign+assigned+barray+binary+binding+bobject+body+bproperty+choice+comma+element+head+init+inside+item+key+last+left+object+params+part+primary+property+rest+spread+unary+value.Proof.Measures.{binary-at, binary-below, unary-below}
 use Rattle.operation.proofs.finish.Reads as finish
 use Rattle.operation.proofs.right_floor.Reads as right-floor
 use Rattle.operators.proofs.expression_precedence.Reads as expression-precedence

@@ -8,8 +8,8 @@ use lib.ListN.{length}
 use Rattle.tokens.proofs.Stands.{stands}
 use Rattle.steps.specs.Listing.{closed-after}
 use Rattle.steps.specs.Bobject.{BobjectSoFar, property-moves, named-rest, bobject-starts, bobject-ends, bobject-rest-refused, bobject-no-name, bobject-rest-done, bobject-refused, bobject-turns, bobject-last, bobject-opens}
-use Rattle.parse.proofs.+args+array+arrow+assign+assigned+barray+binary+binding+bobject+body+bproperty+choice+comma+element+head+init+inside+item+key+last+left+object+params+part+primary+property+rest+spread+unary+value.Lts-bobject as lts
-use Rattle.parse.proofs.+args+array+arrow+assign+assigned+barray+binary+binding+bobject+body+bproperty+choice+comma+element+head+init+inside+item+key+last+left+object+params+part+primary+property+rest+spread+unary+value.Proof.Measures.{bobject-at, bproperty-below, last-below}
+use Rattle.parse.proofs.+args+array+assign+assigned+barray+binary+binding+bobject+body+bproperty+choice+comma+element+head+init+inside+item+key+last+left+object+params+part+primary+property+rest+spread+unary+value.Lts-bobject as lts
+use Rattle.parse.proofs.+args+array+assign+assigned+barray+binary+binding+bobject+body+bproperty+choice+comma+element+head+init+inside+item+key+last+left+object+params+part+primary+property+rest+spread+unary+value.Proof.Measures.{bobject-at, bproperty-below, last-below}
 use Rattle.making.proofs.cursor.over.Reads as over
 use Rattle.parse.proofs.bobject.Reads as bobject
 use Rattle.parse.proofs.bproperty.Reads as bproperty

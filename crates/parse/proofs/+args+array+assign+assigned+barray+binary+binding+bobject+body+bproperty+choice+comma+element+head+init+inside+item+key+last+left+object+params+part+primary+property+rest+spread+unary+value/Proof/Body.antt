@@ -8,8 +8,8 @@ use borrow.Author.Needs.{needs}
 use Rattle.making.specs.Post.{cursor}
 use Rattle.making.proofs.Ends.{moved}
 use Rattle.steps.specs.Body.{breaks, no-break, breaks-as, body-curlies, body-refused, body-dones}
-use Rattle.parse.proofs.+args+array+arrow+assign+assigned+barray+binary+binding+bobject+body+bproperty+choice+comma+element+head+init+inside+item+key+last+left+object+params+part+primary+property+rest+spread+unary+value.Lts-body as lts
-use Rattle.parse.proofs.+args+array+arrow+assign+assigned+barray+binary+binding+bobject+body+bproperty+choice+comma+element+head+init+inside+item+key+last+left+object+params+part+primary+property+rest+spread+unary+value.Proof.Measures.{assign-below, body-at}
+use Rattle.parse.proofs.+args+array+assign+assigned+barray+binary+binding+bobject+body+bproperty+choice+comma+element+head+init+inside+item+key+last+left+object+params+part+primary+property+rest+spread+unary+value.Lts-body as lts
+use Rattle.parse.proofs.+args+array+assign+assigned+barray+binary+binding+bobject+body+bproperty+choice+comma+element+head+init+inside+item+key+last+left+object+params+part+primary+property+rest+spread+unary+value.Proof.Measures.{assign-below, body-at}
 use Rattle.making.proofs.cursor.over.Reads as over
 use Rattle.making.proofs.cursor.say.Reads as say
 use Rattle.parse.proofs.assign.Reads as assign

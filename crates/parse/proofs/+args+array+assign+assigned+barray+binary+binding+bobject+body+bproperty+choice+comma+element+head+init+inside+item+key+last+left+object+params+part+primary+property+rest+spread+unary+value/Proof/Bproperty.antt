@@ -9,8 +9,8 @@ use Rattle.making.proofs.Ends.{moved}
 use Rattle.steps.specs.Cursors.{leafed-now}
 use Rattle.steps.specs.Key.{shorthand-stands}
 use Rattle.steps.specs.Bproperty.{bproperty-shorthands, bproperty-inits, bproperty-refuses, bproperty-opens, bproperty-fails-after, bproperty-dones}
-use Rattle.parse.proofs.+args+array+arrow+assign+assigned+barray+binary+binding+bobject+body+bproperty+choice+comma+element+head+init+inside+item+key+last+left+object+params+part+primary+property+rest+spread+unary+value.Lts-bproperty as lts
-use Rattle.parse.proofs.+args+array+arrow+assign+assigned+barray+binary+binding+bobject+body+bproperty+choice+comma+element+head+init+inside+item+key+last+left+object+params+part+primary+property+rest+spread+unary+value.Proof.Measures.{bproperty-at, element-below, init-below, key-below}
+use Rattle.parse.proofs.+args+array+assign+assigned+barray+binary+binding+bobject+body+bproperty+choice+comma+element+head+init+inside+item+key+last+left+object+params+part+primary+property+rest+spread+unary+value.Lts-bproperty as lts
+use Rattle.parse.proofs.+args+array+assign+assigned+barray+binary+binding+bobject+body+bproperty+choice+comma+element+head+init+inside+item+key+last+left+object+params+part+primary+property+rest+spread+unary+value.Proof.Measures.{bproperty-at, element-below, init-below, key-below}
 use Rattle.making.proofs.cursor.leaf.Reads as leaf
 use Rattle.making.proofs.cursor.over.Reads as over
 use Rattle.making.proofs.keys.is_shorthand.Reads as is-shorthand

@@ -7,8 +7,8 @@ use borrow.Author.Needs.{needs}
 use Rattle.tokens.proofs.Stands.{stands}
 use Rattle.making.proofs.Ends.{moved}
 use Rattle.steps.specs.Choice.{choice-fails, choice-opens, choice-fails-after, choice-done}
-use Rattle.parse.proofs.+args+array+arrow+assign+assigned+barray+binary+binding+bobject+body+bproperty+choice+comma+element+head+init+inside+item+key+last+left+object+params+part+primary+property+rest+spread+unary+value.Lts-choice as lts
-use Rattle.parse.proofs.+args+array+arrow+assign+assigned+barray+binary+binding+bobject+body+bproperty+choice+comma+element+head+init+inside+item+key+last+left+object+params+part+primary+property+rest+spread+unary+value.Proof.Measures.{assign-below, choice-at}
+use Rattle.parse.proofs.+args+array+assign+assigned+barray+binary+binding+bobject+body+bproperty+choice+comma+element+head+init+inside+item+key+last+left+object+params+part+primary+property+rest+spread+unary+value.Lts-choice as lts
+use Rattle.parse.proofs.+args+array+assign+assigned+barray+binary+binding+bobject+body+bproperty+choice+comma+element+head+init+inside+item+key+last+left+object+params+part+primary+property+rest+spread+unary+value.Proof.Measures.{assign-below, choice-at}
 use Rattle.making.proofs.cursor.over.Reads as over
 use Rattle.parse.proofs.assign.Reads as assign
 use Rattle.parse.proofs.choice.Reads as choice

@@ -9,8 +9,8 @@ use Rattle.making.specs.Post.{cursor}
 use Rattle.tokens.proofs.Stands.{stands}
 use Rattle.making.proofs.Ends.{moved}
 use Rattle.steps.specs.Comma.{CommaSoFar, comma-fails, comma-one, comma-starts, comma-ends, comma-stops, comma-turns}
-use Rattle.parse.proofs.+args+array+arrow+assign+assigned+barray+binary+binding+bobject+body+bproperty+choice+comma+element+head+init+inside+item+key+last+left+object+params+part+primary+property+rest+spread+unary+value.Lts-comma as lts
-use Rattle.parse.proofs.+args+array+arrow+assign+assigned+barray+binary+binding+bobject+body+bproperty+choice+comma+element+head+init+inside+item+key+last+left+object+params+part+primary+property+rest+spread+unary+value.Proof.Measures.{assign-below, comma-at}
+use Rattle.parse.proofs.+args+array+assign+assigned+barray+binary+binding+bobject+body+bproperty+choice+comma+element+head+init+inside+item+key+last+left+object+params+part+primary+property+rest+spread+unary+value.Lts-comma as lts
+use Rattle.parse.proofs.+args+array+assign+assigned+barray+binary+binding+bobject+body+bproperty+choice+comma+element+head+init+inside+item+key+last+left+object+params+part+primary+property+rest+spread+unary+value.Proof.Measures.{assign-below, comma-at}
 use Rattle.making.proofs.cursor.over.Reads as over
 use Rattle.parse.proofs.assign.Reads as assign
 use Rattle.parse.proofs.comma.Reads as comma

@@ -7,8 +7,8 @@ use borrow.Author.Needs.{needs}
 use Rattle.tokens.proofs.Stands.{stands}
 use Rattle.making.proofs.Ends.{moved}
 use Rattle.steps.specs.Element.{element-refused, element-stops, element-fails-after, element-done}
-use Rattle.parse.proofs.+args+array+arrow+assign+assigned+barray+binary+binding+bobject+body+bproperty+choice+comma+element+head+init+inside+item+key+last+left+object+params+part+primary+property+rest+spread+unary+value.Lts-element as lts
-use Rattle.parse.proofs.+args+array+arrow+assign+assigned+barray+binary+binding+bobject+body+bproperty+choice+comma+element+head+init+inside+item+key+last+left+object+params+part+primary+property+rest+spread+unary+value.Proof.Measures.{assign-below, binding-below, element-at}
+use Rattle.parse.proofs.+args+array+assign+assigned+barray+binary+binding+bobject+body+bproperty+choice+comma+element+head+init+inside+item+key+last+left+object+params+part+primary+property+rest+spread+unary+value.Lts-element as lts
+use Rattle.parse.proofs.+args+array+assign+assigned+barray+binary+binding+bobject+body+bproperty+choice+comma+element+head+init+inside+item+key+last+left+object+params+part+primary+property+rest+spread+unary+value.Proof.Measures.{assign-below, binding-below, element-at}
 use Rattle.making.proofs.cursor.over.Reads as over
 use Rattle.parse.proofs.assign.Reads as assign
 use Rattle.parse.proofs.binding.Reads as binding

@@ -6,8 +6,8 @@ use native.Mathlib.Omega.{arith}
 use borrow.Author.Needs.{needs}
 use Rattle.making.proofs.Ends.{moved}
 use Rattle.operation.proofs.Steps.Inside.{inside-fails, inside-opens, inside-done}
-use Rattle.parse.proofs.+args+array+arrow+assign+assigned+barray+binary+binding+bobject+body+bproperty+choice+comma+element+head+init+inside+item+key+last+left+object+params+part+primary+property+rest+spread+unary+value.Lts-inside as lts
-use Rattle.parse.proofs.+args+array+arrow+assign+assigned+barray+binary+binding+bobject+body+bproperty+choice+comma+element+head+init+inside+item+key+last+left+object+params+part+primary+property+rest+spread+unary+value.Proof.Measures.{comma-below, inside-at}
+use Rattle.parse.proofs.+args+array+assign+assigned+barray+binary+binding+bobject+body+bproperty+choice+comma+element+head+init+inside+item+key+last+left+object+params+part+primary+property+rest+spread+unary+value.Lts-inside as lts
+use Rattle.parse.proofs.+args+array+assign+assigned+barray+binary+binding+bobject+body+bproperty+choice+comma+element+head+init+inside+item+key+last+left+object+params+part+primary+property+rest+spread+unary+value.Proof.Measures.{comma-below, inside-at}
 use Rattle.parse.proofs.comma.Reads as comma
 use Rattle.parse.proofs.inside.Reads as inside
 use Rattle.tokens.proofs.kind_at.Reads as kind-at

@@ -7,8 +7,8 @@ use borrow.Author.Needs.{needs}
 use Rattle.tokens.proofs.Stands.{stands}
 use Rattle.making.proofs.Ends.{moved}
 use Rattle.steps.specs.Key.{key-stands, key-words, key-nones, key-refuses, key-opens, key-dones}
-use Rattle.parse.proofs.+args+array+arrow+assign+assigned+barray+binary+binding+bobject+body+bproperty+choice+comma+element+head+init+inside+item+key+last+left+object+params+part+primary+property+rest+spread+unary+value.Lts-key as lts
-use Rattle.parse.proofs.+args+array+arrow+assign+assigned+barray+binary+binding+bobject+body+bproperty+choice+comma+element+head+init+inside+item+key+last+left+object+params+part+primary+property+rest+spread+unary+value.Proof.Measures.{assign-below, key-at}
+use Rattle.parse.proofs.+args+array+assign+assigned+barray+binary+binding+bobject+body+bproperty+choice+comma+element+head+init+inside+item+key+last+left+object+params+part+primary+property+rest+spread+unary+value.Lts-key as lts
+use Rattle.parse.proofs.+args+array+assign+assigned+barray+binary+binding+bobject+body+bproperty+choice+comma+element+head+init+inside+item+key+last+left+object+params+part+primary+property+rest+spread+unary+value.Proof.Measures.{assign-below, key-at}
 use Rattle.making.proofs.cursor.leaf.Reads as leaf
 use Rattle.making.proofs.cursor.over.Reads as over
 use Rattle.making.proofs.keys.is_key.Reads as is-key

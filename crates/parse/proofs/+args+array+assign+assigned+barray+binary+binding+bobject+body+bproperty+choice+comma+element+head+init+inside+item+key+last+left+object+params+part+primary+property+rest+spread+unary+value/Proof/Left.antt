@@ -11,8 +11,8 @@ use Rattle.making.proofs.Ends.{moved}
 use Rattle.steps.specs.Cursors.{topped-now}
 use Rattle.operation.proofs.Steps.Inside.{closed-read}
 use Rattle.steps.specs.Left.{Linking, left-starts, left-turns, left-linked, word-stands, left-refuses, left-ends, left-no-word, left-member, left-index-refuses, left-index, left-operand, left-call-refuses, left-call-reaches, left-call}
-use Rattle.parse.proofs.+args+array+arrow+assign+assigned+barray+binary+binding+bobject+body+bproperty+choice+comma+element+head+init+inside+item+key+last+left+object+params+part+primary+property+rest+spread+unary+value.Lts-left as lts
-use Rattle.parse.proofs.+args+array+arrow+assign+assigned+barray+binary+binding+bobject+body+bproperty+choice+comma+element+head+init+inside+item+key+last+left+object+params+part+primary+property+rest+spread+unary+value.Proof.Measures.{args-below, inside-below, left-at, primary-below}
+use Rattle.parse.proofs.+args+array+assign+assigned+barray+binary+binding+bobject+body+bproperty+choice+comma+element+head+init+inside+item+key+last+left+object+params+part+primary+property+rest+spread+unary+value.Lts-left as lts
+use Rattle.parse.proofs.+args+array+assign+assigned+barray+binary+binding+bobject+body+bproperty+choice+comma+element+head+init+inside+item+key+last+left+object+params+part+primary+property+rest+spread+unary+value.Proof.Measures.{args-below, inside-below, left-at, primary-below}
 use Rattle.making.proofs.cursor.over.Reads as over
 use Rattle.parse.proofs.args.Reads as args
 use Rattle.parse.proofs.inside.Reads as inside

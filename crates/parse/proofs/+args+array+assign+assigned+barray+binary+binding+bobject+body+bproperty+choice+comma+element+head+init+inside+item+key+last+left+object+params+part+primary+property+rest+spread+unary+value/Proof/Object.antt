@@ -8,8 +8,8 @@ use borrow.Author.Needs.{needs}
 use Rattle.making.specs.Post.{cursor}
 use Rattle.tokens.proofs.Stands.{stands}
 use Rattle.steps.specs.Object.{ObjectSoFar, object-moves, object-starts, object-ends, object-fails, object-opens, object-closes, object-turns, object-rests}
-use Rattle.parse.proofs.+args+array+arrow+assign+assigned+barray+binary+binding+bobject+body+bproperty+choice+comma+element+head+init+inside+item+key+last+left+object+params+part+primary+property+rest+spread+unary+value.Lts-object as lts
-use Rattle.parse.proofs.+args+array+arrow+assign+assigned+barray+binary+binding+bobject+body+bproperty+choice+comma+element+head+init+inside+item+key+last+left+object+params+part+primary+property+rest+spread+unary+value.Proof.Measures.{object-at, part-below}
+use Rattle.parse.proofs.+args+array+assign+assigned+barray+binary+binding+bobject+body+bproperty+choice+comma+element+head+init+inside+item+key+last+left+object+params+part+primary+property+rest+spread+unary+value.Lts-object as lts
+use Rattle.parse.proofs.+args+array+assign+assigned+barray+binary+binding+bobject+body+bproperty+choice+comma+element+head+init+inside+item+key+last+left+object+params+part+primary+property+rest+spread+unary+value.Proof.Measures.{object-at, part-below}
 use Rattle.making.proofs.cursor.over.Reads as over
 use Rattle.parse.proofs.object.Reads as object
 use Rattle.parse.proofs.part.Reads as part

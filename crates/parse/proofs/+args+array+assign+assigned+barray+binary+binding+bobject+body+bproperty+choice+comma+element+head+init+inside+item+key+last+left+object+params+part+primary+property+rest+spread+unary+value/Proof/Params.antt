@@ -11,8 +11,8 @@ use Rattle.grammar.specs.Job as Job
 use Rattle.making.proofs.Ends.{moved}
 use Rattle.steps.specs.Listing.{SoFar, closed-after}
 use Rattle.steps.specs.Params.{params-starts, params-ends, params-rest-refused, params-rest-done, params-refused, params-turns, params-last, params-opens}
-use Rattle.parse.proofs.+args+array+arrow+assign+assigned+barray+binary+binding+bobject+body+bproperty+choice+comma+element+head+init+inside+item+key+last+left+object+params+part+primary+property+rest+spread+unary+value.Lts-params as lts
-use Rattle.parse.proofs.+args+array+arrow+assign+assigned+barray+binary+binding+bobject+body+bproperty+choice+comma+element+head+init+inside+item+key+last+left+object+params+part+primary+property+rest+spread+unary+value.Proof.Measures.{element-below, last-below, params-at}
+use Rattle.parse.proofs.+args+array+assign+assigned+barray+binary+binding+bobject+body+bproperty+choice+comma+element+head+init+inside+item+key+last+left+object+params+part+primary+property+rest+spread+unary+value.Lts-params as lts
+use Rattle.parse.proofs.+args+array+assign+assigned+barray+binary+binding+bobject+body+bproperty+choice+comma+element+head+init+inside+item+key+last+left+object+params+part+primary+property+rest+spread+unary+value.Proof.Measures.{element-below, last-below, params-at}
 use Rattle.parse.proofs.element.Reads as element
 use Rattle.parse.proofs.last.Reads as last
 use Rattle.parse.proofs.params.Reads as params

@@ -6,8 +6,8 @@ use native.Mathlib.Omega.{arith}
 use borrow.Author.Needs.{needs}
 use Rattle.tokens.proofs.Stands.{stands}
 use Rattle.steps.specs.Spread.{spreads, spreads-not}
-use Rattle.parse.proofs.+args+array+arrow+assign+assigned+barray+binary+binding+bobject+body+bproperty+choice+comma+element+head+init+inside+item+key+last+left+object+params+part+primary+property+rest+spread+unary+value.Lts-part as lts
-use Rattle.parse.proofs.+args+array+arrow+assign+assigned+barray+binary+binding+bobject+body+bproperty+choice+comma+element+head+init+inside+item+key+last+left+object+params+part+primary+property+rest+spread+unary+value.Proof.Measures.{part-at, property-below, spread-below}
+use Rattle.parse.proofs.+args+array+assign+assigned+barray+binary+binding+bobject+body+bproperty+choice+comma+element+head+init+inside+item+key+last+left+object+params+part+primary+property+rest+spread+unary+value.Lts-part as lts
+use Rattle.parse.proofs.+args+array+assign+assigned+barray+binary+binding+bobject+body+bproperty+choice+comma+element+head+init+inside+item+key+last+left+object+params+part+primary+property+rest+spread+unary+value.Proof.Measures.{part-at, property-below, spread-below}
 use Rattle.parse.proofs.part.Reads as part
 use Rattle.parse.proofs.property.Reads as property
 use Rattle.parse.proofs.spread.Reads as spread

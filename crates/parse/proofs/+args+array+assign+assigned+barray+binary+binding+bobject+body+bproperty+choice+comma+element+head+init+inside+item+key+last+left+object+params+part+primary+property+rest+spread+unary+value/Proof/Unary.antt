@@ -7,13 +7,13 @@ use lib.ListN.{length}
 use borrow.Author.Needs.{needs}
 use Rattle.steps.specs.Unary.{Skipped, skips-none, skips-one, skips-inside, unary-operand-fails, unary-update-fails, operand-fits, prefixes-fit, unary-ends}
 use Rattle.steps.specs.Singles.{unary-stands, unary-singles}
-use Rattle.parse.proofs.+args+array+arrow+assign+assigned+barray+binary+binding+bobject+body+bproperty+choice+comma+element+head+init+inside+item+key+last+left+object+params+part+primary+property+rest+spread+unary+value.Lts-unary as lts
-use Rattle.parse.proofs.+args+array+arrow+assign+assigned+barray+binary+binding+bobject+body+bproperty+choice+comma+element+head+init+inside+item+key+last+left+object+params+part+primary+property+rest+spread+unary+value.Proof.Measures.{left-below, unary-at}
+use Rattle.parse.proofs.+args+array+assign+assigned+barray+binary+binding+bobject+body+bproperty+choice+comma+element+head+init+inside+item+key+last+left+object+params+part+primary+property+rest+spread+unary+value.Lts-unary as lts
+use Rattle.parse.proofs.+args+array+assign+assigned+barray+binary+binding+bobject+body+bproperty+choice+comma+element+head+init+inside+item+key+last+left+object+params+part+primary+property+rest+spread+unary+value.Proof.Measures.{left-below, unary-at}
 use Rattle.making.proofs.cursor.leaf.Reads as leaf
+use Rattle.making.proofs.singles.single_operand.Reads as single-operand
 use Rattle.operation.proofs.is_prefix_operator.Reads as is-prefix-operator
 use Rattle.operation.proofs.postfix.Reads as postfix
 use Rattle.operation.proofs.prefixes.Reads as prefixes
-use Rattle.making.proofs.singles.single_operand.Reads as single-operand
 use Rattle.parse.proofs.left.Reads as left
 use Rattle.parse.proofs.unary.Reads as unary
 use Rattle.tokens.proofs.kind_at.Reads as kind-at

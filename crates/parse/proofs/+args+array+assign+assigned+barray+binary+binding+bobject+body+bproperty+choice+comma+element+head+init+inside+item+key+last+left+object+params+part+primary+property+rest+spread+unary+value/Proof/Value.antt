@@ -8,8 +8,8 @@ use Rattle.tokens.proofs.Stands.{stands}
 use Rattle.making.proofs.Ends.{moved}
 use Rattle.steps.specs.Cursors.{leafed-now}
 use Rattle.steps.specs.Value.{async-stands, operator-stands, value-asyncs, value-refuses, value-some, value-operand, value-arrows, value-stays, value-assigned, value-choices, value-ends}
-use Rattle.parse.proofs.+args+array+arrow+assign+assigned+barray+binary+binding+bobject+body+bproperty+choice+comma+element+head+init+inside+item+key+last+left+object+params+part+primary+property+rest+spread+unary+value.Lts-value as lts
-use Rattle.parse.proofs.+args+array+arrow+assign+assigned+barray+binary+binding+bobject+body+bproperty+choice+comma+element+head+init+inside+item+key+last+left+object+params+part+primary+property+rest+spread+unary+value.Proof.Measures.{assigned-below, binary-below, body-below, choice-below, value-at}
+use Rattle.parse.proofs.+args+array+assign+assigned+barray+binary+binding+bobject+body+bproperty+choice+comma+element+head+init+inside+item+key+last+left+object+params+part+primary+property+rest+spread+unary+value.Lts-value as lts
+use Rattle.parse.proofs.+args+array+assign+assigned+barray+binary+binding+bobject+body+bproperty+choice+comma+element+head+init+inside+item+key+last+left+object+params+part+primary+property+rest+spread+unary+value.Proof.Measures.{assigned-below, binary-below, body-below, choice-below, value-at}
 use Rattle.making.proofs.cursor.leaf.Reads as leaf
 use Rattle.making.proofs.heads.is_async_name.Reads as is-async-name
 use Rattle.operation.proofs.is_assignment_operator.Reads as is-assignment-operator
