@@ -233,16 +233,16 @@ fn check_place(kinds: &[u8], at: usize) -> Checked
 pub fn three_way(kinds: &[u8], flags: &[u8], is_ts: bool, is_jsx: bool, at: usize) -> ThreeWay
     ensures { λ r. ⌜ r ≡ three-way-entry (now (kinds .entry)) (now (flags .entry)) «is_ts» «is_jsx» at ⌝ }
 {
-    if let Checked::Refused(cause) = tokens::check::check_length(kinds) {
+    if let Checked::Refused(cause) = checks::check_length(kinds) {
         return ThreeWay::Refused(cause);
     }
-    if let Checked::Refused(cause) = tokens::check::check_flag_length(kinds, flags) {
+    if let Checked::Refused(cause) = checks::check_flag_length(kinds, flags) {
         return ThreeWay::Refused(cause);
     }
-    if let Checked::Refused(cause) = tokens::check::check_flags(flags) {
+    if let Checked::Refused(cause) = checks::check_flags(flags) {
         return ThreeWay::Refused(cause);
     }
-    if let Checked::Refused(cause) = tokens::check::check_kinds(kinds) {
+    if let Checked::Refused(cause) = checks::check_kinds(kinds) {
         return ThreeWay::Refused(cause);
     }
     if let Checked::Refused(cause) = check_place(kinds, at) {

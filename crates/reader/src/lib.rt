@@ -41,11 +41,11 @@ fn check_record_room(kinds: &[u8], records: &[u32]) -> Checked
 fn check(kinds: &[u8], flags: &[u8], rows: &[u32], records: &[u32]) -> Checked
     ensures { λ x. ⌜ Checks (now (kinds .entry)) (now (flags .entry)) (now (rows .entry)) (now (records .entry)) x ⌝ }
 {
-    let length = tokens::check::check_length(kinds);
+    let length = checks::check_length(kinds);
     let Checked::Fine = length else {
         return length;
     };
-    let flag_length = tokens::check::check_flag_length(kinds, flags);
+    let flag_length = checks::check_flag_length(kinds, flags);
     let Checked::Fine = flag_length else {
         return flag_length;
     };
@@ -57,15 +57,15 @@ fn check(kinds: &[u8], flags: &[u8], rows: &[u32], records: &[u32]) -> Checked
     let Checked::Fine = record_room else {
         return record_room;
     };
-    let all_flags = tokens::check::check_flags(flags);
+    let all_flags = checks::check_flags(flags);
     let Checked::Fine = all_flags else {
         return all_flags;
     };
-    let all_kinds = tokens::check::check_kinds(kinds);
+    let all_kinds = checks::check_kinds(kinds);
     let Checked::Fine = all_kinds else {
         return all_kinds;
     };
-    tokens::check::check_nesting(kinds)
+    checks::check_nesting(kinds)
 }
 
 // How many places are noted: a note is 0 or 1, and 0 from the end of the list on.

@@ -1,4 +1,4 @@
-// What `tokens` answers, printed: the classes of all 256 bytes, what stands at a place, the causes, and the checks of the lists that
+// What `tokens` and `checks` answer, printed: the classes of all 256 bytes, what stands at a place, the causes, and the checks of the lists that
 // `stdin` describes. tests/tokens.py makes `stdin` and `stdout`; it was written from document 01 and not from this program.
 use tokens::cause::Cause;
 use tokens::check::Checked;
@@ -179,14 +179,11 @@ fn print_checked(label: &[u8], checked: Checked) {
 
 // All checks of a list, each by itself.
 fn print_checks(kinds: &[u8], flags: &[u8]) {
-    print_checked(b": length", tokens::check::check_length(kinds));
-    print_checked(
-        b", flag length",
-        tokens::check::check_flag_length(kinds, flags),
-    );
-    print_checked(b", flags", tokens::check::check_flags(flags));
-    print_checked(b", kinds", tokens::check::check_kinds(kinds));
-    print_checked(b", nesting", tokens::check::check_nesting(kinds));
+    print_checked(b": length", checks::check_length(kinds));
+    print_checked(b", flag length", checks::check_flag_length(kinds, flags));
+    print_checked(b", flags", checks::check_flags(flags));
+    print_checked(b", kinds", checks::check_kinds(kinds));
+    print_checked(b", nesting", checks::check_nesting(kinds));
     end_line();
 }
 

@@ -1,5 +1,5 @@
--- `tokens::check::check_kinds` meets its contract.
--- Made from answers/check-check_kinds.ans by tools/fill.py. Assumes nothing.
+-- `checks::check_kinds` meets its contract.
+-- Made from answers/check_kinds.ans by tools/fill.py. Assumes nothing.
 use Prim.Native.Nat.{ℕ, _-_}
 use mathlib.Core.Bool.{Bool}
 use native.Mathlib.Omega.{arith}
@@ -7,12 +7,12 @@ use lib.Dec.{ltb}
 use lib.ListN.{length}
 use borrow.Author.Needs.{needs}
 use borrow.Author.Tests.{ne-eqb, lt-ltb, le-ltb}
 use Rattle.tokens.specs.Bool.{_or_, _is_}
 use Rattle.tokens.specs.Check.{check-kinds}
 use Rattle.tokens.specs.declared.cause.Cause.{Cause}
-use Rattle.tokens.proofs.Checks.{Passed, starts, finds, passes, ends}
-use Rattle.tokens.proofs.check.check_kinds.Statement.{statement}
-use Rattle.tokens.proofs.check.check_kinds.Tie as tie
+use Rattle.checks.proofs.Checks.{Passed, starts, finds, passes, ends}
+use Rattle.checks.proofs.check_kinds.Statement.{statement}
+use Rattle.checks.proofs.check_kinds.Tie as tie
 
 abbrev Inv-loop : tie.InvT-loop
 Inv-loop kinds place₀ place = Passed (λ kind. kind is 0 or ltb 78 kind) Cause.Kind kinds place

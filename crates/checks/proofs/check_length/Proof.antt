@@ -1,9 +1,9 @@
--- `tokens::check::check_length` meets its contract.
+-- `checks::check_length` meets its contract.
 -- Assumes nothing.
 use borrow.Author.Tests.{ne-eqb, lt-ltb, le-ltb}
 use Rattle.tokens.specs.Check.{check-length}
-use Rattle.tokens.proofs.check.check_length.Statement.{statement}
-use Rattle.tokens.proofs.check.check_length.Tie as tie
+use Rattle.checks.proofs.check_length.Statement.{statement}
+use Rattle.checks.proofs.check_length.Tie as tie
 
 returns : tie.Need-returns
 unfolding check-length

@@ -1,13 +1,13 @@
--- `tokens::check::check_nesting` meets its contract.
--- Made from answers/check-check_nesting.ans by tools/fill.py. Assumes nothing.
+-- `checks::check_nesting` meets its contract.
+-- Made from answers/check_nesting.ans by tools/fill.py. Assumes nothing.
 use Prim.Native.Nat.{_-_}
 use native.Mathlib.Omega.{arith}
 use lib.ListN.{length}
 use borrow.Author.Needs.{needs}
 use Rattle.tokens.specs.Check.{check-nesting}
-use Rattle.tokens.proofs.Checks.{Nested, nested-starts, nested-finds, nested-passes, nested-ends}
-use Rattle.tokens.proofs.check.check_nesting.Statement.{statement}
-use Rattle.tokens.proofs.check.check_nesting.Tie as tie
+use Rattle.checks.proofs.Checks.{Nested, nested-starts, nested-finds, nested-passes, nested-ends}
+use Rattle.checks.proofs.check_nesting.Statement.{statement}
+use Rattle.checks.proofs.check_nesting.Tie as tie
 
 abbrev Inv-loop : tie.InvT-loop
 Inv-loop kinds depth₀ place₀ depth place = Nested kinds depth place

@@ -1,16 +1,16 @@
--- `tokens::check::check_flags` meets its contract.
--- Made from answers/check-check_flags.ans by tools/fill.py. Assumes nothing.
+-- `checks::check_flags` meets its contract.
+-- Made from answers/check_flags.ans by tools/fill.py. Assumes nothing.
 use Prim.Native.Nat.{_-_}
 use native.Mathlib.Omega.{arith}
 use lib.Dec.{ltb}
 use lib.ListN.{length}
 use borrow.Author.Needs.{needs}
 use borrow.Author.Tests.{lt-ltb, le-ltb}
 use Rattle.tokens.specs.Check.{check-flags}
 use Rattle.tokens.specs.declared.cause.Cause.{Cause}
-use Rattle.tokens.proofs.Checks.{Passed, starts, finds, passes, ends}
-use Rattle.tokens.proofs.check.check_flags.Statement.{statement}
-use Rattle.tokens.proofs.check.check_flags.Tie as tie
+use Rattle.checks.proofs.Checks.{Passed, starts, finds, passes, ends}
+use Rattle.checks.proofs.check_flags.Statement.{statement}
+use Rattle.checks.proofs.check_flags.Tie as tie
 
 abbrev Inv-loop : tie.InvT-loop
 Inv-loop flags place₀ place = Passed (λ flag. ltb 1 flag) Cause.Flag flags place

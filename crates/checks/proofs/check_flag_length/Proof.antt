@@ -1,9 +1,9 @@
--- `tokens::check::check_flag_length` meets its contract.
+-- `checks::check_flag_length` meets its contract.
 -- Assumes nothing.
 use borrow.Author.Tests.{eq-eqb, ne-eqb}
 use Rattle.tokens.specs.Check.{check-flag-length}
-use Rattle.tokens.proofs.check.check_flag_length.Statement.{statement}
-use Rattle.tokens.proofs.check.check_flag_length.Tie as tie
+use Rattle.checks.proofs.check_flag_length.Statement.{statement}
+use Rattle.checks.proofs.check_flag_length.Tie as tie
 
 returns : tie.Need-returns
 unfolding check-flag-length

@@ -1,13 +1,13 @@
--- `tokens::check::depth_after` meets its contract: each kind of bracket by computation.
--- Made from answers/check-depth_after.ans by tools/fill.py. Assumes nothing.
+-- `checks::depth_after` meets its contract: each kind of bracket by computation.
+-- Made from answers/depth_after.ans by tools/fill.py. Assumes nothing.
 use mathlib.Core.Path.{refl}
 use mathlib.Core.Logic.{_⊎_, inl, inr, ⊎-elim}
 use native.Mathlib.Omega.{arith}
 use borrow.Author.Needs.{needs}
 use borrow.Author.Tests.{ne-eqb}
 use Rattle.tokens.specs.Check.{depth-after}
-use Rattle.tokens.proofs.check.depth_after.Statement.{statement}
-use Rattle.tokens.proofs.check.depth_after.Tie as tie
+use Rattle.checks.proofs.depth_after.Statement.{statement}
+use Rattle.checks.proofs.depth_after.Tie as tie
 
 add-result : tie.Need-add-result
 add-result c = omega arith
