@@ -5,10 +5,5 @@ pub mod Flat
 pub mod Parts
 pub mod Tests
 pub mod Subtrees
-pub mod Masks
-pub mod Shapes
-pub mod Columns
-pub mod Walks
-pub mod Whole
 pub mod Once
 pub mod Changed

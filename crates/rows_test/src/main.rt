@@ -8,12 +8,12 @@ const STDOUT: i32 = 1;
 
 // A line of the output.
 fn show(tree: &[u32], row: usize) {
-    if rows::well_formed(tree) {
+    if trees::well_formed(tree) {
         io::write_all(STDOUT, b"1 ");
     } else {
         io::write_all(STDOUT, b"0 ");
     }
-    let part = rows::subtree(tree, row);
+    let part = trees::subtree(tree, row);
     io::print_decimal(STDOUT, part.len() as u64);
     io::write_all(STDOUT, b" ");
     let last = part.len() / 6;

@@ -13,7 +13,7 @@ use Rattle.rows.specs.Record.{Record}
 use Rattle.grammar.specs.Sheet.{Out, done, fail, after-records}
 use Rattle.grammar.specs.Job.{Job, assignment, value, head, body}
 use Rattle.grammar.specs.Arrow as Grammar
-use Rattle.rows.proofs.Walks.{some-rows}
+use Rattle.trees.proofs.Walks.{some-rows}
 use Rattle.grammar.specs.Reading.{box}
 use Rattle.laws.specs.Good.{inside}
 use Rattle.laws.specs.Bounds.{bounded}

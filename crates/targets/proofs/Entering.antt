@@ -19,7 +19,7 @@ use Rattle.rows.specs.Words.{WellFormed}
 use Rattle.rows.specs.Part.{Part, Rooted, subtree}
 use Rattle.rows.specs.Post.{Word, Cleared}
 use Rattle.rows.specs.Stands.{Decides}
-use Rattle.rows.proofs.Whole.{long, subtree-in}
+use Rattle.trees.proofs.Whole.{long, subtree-in}
 use Rattle.rows.proofs.Flat.{length-flat}
 use Rattle.rows.proofs.Records.{length-record-words}
 use Rattle.targets.specs.Conversion as def

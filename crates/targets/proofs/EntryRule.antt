@@ -14,7 +14,7 @@ use Rattle.tokens.specs.declared.cause.Answer.the-variants.{Read, Refused}
 use Rattle.rows.specs.Tree.{Tree, size}
 use Rattle.rows.specs.Record.{Record}
 use Rattle.rows.specs.Handed.{Inside, chosen}
-use Rattle.rows.proofs.Whole.{long}
+use Rattle.trees.proofs.Whole.{long}
 use Rattle.rows.proofs.Flat.{some-row}
 use Rattle.targets.specs.Conversion.{Outcome, turned, refused, convert}
 use Rattle.targets.specs.TargetRule.{Target}

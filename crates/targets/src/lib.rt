@@ -16,10 +16,10 @@ use rows::clear_from;
 use rows::row;
 use rows::row_word;
 use rows::set_kind;
-use rows::well_formed;
 use tokens::cause::Answer;
 use tokens::cause::Cause;
 use tokens::cause::Counts;
+use trees::well_formed;
 
 // What comes of a conversion: the number of records added, or why it is refused.
 pub enum Conversion {

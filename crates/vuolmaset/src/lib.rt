@@ -118,7 +118,7 @@ pub extern "C" fn vuolmaset_three_way(
 pub extern "C" fn vuolmaset_subtree(tree: &[u32], row: usize) -> usize
     ensures { λ x. ⌜ ToldSubtree (now (tree .entry)) row x ⌝ }
 {
-    rows::subtree(tree, row).len()
+    trees::subtree(tree, row).len()
 }
 
 // The level of a kind in the table of operators, 0 for none.

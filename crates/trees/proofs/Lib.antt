@@ -1,0 +1,5 @@
+pub mod Masks
+pub mod Shapes
+pub mod Columns
+pub mod Walks
+pub mod Whole
