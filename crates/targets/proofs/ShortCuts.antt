@@ -13,11 +13,12 @@ use Rattle.rows.specs.Row as row
 use Rattle.rows.specs.Tree.{Tree, Forest, node, nil, cons, one, join, count, size, sizes, flat, flats, kind-of, mark-of, first-of, end-of, kids-of}
 use Rattle.rows.specs.Post.{Word, KindSet, RowInside}
 use Rattle.rows.proofs.Rows.{sizes-join, flats-join, count-join}
-use Rattle.targets.specs.Conversion.{turned, Role, any, simple, element, last-element, property, last-property, value, name, same, each, only, as-simple, as-any, as-value, as-element, as-last-element, as-property, as-last-property, as-name, change, roles, over, seen, both, convert-as, convert-kids}
+use Rattle.targets.specs.Conversion.{turned, Role, Seen, Change, turn, any, simple, element, last-element, property, last-property, value, name, same, each, only, as-simple, as-any, as-value, as-element, as-last-element, as-property, as-last-property, as-name, change, roles, over, seen, both, convert-as, convert-kids}
+use Rattle.targets.specs.KidRoles.{elements, properties}
 use Rattle.targets.specs.Meaning as means
 use Rattle.targets.specs.Post.{Subtree, Judged, TurnedRow}
 use Rattle.targets.specs.RuleHolds.{by-test, both-true, one-kid}
-use Rattle.targets.specs.ShortCut.{takes-name, is-property, is-initialized, ends-in-target, named-kind, name-set, Named, NameAt, NameBelow, NameInside, NameSet}
+use Rattle.targets.specs.ShortCut.{takes-name, takes-member, takes-default, takes-pattern, is-kept, is-pattern, pattern-of, is-property, is-initialized, ends-in-target, named-kind, name-set, Named, NameAt, NameBelow, NameInside, NameSet}
 use Rattle.targets.specs.declared.Conversion.the-variants.{Turned}
 use Rattle.targets.proofs.Potentials.{turned-is, turned-records}
 use Rattle.targets.proofs.Flat.{root-words, root-text, root-inside, Walk, Next, walk-start, walk-more, walk-next, kid-tree, kid-size, kid-text, whole-next}
@@ -48,6 +49,43 @@ name-turned (node k m f e kids) (last-property comma) i t = false-true t
 name-turned (node k m f e kids) value i t = rw i
 name-turned (node k m f e kids) name i t = rw i
 name-turned (node k m f e kids) same i t = false-true t
+
+-- a Member or an Index becomes one of the targets, an Assign a TargetDefault
+member-turned : (t : Tree) (role : Role) → kind-of t ≡ row.Member → takes-member role ≡ true → convert-as t role ≡ turned (with-kind row.TargetMember t) []
+unfolding convert-as change as-any as-simple as-value as-element as-last-element as-name seen over kind-of mark-of first-of end-of kids-of
+member-turned (node k m f e kids) any i t = rw i
+member-turned (node k m f e kids) simple i t = rw i
+member-turned (node k m f e kids) element i t = rw i
+member-turned (node k m f e kids) (last-element comma) i t = rw i
+member-turned (node k m f e kids) property i t = false-true t
+member-turned (node k m f e kids) (last-property comma) i t = false-true t
+member-turned (node k m f e kids) value i t = rw i
+member-turned (node k m f e kids) name i t = false-true t
+member-turned (node k m f e kids) same i t = false-true t
+
+index-turned : (t : Tree) (role : Role) → kind-of t ≡ row.Index → takes-member role ≡ true → convert-as t role ≡ turned (with-kind row.TargetIndex t) []
+unfolding convert-as change as-any as-simple as-value as-element as-last-element as-name seen over kind-of mark-of first-of end-of kids-of
+index-turned (node k m f e kids) any i t = rw i
+index-turned (node k m f e kids) simple i t = rw i
+index-turned (node k m f e kids) element i t = rw i
+index-turned (node k m f e kids) (last-element comma) i t = rw i
+index-turned (node k m f e kids) property i t = false-true t
+index-turned (node k m f e kids) (last-property comma) i t = false-true t
+index-turned (node k m f e kids) value i t = rw i
+index-turned (node k m f e kids) name i t = false-true t
+index-turned (node k m f e kids) same i t = false-true t
+
+default-turned : (t : Tree) (role : Role) → kind-of t ≡ row.Assign → takes-default role ≡ true → convert-as t role ≡ turned (with-kind row.TargetDefault t) []
+unfolding convert-as change as-any as-simple as-value as-element as-last-element as-name seen over kind-of mark-of first-of end-of kids-of
+default-turned (node k m f e kids) any i t = false-true t
+default-turned (node k m f e kids) simple i t = false-true t
+default-turned (node k m f e kids) element i t = rw i
+default-turned (node k m f e kids) (last-element comma) i t = rw i
+default-turned (node k m f e kids) property i t = false-true t
+default-turned (node k m f e kids) (last-property comma) i t = false-true t
+default-turned (node k m f e kids) value i t = rw i
+default-turned (node k m f e kids) name i t = false-true t
+default-turned (node k m f e kids) same i t = false-true t
 
 -- a key or an initializer stays
 same-turned : (t : Tree) → convert-as t same ≡ turned t []
@@ -155,20 +193,41 @@ no-name = record { is = λ le h. absurd (omega arith) }
 pub none-below : {rows : List ℕ} {root : ℕ} → NameBelow rows root (root + 1)
 none-below = record { is = λ role p. no-name }
 
--- the row itself is a name
-pub name-here : {rows : List ℕ} {root kind : ℕ} {role : Role} {r : Bool} → r ≡ takes-name role → r ≡ true → Word rows root 0 kind → kind ≡ row.Identifier
+-- a row that keeps its kids
+kept-turned : (t : Tree) (role : Role) → takes-name role ≡ true → is-kept role (kind-of t) ≡ true
+    → convert-as t role ≡ turned (with-kind (named-kind (kind-of t)) t) []
+kept-turned t role takes kept =
+    by-test Yes (eqb (kind-of t) row.Identifier) kept
+    (λ k _. let i = eqb-true (kind-of t) _ k in name-turned t role i takes ∙ ap (λ (n : ℕ). turned (with-kind (named-kind n) t) []) (sym i))
+    (λ _ y. by-test Yes (eqb (kind-of t) row.Member) y
+    (λ k m. let i = eqb-true (kind-of t) _ k in member-turned t role i m ∙ ap (λ (n : ℕ). turned (with-kind (named-kind n) t) []) (sym i))
+    (λ _ y. by-test Yes (eqb (kind-of t) row.Index) y
+    (λ k m. let i = eqb-true (kind-of t) _ k in index-turned t role i m ∙ ap (λ (n : ℕ). turned (with-kind (named-kind n) t) []) (sym i))
+    (λ _ y. by-test Yes (eqb (kind-of t) row.Assign) y
+    (λ k d. let i = eqb-true (kind-of t) _ k in default-turned t role i d ∙ ap (λ (n : ℕ). turned (with-kind (named-kind n) t) []) (sym i))
+    (λ _ y. false-true y))))
+  where
+    Yes : Bool → Type 0
+    Yes b = b ≡ true
+
+-- the row itself is all there is to convert
+pub kept-here : {rows : List ℕ} {root kind : ℕ} {role : Role} {r s : Bool} → r ≡ takes-name role → r ≡ true → Word rows root 0 kind → s ≡ is-kept role kind → s ≡ true
     → NameAt rows root role root
 unfolding mark-of first-of end-of kids-of
-name-here {rows} {root} {role = role} e t w i =
+kept-here {rows} {root} {kind} {role = role} e t w f y =
     record {
       is = λ le h.
-          let kind : getD rows (6 * root + 0) 0 ≡ row.Identifier = sym (w .is) ∙ i in
+          let here : kind-of (h .tree) ≡ kind = sym (reads-kind h w) in
+          let n = named-kind (getD rows (6 * root + 0) 0) in
+          let n-is : named-kind (kind-of (h .tree)) ≡ n = ap named-kind (here ∙ w .is) in
           let t₁ = with-kind row.TargetName (h .tree) in
           let place : 6 * (root + 1) ≡ length (h .before) + 6 * size t₁ = rw (kind-size (h .tree) row.TargetName) (h .place) in
           record {
-            made = t₁;
-            is = name-turned (h .tree) role (sym (reads-kind h w) ∙ i) (sym e ∙ t);
-            text = rw kind (kind-set (record { before = h .before; tree = t₁; after = h .after; text = kind-set h row.TargetName; place = place }) row.TargetName);
+            made = with-kind n (h .tree);
+            is =
+                kept-turned (h .tree) role (sym e ∙ t) (ap (is-kept role) here ∙ sym f ∙ y)
+                ∙ ap (λ (k : ℕ). turned (with-kind k (h .tree)) []) n-is;
+            text = kind-set (record { before = h .before; tree = t₁; after = h .after; text = kind-set h row.TargetName; place = place }) n;
           };
     }
 
@@ -351,3 +410,37 @@ first-room {kind = kind} {kids = kids} h wk wn e t ws es = room h wn (begins kin
 -- the place after the row can be counted
 pub next-fits : {rows : List ℕ} {root : ℕ} → Subtree rows root → root + 1 ≤ length rows
 next-fits h = let i = root-inside h in omega arith
+
+-- a plain pattern
+array-changed : (role : Role) (s : Seen) → s .kind ≡ row.Array → takes-pattern role ≡ true → turn row.TargetArray [] (elements []) [] ≡ change role s
+unfolding change as-any as-value as-element as-last-element
+array-changed any s i t = rw i
+array-changed simple s i t = false-true t
+array-changed element s i t = rw i
+array-changed (last-element comma) s i t = rw i
+array-changed property s i t = false-true t
+array-changed (last-property comma) s i t = false-true t
+array-changed value s i t = rw i
+array-changed name s i t = false-true t
+array-changed same s i t = false-true t
+
+object-changed : (role : Role) (s : Seen) → s .kind ≡ row.Object → takes-pattern role ≡ true → turn row.TargetObject [] (properties []) [] ≡ change role s
+unfolding change as-any as-value as-element as-last-element
+object-changed any s i t = rw i
+object-changed simple s i t = false-true t
+object-changed element s i t = rw i
+object-changed (last-element comma) s i t = rw i
+object-changed property s i t = false-true t
+object-changed (last-property comma) s i t = false-true t
+object-changed value s i t = rw i
+object-changed name s i t = false-true t
+object-changed same s i t = false-true t
+
+pub pattern-changed : (role : Role) (s : Seen) → is-pattern role (s .kind) ≡ true → pattern-of (s .kind) ≡ change role s
+pattern-changed role s t =
+    by-test Yes (eqb (s .kind) row.Array) t (λ k y. let i = eqb-true (s .kind) _ k in ap pattern-of i ∙ array-changed role s i y)
+    (λ _ y. by-test Yes (eqb (s .kind) row.Object) y (λ k y. let i = eqb-true (s .kind) _ k in ap pattern-of i ∙ object-changed role s i y)
+    (λ _ y. false-true y))
+  where
+    Yes : Bool → Type 0
+    Yes b = b ≡ true

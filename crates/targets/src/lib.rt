@@ -72,13 +72,13 @@ fn both(one: Conversion, rest: Conversion) -> Conversion
     }
 }
 
-// The row of the name that is all there is to convert: the row itself, or a name in a property. The row after it where it is not so.
+// The row that is all there is to convert, with no record: the row itself, or the name in a property. The row after it where it is not so.
 fn name_at(rows: &[u32], root: usize, role: Role) -> usize
     requires { ⌜ Subtree (now rows) root ⌝ }
     ensures { λ r. ⌜ NameAt (now (rows .entry)) root (means.role role) r ⌝ }
 {
     if role::takes_name(role) {
-        if row_word(rows, root, 0) == row::IDENTIFIER {
+        if role::is_kept(role, row_word(rows, root, 0)) {
             return root;
         }
         return root + 1;
@@ -113,7 +113,7 @@ fn name_below(rows: &[u32], root: usize) -> usize
     root + 1
 }
 
-// Makes a name a TargetName, and the row over it what it is over one.
+// Makes a name a TargetName, and the row over it what it is over one; or a row that keeps its kids what it becomes.
 fn turn_name(rows: &mut [u32], root: usize, name: usize)
     requires { ⌜ NameInside (length (now rows)) root name ⌝ }
     ensures { λ _. ⌜ NameSet (now (rows .entry)) root name (now (rows .exit)) ⌝ }

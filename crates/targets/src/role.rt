@@ -282,6 +282,9 @@ fn as_name(seen: Seen) -> Plan
 pub fn plan_of(role: Role, seen: Seen) -> Plan
     ensures { λ r. ⌜ means.Planned (means.role role) (means.seen seen) r ⌝ }
 {
+    if is_pattern(role, seen.kind) {
+        return pattern_of(seen.kind);
+    }
     match role {
         Role::Any => as_any(seen),
         Role::Simple => as_simple(seen),
@@ -310,6 +313,91 @@ pub fn takes_name(role: Role) -> bool
         Role::Name => true,
         Role::Same => false,
     }
+}
+
+// Whether a Member or an Index becomes a target in this role.
+pub fn takes_member(role: Role) -> bool
+    ensures { λ r. ⌜ r ≡ short.takes-member (means.role role) ⌝ }
+{
+    match role {
+        Role::Any => true,
+        Role::Simple => true,
+        Role::Element => true,
+        Role::LastElement(_) => true,
+        Role::Property => false,
+        Role::LastProperty(_) => false,
+        Role::Value => true,
+        Role::Name => false,
+        Role::Same => false,
+    }
+}
+
+// Whether an Assign becomes a TargetDefault in this role.
+pub fn takes_default(role: Role) -> bool
+    ensures { λ r. ⌜ r ≡ short.takes-default (means.role role) ⌝ }
+{
+    match role {
+        Role::Any => false,
+        Role::Simple => false,
+        Role::Element => true,
+        Role::LastElement(_) => true,
+        Role::Property => false,
+        Role::LastProperty(_) => false,
+        Role::Value => true,
+        Role::Name => false,
+        Role::Same => false,
+    }
+}
+
+// Whether a row of this kind gets another kind and no record, in a role that takes names.
+pub fn is_kept(role: Role, kind: u32) -> bool
+    ensures { λ r. ⌜ r ≡ short.is-kept (means.role role) kind ⌝ }
+{
+    match kind {
+        row::IDENTIFIER => true,
+        row::MEMBER => takes_member(role),
+        row::INDEX => takes_member(role),
+        row::ASSIGN => takes_default(role),
+        _ => false,
+    }
+}
+
+// Whether an Array or Object becomes a pattern in this role.
+pub fn takes_pattern(role: Role) -> bool
+    ensures { λ r. ⌜ r ≡ short.takes-pattern (means.role role) ⌝ }
+{
+    match role {
+        Role::Any => true,
+        Role::Simple => false,
+        Role::Element => true,
+        Role::LastElement(_) => true,
+        Role::Property => false,
+        Role::LastProperty(_) => false,
+        Role::Value => true,
+        Role::Name => false,
+        Role::Same => false,
+    }
+}
+
+// Whether a row of this kind becomes a pattern, and no comma stands after a closing spread.
+fn is_pattern(role: Role, kind: u32) -> bool
+    ensures { λ r. ⌜ r ≡ short.is-pattern (means.role role) kind ⌝ }
+{
+    match kind {
+        row::ARRAY => takes_pattern(role),
+        row::OBJECT => takes_pattern(role),
+        _ => false,
+    }
+}
+
+// The pattern that an Array or an Object becomes.
+fn pattern_of(kind: u32) -> Plan
+    ensures { λ r. ⌜ means.plan r ≡ short.pattern-of kind ⌝ }
+{
+    if kind == row::ARRAY {
+        return over(row::TARGET_ARRAY, Kids::Elements(Note::Nothing));
+    }
+    over(row::TARGET_OBJECT, Kids::Properties(Note::Nothing))
 }
 
 // Whether this is the role of an object's property.
@@ -346,12 +434,15 @@ pub fn ends_in_target(kind: u32, kids: u32) -> bool
     kind == row::SHORTHAND && kids == 1
 }
 
-// The kind that a row gets with its name: of the name itself, or of a property.
+// The kind that a row gets by itself or with its name.
 pub fn named_kind(kind: u32) -> u32
     ensures { λ r. ⌜ r ≡ short.named-kind kind ⌝ }
 {
     match kind {
         row::IDENTIFIER => row::TARGET_NAME,
+        row::MEMBER => row::TARGET_MEMBER,
+        row::INDEX => row::TARGET_INDEX,
+        row::ASSIGN => row::TARGET_DEFAULT,
         row::PROPERTY => row::TARGET_PROPERTY,
         row::SHORTHAND => row::TARGET_SHORTHAND,
         _ => row::TARGET_SHORTHAND_INIT,

@@ -3,7 +3,7 @@
 use Prim.Native.Nat.{ℕ, _+_, _-_, _*_, _<_}
 use native.Mathlib.Omega.{arith}
 use borrow.Author.Needs.{needs}
-use Rattle.targets.proofs.ShortCuts.{no-name, name-here, name-inside, next-fits}
+use Rattle.targets.proofs.ShortCuts.{no-name, kept-here, name-inside, next-fits}
 use Rattle.targets.proofs.name_at.Statement.{statement}
 use Rattle.targets.proofs.name_at.Tie as tie
 
@@ -13,11 +13,14 @@ takes-name-requires c κs = search needs
 row-word-requires : tie.Need-row-word-requires
 row-word-requires c κs = search needs
 
+is-kept-requires : tie.Need-is-kept-requires
+is-kept-requires c κs = search needs
+
 returns : tie.Need-returns
-returns c = name-here (c .before .before .before .takes-name .ensures) (c .before .before .if1 .taken) (c .before .row-word .ensures) (c .if2 .taken)
+returns c = kept-here (c .before .before .before .before .takes-name .ensures) (c .before .before .before .if1 .taken) (c .before .before .row-word .ensures) (c .before .is-kept .ensures) (c .if2 .taken)
 
 add-result : tie.Need-add-result
-add-result c = omega (arith, next-fits (c .before .before .before .before .before .pre))
+add-result c = omega (arith, next-fits (c .before .before .before .before .before .before .pre))
 
 returns-2 : tie.Need-returns-2
 returns-2 c = no-name
@@ -38,4 +41,4 @@ returns-4 : tie.Need-returns-4
 returns-4 c = no-name
 
 pub name-at-spec : {M : Type 1} → statement M
-name-at-spec = tie.close (tie.spec takes-name-requires row-word-requires returns add-result returns-2 is-property-requires name-below-requires returns-3 add-result-2 returns-4)
+name-at-spec = tie.close (tie.spec takes-name-requires row-word-requires is-kept-requires returns add-result returns-2 is-property-requires name-below-requires returns-3 add-result-2 returns-4)

@@ -5,8 +5,15 @@ use native.Mathlib.Omega.{arith}
 use borrow.Author.Needs.{needs}
 use borrow.Author.Tests.{eq-eqb, ne-eqb, le-leb, lt-leb}
 use Rattle.targets.specs.Conversion.{change}
+use Rattle.targets.proofs.ShortCuts.{pattern-changed}
 use Rattle.targets.proofs.role.plan_of.Statement.{statement}
 use Rattle.targets.proofs.role.plan_of.Tie as tie
+
+is-pattern-requires : tie.Need-is-pattern-requires
+is-pattern-requires c κs = search needs
+
+pattern-of-requires : tie.Need-pattern-of-requires
+pattern-of-requires c κs = search needs
 
 enum-told : tie.Need-enum-told
 enum-told c = search needs
@@ -63,40 +70,44 @@ keep-requires : tie.Need-keep-requires
 keep-requires c κs = search needs
 
 returns : tie.Need-returns
-unfolding change
-returns c = record { is = rw (c .before .enum-told .given .1) (c .as-any .ensures) }
+returns c =
+    record { is = c .pattern-of .ensures ∙ pattern-changed _ _ (sym (c .before .before .is-pattern .ensures) ∙ c .before .if1 .taken) }
 
 returns-2 : tie.Need-returns-2
 unfolding change
-returns-2 c = record { is = rw (c .before .enum-told2 .given .1) (c .as-simple .ensures) }
+returns-2 c = record { is = rw (c .before .enum-told .given .1) (c .as-any .ensures) }
 
 returns-3 : tie.Need-returns-3
 unfolding change
-returns-3 c = record { is = rw (c .before .enum-told3 .given .1) (c .as-element .ensures) }
+returns-3 c = record { is = rw (c .before .enum-told2 .given .1) (c .as-simple .ensures) }
 
 returns-4 : tie.Need-returns-4
 unfolding change
-returns-4 c = record { is = rw (c .before .before .role .given .1) (c .as-last-element .ensures) }
+returns-4 c = record { is = rw (c .before .enum-told3 .given .1) (c .as-element .ensures) }
 
 returns-5 : tie.Need-returns-5
 unfolding change
-returns-5 c = record { is = rw (c .before .enum-told4 .given .1) (c .as-property .ensures) }
+returns-5 c = record { is = rw (c .before .before .role .given .1) (c .as-last-element .ensures) }
 
 returns-6 : tie.Need-returns-6
 unfolding change
-returns-6 c = record { is = rw (c .before .before .role2 .given .1) (c .as-last-property .ensures) }
+returns-6 c = record { is = rw (c .before .enum-told4 .given .1) (c .as-property .ensures) }
 
 returns-7 : tie.Need-returns-7
 unfolding change
-returns-7 c = record { is = rw (c .before .enum-told5 .given .1) (c .as-value .ensures) }
+returns-7 c = record { is = rw (c .before .before .role2 .given .1) (c .as-last-property .ensures) }
 
 returns-8 : tie.Need-returns-8
 unfolding change
-returns-8 c = record { is = rw (c .before .enum-told6 .given .1) (c .as-name .ensures) }
+returns-8 c = record { is = rw (c .before .enum-told5 .given .1) (c .as-value .ensures) }
 
 returns-9 : tie.Need-returns-9
 unfolding change
-returns-9 c = record { is = rw (c .before .enum-told7 .given .1) (c .keep .ensures) }
+returns-9 c = record { is = rw (c .before .enum-told6 .given .1) (c .as-name .ensures) }
+
+returns-10 : tie.Need-returns-10
+unfolding change
+returns-10 c = record { is = rw (c .before .enum-told7 .given .1) (c .keep .ensures) }
 
 pub plan-of-spec : {M : Type 1} → statement M
-plan-of-spec = tie.close (tie.spec enum-told as-any-requires enum-told-2 as-simple-requires enum-told-3 as-element-requires enum-known-role as-last-element-requires enum-told-4 as-property-requires enum-known-role-2 as-last-property-requires enum-told-5 as-value-requires enum-told-6 as-name-requires enum-told-7 keep-requires returns returns-2 returns-3 returns-4 returns-5 returns-6 returns-7 returns-8 returns-9)
+plan-of-spec = tie.close (tie.spec is-pattern-requires pattern-of-requires returns enum-told as-any-requires enum-told-2 as-simple-requires enum-told-3 as-element-requires enum-known-role as-last-element-requires enum-told-4 as-property-requires enum-known-role-2 as-last-property-requires enum-told-5 as-value-requires enum-told-6 as-name-requires enum-told-7 keep-requires returns-2 returns-3 returns-4 returns-5 returns-6 returns-7 returns-8 returns-9 returns-10)
