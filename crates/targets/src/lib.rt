@@ -222,6 +222,11 @@ pub fn convert_row(
     ensures { λ r. ⌜ RowConverted (now (rows .entry)) (now (records .entry)) root (means.aim simple) used (now (rows .exit)) (now (records .exit)) r ⌝ }
 {
     let role = role::aim_at(simple);
+    let name = name_at(rows, root, role);
+    if name <= root {
+        turn_name(rows, root, name);
+        return Conversion::Turned(0);
+    }
     let found = judge(rows, root, role);
     match found {
         Conversion::Refused(cause) => Conversion::Refused(cause),
