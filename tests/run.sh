@@ -42,6 +42,8 @@ made examples/report.sheet tests/sheet_files.py --example report
 made crates/printout_test/stdin tests/sheet_files.py --input
 made crates/printout_test/stdout tests/sheet_files.py
 
+# One job more than processors: crates and edits run in groups that wait for their slowest, and so no processor waits with them.
+export RT_JOBS=${RT_JOBS:-$(($(nproc) + 1))}
 log=$(mktemp)
 trap 'rm -f "$log"' EXIT
 rt ci </dev/null | tee "$log"

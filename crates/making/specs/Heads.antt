@@ -5,7 +5,7 @@ use mathlib.Core.Bool.{Bool, true, false}
 use mathlib.Core.List.{List}
 use lib.ListN.{getD}
 use Rattle.tokens.specs.Bool.{_or_, _is_, if_then_else_}
-use Rattle.tokens.specs.Kind.{Async, LParen}
+use Rattle.tokens.specs.Kind.{Async, LParen, LCurly}
 use Rattle.rows.specs.Row as Row
 use Rattle.grammar.specs.Arrow as Grammar
 use Rattle.grammar.specs.Reading.{box}
@@ -41,3 +41,7 @@ is-commit Way.Commit = true
 -- the row of an arrow whose head begins at a place
 unfoldable pub arrow-kind : List ℕ → ℕ → ℕ
 arrow-kind ks at = if getD ks at 0 is Async then Row.AsyncArrow else Row.Arrow
+
+-- a body that begins at a place is a block
+abbrev pub is-block : List ℕ → ℕ → Bool
+is-block ks at = getD ks at 0 is LCurly

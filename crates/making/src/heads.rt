@@ -4,7 +4,7 @@ ghost use Prim.Native.Nat.{_≤_};
 ghost use lib.ListN.{length};
 ghost use Rattle.grammar.specs.Assignment.{is-async-name};
 ghost use Rattle.making.specs.Post.{sheet-of};
-ghost use Rattle.making.specs.Heads.{is-pass, is-commit, may-open, way-at, way-of, arrow-kind};
+ghost use Rattle.making.specs.Heads.{is-block, is-pass, is-commit, may-open, way-at, way-of, arrow-kind};
 use lookahead::Tristate;
 use rows::row;
 use tokens::kind;
@@ -114,4 +114,11 @@ pub fn is_async_name(kinds: &[u8], flags: &[u8], at: usize) -> bool
         return tokens::kind_after(kinds, at, 2) == kind::ARROW;
     }
     false
+}
+
+// Whether a body that begins at the place is a block, which the box does not read.
+pub fn is_block(kinds: &[u8], at: usize) -> bool
+    ensures { λ r. ⌜ r ≡ is-block (now (kinds .entry)) at ⌝ }
+{
+    tokens::kind_at(kinds, at) == kind::L_CURLY
 }

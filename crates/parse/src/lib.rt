@@ -431,7 +431,7 @@ pub fn body(
     requires { ⌜ HeadFits (now kinds) (cursor at made said) head ⌝ }
     ensures { λ x. ⌜ MetAfter (now (kinds .entry)) (now (flags .entry)) (now (rows .entry)) (now (records .entry)) (now (notes .entry)) (now (rows .exit)) (now (records .exit)) (now (notes .exit)) (Job.body (head .kind) (head .first) at) (head .from) made (head .kids) said x ⌝ }
 {
-    if tokens::kind_at(kinds, at + 1) == kind::L_CURLY {
+    if heads::is_block(kinds, at + 1) {
         return Step::Fail(Cause::Unexpected(at + 1));
     }
     let mut next = Cursor {
