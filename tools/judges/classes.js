@@ -43,13 +43,15 @@ function babelClass(it, accepts) {
   if (accepts && kinds.some((k, i) => k === 2 && isName(kinds[i + 1]) && kinds[i + 2] === 29) && ours.number === 8) return 'babel: async x => y as an operand';
   if (accepts || !it.standard.clean) return null;
   const tree = treeOf(it.standard.words);
-  if (some(tree, parenInDefault)) return 'babel: (x) = y in a parameter';
+  if (some(tree, parenInParameter)) return 'babel: (x) = y in a parameter';
   if (some(tree, prefixAfterInit)) return 'babel: an error of one part of a literal disturbs another';
   return null;
 }
 
-// A target in parentheses inside a parameter's default.
-const parenInDefault = (tree) => (tree.kind === 34 || tree.kind === 36) && some(tree, (row) => row.kind === 41);
+// A target in parentheses inside a parameter's default, or inside a computed key of its pattern.
+const hasParen = (tree) => some(tree, (row) => row.kind === 41);
+const parenInParameter = (tree) =>
+  ((tree.kind === 34 || tree.kind === 36) && hasParen(tree)) || (tree.kind === 32 && some(tree, (row) => row.kind === 15 && hasParen(row)));
 
 // A pattern with an initialized shorthand and with a member of a literal that has a prefix operator or an update in it.
 function prefixAfterInit(tree) {
