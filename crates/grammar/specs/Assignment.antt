@@ -2,7 +2,7 @@
 -- Assumes nothing: these are definitions.
 use Rattle.tokens.specs.Kind.{Async, Colon, Question, Arrow, Eq, Star2Eq}
 use Rattle.rows.specs.Row as Row
-use Rattle.targets.specs.Conversion.{any, simple}
+use Rattle.conversion.specs.Conversion.{any, simple}
 use Rattle.grammar.specs.Sheet.{ℕ, _+_, Bool, not, _and_, _is_, if_then_else_, between, is-name, Tree, cons, one, join, kind-of, Sheet, token, break-before, Reading, Part, tree, leaf, _>>=_, _>>_, yield, make, want}
 use Rattle.grammar.specs.Job.{assignment, assign, conditional, binary, body, Asks}
 use Rattle.grammar.specs.Update.{converted}

@@ -2,7 +2,7 @@
 -- Assumes nothing: these are definitions.
 use Rattle.tokens.specs.Kind.{Bang, Delete, Plus, Minus, Plus2, Minus2}
 use Rattle.rows.specs.Row as Row
-use Rattle.targets.specs.Conversion.{Role, simple, Outcome, turned, refused, convert-as}
+use Rattle.conversion.specs.Conversion.{Role, simple, Outcome, turned, refused, convert-as}
 use Rattle.grammar.specs.Sheet.{ℕ, _+_, Bool, not, _and_, _or_, _is_, if_then_else_, between, Tree, one, Sheet, token, break-before, done, fail, Reading, tree, _>>=_, yield, make}
 use Rattle.grammar.specs.Job.{unary, postfix, left-hand-side, Asks}
 

@@ -15,8 +15,8 @@ use Rattle.laws.specs.Good.{and-left, and-right}
 use Rattle.rows.specs.Row as Row
 use Rattle.rows.specs.Tree.{Tree, Forest, node, nil, cons, one, count, kind-of, kids-of}
 use Rattle.rows.specs.Record.{Record}
-use Rattle.targets.specs.Conversion.{Outcome, turned, refused, Role, any, simple, element, last-element, property, last-property, value, name, same, Change, refuse, keep, turn, is-array-or-object, last-of, seen, as-simple, as-any, as-value, as-element, as-last-element, as-property, as-last-property, as-name, change, roles, over, both, convert-as, convert-kids}
-use Rattle.targets.specs.KidRoles.{elements, properties, key-and-value, name-and-initializer}
+use Rattle.conversion.specs.Conversion.{Outcome, turned, refused, Role, any, simple, element, last-element, property, last-property, value, name, same, Change, refuse, keep, turn, is-array-or-object, last-of, seen, as-simple, as-any, as-value, as-element, as-last-element, as-property, as-last-property, as-name, change, roles, over, both, convert-as, convert-kids}
+use Rattle.conversion.specs.KidRoles.{elements, properties, key-and-value, name-and-initializer}
 use Rattle.tokens.specs.declared.cause.Cause.{Cause}
 use Rattle.rows.specs.Shape.{is-listed, is-left-hand-side, is-unary, is-binary, is-logical, is-assignment, is-parameter, is-simple-target, is-target, nothing, only, Shape, shape-of, least, may-be, may-end, fits, last-kind, all-fit, is-shaped, well-formed, all-well-formed}
 use Rattle.laws.specs.Kinds.{is-key, is-value, is-target-element, is-target-property, is-target-value}

@@ -14,7 +14,7 @@ use Rattle.tokens.proofs.Stands.{stands}
 use Rattle.tokens.specs.declared.cause.Cause.{Cause}
 use Rattle.rows.specs.Tree.{Tree, Forest, one}
 use Rattle.rows.specs.Record.{Record}
-use Rattle.targets.specs.Conversion.{Role, Outcome, turned, refused, convert-as}
+use Rattle.conversion.specs.Conversion.{Role, Outcome, turned, refused, convert-as}
 use Rattle.grammar.specs.Sheet.{Sheet, token, Out, done, fail, stuck, Reading, Part, after-records, and-then, or-else, _>>=_, try, yield, refuse, say}
 use Rattle.grammar.specs.Job.{Job, Asks}
 use Rattle.grammar.specs.Update.{converted-to, converted}

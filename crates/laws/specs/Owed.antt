@@ -13,13 +13,13 @@ use Rattle.tokens.specs.Bool.{_is_, if_then_else_}
 use Rattle.rows.specs.Row as Row
 use Rattle.rows.specs.Tree.{Tree, Forest, node, nil, cons, join, size}
 use Rattle.rows.specs.Record.{Record, shorthand-initializer}
-use Rattle.targets.specs.Conversion.{turned, Role, convert-as}
-use Rattle.targets.specs.Potential.{may-record}
-use Rattle.targets.proofs.Potentials as Potentials
-use Rattle.targets.proofs.Shapes as Shapes
+use Rattle.conversion.specs.Conversion.{turned, Role, convert-as}
+use Rattle.conversion.specs.Potential.{may-record}
+use Rattle.conversion.specs.Potentials as Potentials
+use Rattle.conversion.specs.Shapes as Shapes
 use Rattle.grammar.specs.Reading.{unconverted, unconverteds}
-unfoldable pub use Rattle.targets.specs.Potential.{potential as owed, potentials as oweds}
-pub use Rattle.targets.proofs.Potentials.{comma-count as lent}
+unfoldable pub use Rattle.conversion.specs.Potential.{potential as owed, potentials as oweds}
+pub use Rattle.conversion.specs.Potentials.{comma-count as lent}
 pub use Rattle.rows.proofs.Rows.{sizes-join}
 
 -- what a row owes, by its kind

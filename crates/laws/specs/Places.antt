@@ -17,7 +17,7 @@ use Rattle.operators.specs.Precedence.{expression-level}
 use Rattle.rows.specs.Row as Row
 use Rattle.rows.specs.Tree.{Tree, Forest, node, nil, cons, one, join, count, kind-of}
 use Rattle.rows.specs.Record.{Record}
-use Rattle.targets.specs.Conversion.{Outcome, turned, refused, Role, any, simple, element, last-element, property as property-role, last-property, value as value-role, name, same, Change, refuse, keep, turn, is-array-or-object, Seen, seen, is-with, is-closed, as-simple, as-any, as-value, as-element, as-last-element, as-property, as-last-property, as-name, change, roles, over, both as both-kids, convert-as, convert-kids}
+use Rattle.conversion.specs.Conversion.{Outcome, turned, refused, Role, any, simple, element, last-element, property as property-role, last-property, value as value-role, name, same, Change, refuse, keep, turn, is-array-or-object, Seen, seen, is-with, is-closed, as-simple, as-any, as-value, as-element, as-last-element, as-property, as-last-property, as-name, change, roles, over, both as both-kids, convert-as, convert-kids}
 use Rattle.grammar.specs.Sheet.{Sheet, token, break-before, done, fail, Part, first-tree, tree, leaf}
 use Rattle.grammar.specs.Job.{Job, expression, sequence, assignment, value, assign, conditional, binary, operators, unary, postfix, left-hand-side, links, arguments, primary, elements, properties, property, key, spread, binding, binding-element, binding-elements, binding-properties, binding-property, binding-rest, head, parameters, body, Asks}
 use Rattle.grammar.specs.Comma.{expression-of, sequence-of}

@@ -18,7 +18,7 @@ use Rattle.operators.specs.Precedence.{level, expression-level}
 use Rattle.rows.specs.Row as Row
 use Rattle.rows.specs.Tree.{Tree, Forest, node, nil, cons, one, join, kind-of}
 use Rattle.rows.specs.Record.{Record}
-use Rattle.targets.specs.Conversion.{Role, any, simple, Outcome, turned, refused, convert-as}
+use Rattle.conversion.specs.Conversion.{Role, any, simple, Outcome, turned, refused, convert-as}
 use Rattle.grammar.specs.Sheet.{Sheet, token, break-before, Out, done, fail, Reading, Part, tree, leaf, after-records, and-then, or-else, _>>=_, try, yield, refuse, say}
 use Rattle.grammar.specs.Job.{Job, expression, sequence, assignment, value, assign, conditional, binary, operators, unary, postfix, left-hand-side, links, arguments, primary, elements, properties, property, key, spread, binding, binding-element, binding-elements, binding-properties, binding-property, binding-rest, head, parameters, body, Asks}
 use Rattle.grammar.specs.Comma.{expression-of, sequence-of}

@@ -10,7 +10,7 @@ use Rattle.operators.specs.Precedence.{level, expression-level}
 use Rattle.lookahead.specs.ThreeWay.{no-parameters, rest-parameter, modified-name, after-name, first-parameter, after-paren, type-parameter, names-type, after-angle, after-open, three-way}
 use Rattle.rows.specs.Tree.{join, count, size, sizes, flat, flats, kind-of, mark-of, first-of, end-of, kids-of}
 use Rattle.rows.specs.Record.{record-words}
-use Rattle.targets.specs.Conversion.{inner-kind, inner-kinds, seen, as-simple, as-any, as-value, as-element, as-last-element, as-property, as-last-property, as-name, change, roles, over, both, convert-as, convert-kids}
+use Rattle.conversion.specs.Conversion.{inner-kind, inner-kinds, seen, as-simple, as-any, as-value, as-element, as-last-element, as-property, as-last-property, as-name, change, roles, over, both, convert-as, convert-kids}
 use Rattle.grammar.specs.Sheet.{first-tree, after-records, and-then, or-else, _>>=_, try, yield, refuse, say}
 use Rattle.grammar.specs.Primary.{parenthesized-of, primary-of, spread-of, elements-of, properties-of, shorthand-of, property-of, key-of}
 use Rattle.grammar.specs.LeftHandSide.{left-hand-side-of, links-of, arguments-of}

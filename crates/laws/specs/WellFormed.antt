@@ -20,7 +20,7 @@ use Rattle.laws.specs.Kinds.{is-element, is-key, is-value, is-argument, 
 use Rattle.rows.specs.Tree.{Tree, Forest, node, nil, cons, one, join, count, kind-of, kids-of}
 use Rattle.rows.specs.Record.{Record}
 use Rattle.rows.proofs.Rows.{count-join}
-use Rattle.targets.specs.Conversion.{Role, any, simple}
+use Rattle.conversion.specs.Conversion.{Role, any, simple}
 use Rattle.grammar.specs.Sheet.{Sheet, token, break-before, done, Part, first-tree, tree, leaf}
 use Rattle.grammar.specs.Job.{Job, expression, sequence, assignment, value, assign, conditional, binary, operators, unary, postfix, left-hand-side, links, arguments, primary, elements, properties, property, key, spread, binding, binding-element, binding-elements, binding-properties, binding-property, binding-rest, head, parameters, body, Asks}
 use Rattle.grammar.specs.Comma.{expression-of, sequence-of}

@@ -18,7 +18,7 @@ use Rattle.operators.specs.Precedence.{expression-level}
 use Rattle.rows.specs.Tree.{Tree, Forest, node, nil, cons, one, join, kind-of, mark-of, kids-of}
 use Rattle.rows.specs.Record.{Record, break-before-arrow, rest-initializer}
 use Rattle.rows.specs.Row as Row
-use Rattle.targets.specs.Conversion.{any, simple, turned, refused, convert-as}
+use Rattle.conversion.specs.Conversion.{any, simple, turned, refused, convert-as}
 use Rattle.grammar.specs.Sheet.{Sheet, Out, done, fail, stuck, first-tree, leaf, after-records, and-then, _>>=_, yield, refuse, say}
 use Rattle.grammar.specs.Job.{Job, expression, sequence, assignment, value, assign, conditional, binary, operators, unary, postfix, left-hand-side, links, arguments, primary, elements, properties, property, key, spread, binding, binding-element, binding-elements, binding-properties, binding-property, binding-rest, head, parameters, body}
 use Rattle.grammar.specs.Comma.{expression-of, sequence-of}

@@ -12,8 +12,8 @@ use Rattle.rows.specs.Record.{Record, record-words}
 use Rattle.rows.specs.Post.{Grown, GrownRecords}
 use Rattle.rows.proofs.Flat.{length-flat}
 use Rattle.rows.proofs.Records.{length-record-words}
-use Rattle.targets.specs.Conversion.{Role, simple, Outcome, turned, refused, convert-as}
-use Rattle.targets.specs.Potential.{potential}
+use Rattle.conversion.specs.Conversion.{Role, simple, Outcome, turned, refused, convert-as}
+use Rattle.conversion.specs.Potential.{potential}
 use Rattle.targets.specs.Post as Targets
 use Rattle.targets.specs.declared.Conversion.{Conversion}
 use Rattle.laws.specs.Owed.{same-size, pays}

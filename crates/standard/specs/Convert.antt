@@ -16,9 +16,9 @@ use Rattle.rows.specs.Tree.{Tree, Forest, node, nil, cons, one, join, count, ki
 use Rattle.rows.specs.Row as Row
 use Rattle.rows.specs.Record.{Record, rest-comma, rest-argument, compound-default}
 use Rattle.rows.proofs.Rows.{count-join, join-nil, join-assoc}
-use Rattle.targets.specs.Conversion as C
-use Rattle.targets.specs.Conversion.{Role, any, simple, element, last-element, property, last-property, value, name, same, Outcome, turned, refused, Change, turn, only, seen, as-simple, as-any, as-value, as-element, as-last-element, as-property, as-last-property, as-name, change, roles, over, both, last-of, is-array-or-object, inner-kind, array-argument, object-argument, convert-as, convert-kids}
-use Rattle.targets.specs.KidRoles.{elements, properties, key-and-value}
+use Rattle.conversion.specs.Conversion as C
+use Rattle.conversion.specs.Conversion.{Role, any, simple, element, last-element, property, last-property, value, name, same, Outcome, turned, refused, Change, turn, only, seen, as-simple, as-any, as-value, as-element, as-last-element, as-property, as-last-property, as-name, change, roles, over, both, last-of, is-array-or-object, inner-kind, array-argument, object-argument, convert-as, convert-kids}
+use Rattle.conversion.specs.KidRoles.{elements, properties, key-and-value}
 use Rattle.grammar.specs.Sheet.{Sheet, leaf, first-tree}
 use Rattle.standard.specs.Derives as D
 use Rattle.standard.specs.Derives.{Tok, Of, Chain, Nonterminal, ListOf, Elided, Elision, PrimaryExpression, ArrayLiteral, SpreadElement, Element, ObjectLiteral, PropertyDefinition, PropertyName, ChainExpression, LeftHandSideExpression, UpdateExpression, UnaryExpression, TierExpression, CoalesceExpression, ShortCircuitExpression, ConditionalExpression, AssignmentExpression, SimpleTarget, AssignmentPattern, DestructuringAssignmentTarget, AssignmentElement, AssignmentRestElement, AssignmentProperty, AssignmentRestProperty, AssignmentElementList, AssignmentPropertyList, Expression, ends-in-spread, array-row, object-row, tier-row, Width, Derives}

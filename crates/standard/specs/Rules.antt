@@ -15,7 +15,7 @@ use Rattle.tokens.proofs.Stands.{stands}
 use Rattle.operators.specs.Precedence.{expression-level}
 use Rattle.rows.specs.Tree.{Tree, Forest, node, nil, cons, one, join, kind-of, kids-of}
 use Rattle.rows.specs.Row as Row
-use Rattle.targets.specs.Conversion.{any, simple, turned, convert-as}
+use Rattle.conversion.specs.Conversion.{any, simple, turned, convert-as}
 use Rattle.grammar.specs.Sheet.{Sheet, token, break-before, done, fail, first-tree, leaf, after-records, and-then, or-else, try, yield, say, _>>=_}
 use Rattle.grammar.specs.Job.{Job, expression, sequence, assignment, value, assign, conditional, binary, operators, unary, postfix, left-hand-side, links, arguments, primary, elements, properties, property, key, spread, binding, binding-element, binding-elements, binding-properties, binding-property, binding-rest, head, parameters, body}
 use Rattle.grammar.specs.Comma.{expression-of, sequence-of}

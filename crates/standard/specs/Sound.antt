@@ -17,7 +17,7 @@ use Rattle.rows.specs.Tree.{Tree, Forest, node, nil, cons, one, join, kind-of, 
 use Rattle.rows.specs.Row as Row
 use Rattle.rows.specs.Record.{Record, mixed-coalesce, rest-initializer, break-before-arrow}
 use Rattle.rows.proofs.Rows.{join-nil, join-assoc}
-use Rattle.targets.specs.Conversion.{any, simple}
+use Rattle.conversion.specs.Conversion.{any, simple}
 use Rattle.grammar.specs.Sheet.{Sheet, token, break-before, done, Part, first-tree, tree, leaf, _>>=_, yield}
 use Rattle.grammar.specs.Job as J
 use Rattle.grammar.specs.Job.{Job, Asks}

@@ -15,8 +15,8 @@ use Rattle.rows.specs.Tree.{Tree, Forest, node, nil, cons, one, join, count, ki
 use Rattle.rows.specs.Row as Row
 use Rattle.rows.specs.Record.{Record}
 use Rattle.rows.proofs.Rows.{join-nil, join-assoc, count-join}
-use Rattle.targets.specs.Conversion.{Role, any, simple, element, last-element, property, last-property, value, turned, only, seen, as-simple, as-any, as-value, as-element, as-last-element, as-property, as-last-property, as-name, change, roles, over, both, is-array-or-object, inner-kind, inner-kinds, is-reference, array-argument, convert-as, convert-kids}
-use Rattle.targets.specs.KidRoles.{elements, properties}
+use Rattle.conversion.specs.Conversion.{Role, any, simple, element, last-element, property, last-property, value, turned, only, seen, as-simple, as-any, as-value, as-element, as-last-element, as-property, as-last-property, as-name, change, roles, over, both, is-array-or-object, inner-kind, inner-kinds, is-reference, array-argument, convert-as, convert-kids}
+use Rattle.conversion.specs.KidRoles.{elements, properties}
 use Rattle.grammar.specs.Sheet.{Sheet, token, first-tree, leaf}
 use Rattle.grammar.specs.Job as J
 use Rattle.grammar.specs.Assignment.{is-assignment-operator}

@@ -15,8 +15,8 @@ use Rattle.rows.specs.Row as Row
 use Rattle.rows.specs.Post.{Grown}
 use Rattle.rows.proofs.Flat.{flats-injective}
 use Rattle.rows.proofs.Rows.{count-join}
-use Rattle.targets.specs.Conversion.{Role, any, simple}
-use Rattle.targets.specs.Meaning as means
+use Rattle.conversion.specs.Conversion.{Role, any, simple}
+use Rattle.roles.specs.Meaning as means
 use Rattle.targets.specs.Post as Targets
 use Rattle.targets.specs.declared.Conversion.{Conversion}
 use Rattle.grammar.specs.Sheet.{first-tree}

@@ -11,7 +11,7 @@ use Rattle.tokens.specs.declared.cause.Cause.{Cause}
 use Rattle.rows.specs.Tree.{Tree, Forest, one}
 use Rattle.rows.specs.Record.{Record}
 use Rattle.rows.specs.Post.{Grown}
-use Rattle.targets.specs.Potential.{potential, potentials}
+use Rattle.conversion.specs.Potential.{potential, potentials}
 use Rattle.grammar.specs.Sheet.{done, fail, first-tree}
 use Rattle.grammar.specs.Job.{unary, postfix, left-hand-side}
 use Rattle.grammar.specs.Update.{is-unary-operator, is-update-operator}

@@ -9,13 +9,14 @@ use lib.ListN.{length}
 use Rattle.tokens.specs.declared.cause.Cause.{Cause}
 use Rattle.rows.specs.Tree.{Tree}
 use Rattle.rows.specs.Record.{Record}
-use Rattle.targets.specs.Conversion.{Outcome, turned, refused, Role, convert-as}
-use Rattle.targets.specs.Meaning as means
+use Rattle.conversion.specs.Conversion.{Outcome, turned, refused, Role, convert-as}
+use Rattle.roles.specs.Meaning as means
+use Rattle.targets.specs.Outcome as outcome
 use Rattle.targets.specs.Post.{Subtree, Judged, Ready, Made, TurnedRow, Room, RowConverted}
-use Rattle.targets.specs.Potential.{potential}
+use Rattle.conversion.specs.Potential.{potential}
 use Rattle.targets.specs.declared.Conversion.{Conversion}
 use Rattle.targets.specs.declared.Conversion.the-variants.{Turned, Refused}
-use Rattle.targets.proofs.Potentials.{comma-count, pays}
+use Rattle.conversion.specs.Potentials.{comma-count, pays}
 use Rattle.targets.proofs.Judging.{found-turned}
 
 no-comma : (b : Bool) → comma-count (means.aim b) ≡ 0
@@ -24,8 +25,8 @@ no-comma false = refl
 
 -- what was found is what comes of the row in the role that is aimed at
 module _ {rows : List ℕ} {root : ℕ} {role : Role} (simple : Bool) {found : Conversion} (e : role ≡ means.aim simple) (j : Judged rows root role found) where
-  found-is : (h : Subtree rows root) (out : Outcome Tree) → convert-as (h .tree) (means.aim simple) ≡ out → found ≡ means.found out
-  found-is h out q = j .is h ∙ ap means.found (ap (convert-as (h .tree)) e ∙ q)
+  found-is : (h : Subtree rows root) (out : Outcome Tree) → convert-as (h .tree) (means.aim simple) ≡ out → found ≡ outcome.found out
+  found-is h out q = j .is h ∙ ap outcome.found (ap (convert-as (h .tree)) e ∙ q)
 
   pub convert-fails : {r : List ℕ} {used : ℕ} {c : Cause} → found ≡ Refused c → RowConverted rows r root (means.aim simple) used rows r (Refused c)
   convert-fails {c = c} f =

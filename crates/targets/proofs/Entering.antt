@@ -22,14 +22,14 @@ use Rattle.rows.specs.Stands.{Decides}
 use Rattle.trees.proofs.Whole.{long, subtree-in}
 use Rattle.rows.proofs.Flat.{length-flat}
 use Rattle.rows.proofs.Records.{length-record-words}
-use Rattle.targets.specs.Conversion as def
-use Rattle.targets.specs.Conversion.{Outcome, turned, refused, convert-as, convert}
+use Rattle.conversion.specs.Conversion as def
+use Rattle.conversion.specs.Conversion.{Outcome, turned, refused, convert-as, convert}
 use Rattle.targets.specs.Post.{Subtree, Filled, Made, Room, RowConverted}
-use Rattle.targets.specs.Potential.{potential}
+use Rattle.conversion.specs.Potential.{potential}
 use Rattle.targets.specs.Entry.{Result, Check, holds, fails, Sized, unchanged, done, Entry, Answered}
 use Rattle.targets.specs.declared.Conversion.{Conversion}
 use Rattle.targets.specs.declared.Conversion.the-variants.{Turned, Refused}
-use Rattle.targets.proofs.Potentials.{potential-size, pays}
+use Rattle.conversion.specs.Potentials.{potential-size, pays}
 use Rattle.targets.proofs.Looking.{reads-size}
 
 size-one : (t : Tree) → sizes (one t) ≡ size t

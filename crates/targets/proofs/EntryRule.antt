@@ -16,9 +16,9 @@ use Rattle.rows.specs.Record.{Record}
 use Rattle.rows.specs.Handed.{Inside, chosen}
 use Rattle.trees.proofs.Whole.{long}
 use Rattle.rows.proofs.Flat.{some-row}
-use Rattle.targets.specs.Conversion.{Outcome, turned, refused, convert}
-use Rattle.targets.specs.TargetRule.{Target}
-use Rattle.targets.specs.RuleHolds.{target-rule}
+use Rattle.conversion.specs.Conversion.{Outcome, turned, refused, convert}
+use Rattle.conversion.specs.TargetRule.{Target}
+use Rattle.conversion.specs.RuleHolds.{target-rule}
 use Rattle.targets.specs.Entry.{Result, Check, holds, fails, Sized, done, Entry, Answered}
 use Rattle.targets.proofs.Once.{entry-once}
 

@@ -14,27 +14,28 @@ use Rattle.rows.specs.Record.{Record}
 use Rattle.rows.specs.Post.{Word}
 use Rattle.rows.proofs.Rows.{sizes-join}
 use Rattle.rows.proofs.Flat.{some-row}
-use Rattle.targets.specs.Conversion as def
-use Rattle.targets.specs.Conversion.{Outcome, turned, refused, change, roles, over, convert-as, convert-kids}
-use Rattle.targets.specs.Meaning as means
+use Rattle.conversion.specs.Conversion as def
+use Rattle.conversion.specs.Conversion.{Outcome, turned, refused, change, roles, over, convert-as, convert-kids}
+use Rattle.roles.specs.Meaning as means
+use Rattle.targets.specs.Outcome as outcome
 use Rattle.targets.specs.Post.{Subtree, near, Looked, Judged, Sums}
-use Rattle.targets.specs.Potential.{potential, potentials}
-use Rattle.targets.specs.RuleHolds.{refused-turned}
+use Rattle.conversion.specs.Potential.{potential, potentials}
+use Rattle.conversion.specs.RuleHolds.{refused-turned}
 use Rattle.targets.specs.declared.Conversion.{Conversion}
 use Rattle.targets.specs.declared.Conversion.the-variants.{Turned, Refused}
-use Rattle.targets.specs.declared.role.Note.{Note}
-use Rattle.targets.specs.declared.role.Note.the-variants.{Nothing, Says}
-use Rattle.targets.specs.declared.role.Role.{Role}
-use Rattle.targets.specs.declared.role.Role.the-variants.{Any, Simple, Element, LastElement, Property, LastProperty, Value, Name, Same}
-use Rattle.targets.specs.declared.role.Kids.{Kids}
-use Rattle.targets.specs.declared.role.Kids.the-variants.{Only, Elements, Properties, KeyAndValue, NameAndInitializer}
-use Rattle.targets.specs.declared.role.Seen.{Seen}
-use Rattle.targets.specs.declared.role.Change.{Change}
-use Rattle.targets.specs.declared.role.Plan.{Plan}
-use Rattle.targets.specs.declared.role.Plan.the-variants.{Refuse, Keep, Turn}
-use Rattle.targets.proofs.Notes.{note-short}
+use Rattle.roles.specs.declared.Note.{Note}
+use Rattle.roles.specs.declared.Note.the-variants.{Nothing, Says}
+use Rattle.roles.specs.declared.Role.{Role}
+use Rattle.roles.specs.declared.Role.the-variants.{Any, Simple, Element, LastElement, Property, LastProperty, Value, Name, Same}
+use Rattle.roles.specs.declared.Kids.{Kids}
+use Rattle.roles.specs.declared.Kids.the-variants.{Only, Elements, Properties, KeyAndValue, NameAndInitializer}
+use Rattle.roles.specs.declared.Seen.{Seen}
+use Rattle.roles.specs.declared.Change.{Change}
+use Rattle.roles.specs.declared.Plan.{Plan}
+use Rattle.roles.specs.declared.Plan.the-variants.{Refuse, Keep, Turn}
+use Rattle.roles.proofs.Notes.{note-short}
 use Rattle.targets.proofs.Near.{convert-near}
-use Rattle.targets.proofs.Potentials.{comma-count, pays, potential-size, turned-is, turned-records}
+use Rattle.conversion.specs.Potentials.{comma-count, pays, potential-size, turned-is, turned-records}
 use Rattle.targets.proofs.Flat.{Walk, Next, walk-start, walk-more, walk-below, walk-next, walk-done, whole-next, root-inside, kid-tree, kid-size, kid-text, size-root}
 use Rattle.targets.proofs.Looking.{reads-size}
 
@@ -56,18 +57,18 @@ pub by-plan : {rows : List ℕ} {root : ℕ} {role : def.Role} {s : Seen} {p : P
 by-plan {role = role} l e h =
     convert-near (h .tree) role ∙ ap (λ (ch : def.Change). over ch (h .tree) (convert-kids (kids-of (h .tree)) (roles ch))) (planned l e h)
 
-over-refused : (c : Cause) (t : Tree) (out : Outcome Forest) → means.found (over (def.refuse c) t out) ≡ Refused c
+over-refused : (c : Cause) (t : Tree) (out : Outcome Forest) → outcome.found (over (def.refuse c) t out) ≡ Refused c
 unfolding over
 over-refused c t out = refl
 
-over-kept : (k : ℕ) (rs : List Record) (t : Tree) (out : Outcome Forest) → means.found (over (def.keep k rs) t out) ≡ Turned (length rs)
+over-kept : (k : ℕ) (rs : List Record) (t : Tree) (out : Outcome Forest) → outcome.found (over (def.keep k rs) t out) ≡ Turned (length rs)
 unfolding over
 over-kept k rs (node k′ m f e kids) out = refl
 
 pub judge-refuses : {rows : List ℕ} {root : ℕ} {role : def.Role} {s : Seen} {p : Plan} {c : Cause} → Looked rows root s → means.Planned role (means.seen s) p
     → p ≡ Refuse c → Judged rows root role (Refused c)
 judge-refuses {p = p} {c = c} l e q =
-    record { is = λ h. sym (ap means.found (by-plan l e h) ∙ ap (λ (x : Plan). means.found (over (means.plan x) (h .tree) (convert-kids (kids-of (h .tree)) (roles (means.plan x))))) q ∙ over-refused c (h .tree) _) }
+    record { is = λ h. sym (ap outcome.found (by-plan l e h) ∙ ap (λ (x : Plan). outcome.found (over (means.plan x) (h .tree) (convert-kids (kids-of (h .tree)) (roles (means.plan x))))) q ∙ over-refused c (h .tree) _) }
 
 pub judge-keeps : {rows : List ℕ} {root : ℕ} {role : def.Role} {s : Seen} {p : Plan} {k : ℕ} {note : Note} {n : ℕ} → Looked rows root s
     → means.Planned role (means.seen s) p → p ≡ Keep k note → n ≡ length (means.note note) → Judged rows root role (Turned n)
@@ -76,8 +77,8 @@ judge-keeps {p = p} {k = k} {note = note} l e q r =
       is = λ h.
           ap Turned r
           ∙ sym
-          (ap means.found (by-plan l e h)
-          ∙ ap (λ (x : Plan). means.found (over (means.plan x) (h .tree) (convert-kids (kids-of (h .tree)) (roles (means.plan x))))) q
+          (ap outcome.found (by-plan l e h)
+          ∙ ap (λ (x : Plan). outcome.found (over (means.plan x) (h .tree) (convert-kids (kids-of (h .tree)) (roles (means.plan x))))) q
           ∙ over-kept k (means.note note) (h .tree) _);
     }
 
@@ -86,7 +87,7 @@ pub record Here {rows : List ℕ} {root : ℕ} (h : Subtree rows root) (kids : �
   pub kids-are : kids ≡ count (kids-of (h .tree))
   pub tail : List ℕ
   pub walk : Walk (h .before) (kids-of (h .tree)) tail rows after end
-  pub is : found ≡ means.both (means.found (convert-kids (walk .passed) each)) (Turned base)
+  pub is : found ≡ outcome.both (outcome.found (convert-kids (walk .passed) each)) (Turned base)
 
 pub record Judging (rows : List ℕ) (root kids : ℕ) (roles : Kids) (found₀ : Conversion) (end after : ℕ) (found : Conversion) : Type 0 where
   pub base : ℕ
@@ -94,7 +95,7 @@ pub record Judging (rows : List ℕ) (root kids : ℕ) (roles : Kids) (found₀ 
   pub small : base ≤ 3
   pub here : (h : Subtree rows root) → Here h kids (means.kids roles) base end after found
 
-nothing-yet : (each : ℕ → def.Role) (n : ℕ) → Turned n ≡ means.both (means.found (convert-kids nil each)) (Turned n)
+nothing-yet : (each : ℕ → def.Role) (n : ℕ) → Turned n ≡ outcome.both (outcome.found (convert-kids nil each)) (Turned n)
 unfolding convert-kids
 nothing-yet each n = ap Turned (let e : n ≡ 0 + n = omega arith in e)
 
@@ -117,7 +118,7 @@ judge-starts {n = n} roles l e c =
     }
 
 found-both : (x : Outcome Tree) (y : Outcome Forest) (b : ℕ)
-    → means.both (means.found x) (means.both (means.found y) (Turned b)) ≡ means.both (means.found (def.both x y)) (Turned b)
+    → outcome.both (outcome.found x) (outcome.both (outcome.found y) (Turned b)) ≡ outcome.both (outcome.found (def.both x y)) (Turned b)
 unfolding def.both
 found-both (refused c) y b = refl
 found-both (turned t rs) (refused c) b = refl
@@ -218,30 +219,30 @@ few-kids (cons t ts) k ts′ rs h =
     (λ us ss q. few-kids ts k us ss q) in
     omega arith
 
-pub found-turned : {A : Type 0} (x : Outcome A) (n : ℕ) → means.found x ≡ Turned n → (a : A) × (rs : List Record) × (x ≡ turned a rs) × (length rs ≡ n)
+pub found-turned : {A : Type 0} (x : Outcome A) (n : ℕ) → outcome.found x ≡ Turned n → (a : A) × (rs : List Record) × (x ≡ turned a rs) × (length rs ≡ n)
 found-turned (turned a rs) n e = (a, rs, refl, let f : length rs ≡ n = cc in f)
 found-turned (refused c) n e = let z : _≡_ {A = ℕ} 0 1 = cc in absurd (omega arith)
 
-both-turned : (y : Outcome Forest) (b m : ℕ) → means.both (means.found y) (Turned b) ≡ Turned m → (ts : Forest) × (rs : List Record) × (y ≡ turned ts rs) × (m ≡ length rs + b)
+both-turned : (y : Outcome Forest) (b m : ℕ) → outcome.both (outcome.found y) (Turned b) ≡ Turned m → (ts : Forest) × (rs : List Record) × (y ≡ turned ts rs) × (m ≡ length rs + b)
 both-turned (turned ts rs) b m e = (ts, rs, refl, let f : m ≡ length rs + b = cc in f)
 both-turned (refused c) b m e = let z : _≡_ {A = ℕ} 0 1 = cc in absurd (omega arith)
 
 one-more : (t : Tree) (ts : Forest) (each : ℕ → def.Role) (b : ℕ)
-    → means.both (means.found (convert-as t (each (count ts)))) (means.both (means.found (convert-kids ts each)) (Turned b))
-    ≡ means.both (means.found (convert-kids (cons t ts) each)) (Turned b)
+    → outcome.both (outcome.found (convert-as t (each (count ts)))) (outcome.both (outcome.found (convert-kids ts each)) (Turned b))
+    ≡ outcome.both (outcome.found (convert-kids (cons t ts) each)) (Turned b)
 unfolding convert-kids
 one-more t ts each b = found-both (convert-as t (each (count ts))) (convert-kids ts each) b
 
 over-found : (k : ℕ) (before : List Record) (each : ℕ → def.Role) (after : List Record) (t : Tree) (out : Outcome Forest) (n : ℕ) → n ≡ length before + length after
-    → means.found (over (def.turn k before each after) t out) ≡ means.both (means.found out) (Turned n)
+    → outcome.found (over (def.turn k before each after) t out) ≡ outcome.both (outcome.found out) (Turned n)
 unfolding over
 over-found k before each after (node k′ m f e kids) (turned ts rs) n h =
     ap Turned (let g : length (before ++ rs ++ after) ≡ length rs + n = simp length-append (omega arith) in g)
 over-found k before each after (node k′ m f e kids) (refused c) n h = refl
 
 over-turned : (ch : Change) (t : Tree) (n : ℕ) → n ≡ length (means.note (ch .before) ++ means.note (ch .then) ++ means.note (ch .after))
-    → means.found (over (means.change ch) t (convert-kids (kids-of t) (roles (means.change ch))))
-    ≡ means.both (means.found (convert-kids (kids-of t) (means.kids (ch .kids)))) (Turned n)
+    → outcome.found (over (means.change ch) t (convert-kids (kids-of t) (roles (means.change ch))))
+    ≡ outcome.both (outcome.found (convert-kids (kids-of t) (means.kids (ch .kids)))) (Turned n)
 unfolding roles
 over-turned ch t n h =
     over-found (ch .kind) _ (means.kids (ch .kids)) (means.note (ch .after)) t _ n
@@ -267,7 +268,7 @@ judge-sums {roles = roles} {role = role} j lt h r o small =
 
 pub judge-again : {rows : List ℕ} {root kids : ℕ} {roles : Kids} {found₀ : Conversion} {end after size32 size′ : ℕ} {found one found′ : Conversion} {role : Role}
     → Judging rows root kids roles found₀ end after found → after < kids → Word rows (end - 1) 5 size32 → size′ ≡ size32 → means.KidRole roles after role
-    → Judged rows (end - 1) (means.role role) one → found′ ≡ means.both one found
+    → Judged rows (end - 1) (means.role role) one → found′ ≡ outcome.both one found
     → Judging rows root kids roles found₀ (end - size′) (after + 1) found′
 judge-again {rows} {roles = roles} {after = after} {size′ = size′} {found = found} {one = one} {found′ = found′} {role = role} j lt w e r o q =
     record {
@@ -285,8 +286,8 @@ judge-again {rows} {roles = roles} {after = after} {size′ = size′} {found = 
             walk = walk-next walk k (k .kid) rows size′ (kid-text walk k) (e ∙ reads-size (the-kid j lt h) w);
             is =
                 q
-                ∙ ap (λ (x : Conversion). means.both x found) (o .is (the-kid j lt h) ∙ ap means.found role-is)
-                ∙ ap (means.both (means.found (convert-as (k .kid) (means.kids roles (count (walk .passed)))))) (j .here h .is)
+                ∙ ap (λ (x : Conversion). outcome.both x found) (o .is (the-kid j lt h) ∙ ap outcome.found role-is)
+                ∙ ap (outcome.both (outcome.found (convert-as (k .kid) (means.kids roles (count (walk .passed)))))) (j .here h .is)
                 ∙ one-more (k .kid) (walk .passed) (means.kids roles) (j .base);
           };
     }
@@ -301,9 +302,9 @@ judge-ends {n = n} {ch = ch} {found = found} l e q c j ge =
           let all = walk-done (at .walk) (let k = at .kids-are in omega arith) .0 in
           let b : n ≡ j .base = cc (j .starts) in
           at .is
-          ∙ ap (λ (ts : Forest). means.both (means.found (convert-kids ts (means.kids (ch .kids)))) (Turned (j .base))) all
+          ∙ ap (λ (ts : Forest). outcome.both (outcome.found (convert-kids ts (means.kids (ch .kids)))) (Turned (j .base))) all
           ∙ sym
-          (ap means.found (by-plan l e h)
-          ∙ ap (λ (x : Plan). means.found (over (means.plan x) (h .tree) (convert-kids (kids-of (h .tree)) (roles (means.plan x))))) q
+          (ap outcome.found (by-plan l e h)
+          ∙ ap (λ (x : Plan). outcome.found (over (means.plan x) (h .tree) (convert-kids (kids-of (h .tree)) (roles (means.plan x))))) q
           ∙ over-turned ch (h .tree) (j .base) (sym b ∙ c .is));
     }

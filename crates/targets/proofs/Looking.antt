@@ -7,10 +7,10 @@ use native.Mathlib.Omega.{arith}
 use lib.ListN.{getD}
 use Rattle.rows.specs.Tree.{Tree, Forest, node, nil, cons, one, join, count, size, row, kind-of, mark-of, first-of, kids-of}
 use Rattle.rows.specs.Post.{Word}
-use Rattle.targets.specs.Conversion.{last-or, last-of}
-use Rattle.targets.specs.Meaning as means
+use Rattle.conversion.specs.Conversion.{last-or, last-of}
+use Rattle.roles.specs.Meaning as means
 use Rattle.targets.specs.Post.{Subtree, near, Looked}
-use Rattle.targets.specs.declared.role.Seen.{Seen}
+use Rattle.roles.specs.declared.Seen.{Seen}
 use Rattle.targets.proofs.Flat.{root-words, root-word, Walk, Next, walk-start, walk-more, kid-tree, kid-size}
 
 kind-word : (t : Tree) → getD (root-words t) 0 0 ≡ kind-of t

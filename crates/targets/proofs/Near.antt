@@ -13,10 +13,10 @@ use Rattle.tokens.specs.declared.cause.Cause.{Cause}
 use Rattle.rows.specs.Row as row
 use Rattle.rows.specs.Tree.{Tree, Forest, node, nil, cons, one, count, kind-of, first-of, kids-of}
 use Rattle.rows.specs.Record.{Record, rest-argument}
-use Rattle.targets.specs.Conversion.{Outcome, turned, refused, Role, Change, refuse, keep, turn, only, is-array-or-object, is-reference, last-of, inner-kind, inner-kinds, array-argument, object-argument, Seen, seen, as-simple, as-any, as-value, as-element, as-last-element, as-property, as-last-property, as-name, change, roles, over, both, convert-as, convert-kids}
-use Rattle.targets.specs.KidRoles.{elements, properties}
+use Rattle.conversion.specs.Conversion.{Outcome, turned, refused, Role, Change, refuse, keep, turn, only, is-array-or-object, is-reference, last-of, inner-kind, inner-kinds, array-argument, object-argument, Seen, seen, as-simple, as-any, as-value, as-element, as-last-element, as-property, as-last-property, as-name, change, roles, over, both, convert-as, convert-kids}
+use Rattle.conversion.specs.KidRoles.{elements, properties}
 use Rattle.targets.specs.Post.{near}
-use Rattle.targets.specs.RuleHolds.{by-test, both-true, one-kid, refused-turned}
+use Rattle.conversion.specs.RuleHolds.{by-test, both-true, one-kid, refused-turned}
 
 -- a change that is carried out
 data Carried (kids : Forest) : Change → Type 0 where

@@ -12,7 +12,7 @@ use Rattle.rows.specs.Record.{Record, record-words}
 use Rattle.rows.specs.Words.{WellFormed}
 use Rattle.rows.specs.Part.{subtree}
 use Rattle.rows.proofs.Flat.{well-formed-once}
-use Rattle.targets.specs.Conversion.{Outcome, turned, refused, Role, convert-as, convert}
+use Rattle.conversion.specs.Conversion.{Outcome, turned, refused, Role, convert-as, convert}
 use Rattle.targets.specs.Post.{Subtree, Filled, Made, RowConverted}
 use Rattle.targets.specs.Entry.{Result, Check, holds, fails, Sized, unchanged, done, Within, Entry, Answered}
 use Rattle.targets.specs.declared.Conversion.{Conversion}

@@ -13,11 +13,11 @@ use Rattle.rows.specs.Record.{Record, record-words}
 use Rattle.rows.specs.Post.{Grown, GrownRecords}
 use Rattle.rows.proofs.Flat.{length-flat, some-row}
 use Rattle.rows.proofs.Records.{record-words-append, length-record-words}
-use Rattle.targets.specs.Conversion.{Outcome, turned, refused, Role, convert-as}
+use Rattle.conversion.specs.Conversion.{Outcome, turned, refused, Role, convert-as}
 use Rattle.targets.specs.Post.{Subtree, Filled, Made, RowConverted}
 use Rattle.targets.specs.declared.Conversion.{Conversion}
 use Rattle.targets.specs.declared.Conversion.the-variants.{Turned, Refused}
-use Rattle.targets.proofs.Shapes.{same-size}
+use Rattle.conversion.specs.Shapes.{same-size}
 
 flat-one : (t : Tree) → flats (one t) ≡ flat t
 unfolding flats

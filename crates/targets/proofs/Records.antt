@@ -8,10 +8,10 @@ use lib.ListN.{length, take, drop, set, length-append, length-set, take-append-d
 use lib.Seq.{length-take-le, drop-append-seam, take-append-le, set-split, take-suc-set, drop-set-lt}
 use Rattle.rows.specs.Record.{Record, says, record-words}
 use Rattle.rows.proofs.Records.{record-words-append}
-use Rattle.targets.specs.Meaning as means
+use Rattle.roles.specs.Meaning as means
 use Rattle.targets.specs.Post.{Filled, Written, NoteFits}
-use Rattle.targets.specs.declared.role.Note.{Note}
-use Rattle.targets.specs.declared.role.Note.the-variants.{Nothing, Says}
+use Rattle.roles.specs.declared.Note.{Note}
+use Rattle.roles.specs.declared.Note.the-variants.{Nothing, Says}
 
 -- nothing is written
 pub filled-none : (r : List ℕ) (start : ℕ) → Filled r start [] r

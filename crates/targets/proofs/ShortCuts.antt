@@ -13,19 +13,21 @@ use Rattle.rows.specs.Row as row
 use Rattle.rows.specs.Tree.{Tree, Forest, node, nil, cons, one, join, count, size, sizes, flat, flats, kind-of, mark-of, first-of, end-of, kids-of}
 use Rattle.rows.specs.Post.{Word, KindSet, RowInside}
 use Rattle.rows.proofs.Rows.{sizes-join, flats-join, count-join}
-use Rattle.targets.specs.Conversion.{turned, Role, Seen, Change, turn, any, simple, element, last-element, property, last-property, value, name, same, each, only, as-simple, as-any, as-value, as-element, as-last-element, as-property, as-last-property, as-name, change, roles, over, seen, both, convert-as, convert-kids}
-use Rattle.targets.specs.KidRoles.{elements, properties}
-use Rattle.targets.specs.Meaning as means
+use Rattle.conversion.specs.Conversion.{turned, Role, Seen, Change, turn, any, simple, element, last-element, property, last-property, value, name, same, each, only, as-simple, as-any, as-value, as-element, as-last-element, as-property, as-last-property, as-name, change, roles, over, seen, both, convert-as, convert-kids}
+use Rattle.conversion.specs.KidRoles.{elements, properties}
+use Rattle.roles.specs.Meaning as means
+use Rattle.targets.specs.Outcome as outcome
 use Rattle.targets.specs.Post.{Subtree, Judged, TurnedRow}
-use Rattle.targets.specs.RuleHolds.{by-test, both-true, one-kid}
-use Rattle.targets.specs.ShortCut.{takes-name, takes-member, takes-default, takes-pattern, is-kept, is-pattern, pattern-of, is-property, is-initialized, ends-in-target, named-kind, name-set, Named, NameAt, NameBelow, NameInside, NameSet}
+use Rattle.conversion.specs.RuleHolds.{by-test, both-true, one-kid}
+use Rattle.roles.specs.ShortCut.{takes-name, takes-member, takes-default, is-kept, is-property, is-initialized, ends-in-target, named-kind}
+use Rattle.targets.specs.Named.{name-set, Named, NameAt, NameBelow, NameInside, NameSet}
 use Rattle.targets.specs.declared.Conversion.the-variants.{Turned}
-use Rattle.targets.proofs.Potentials.{turned-is, turned-records}
+use Rattle.conversion.specs.Potentials.{turned-is, turned-records}
 use Rattle.targets.proofs.Flat.{root-words, root-text, root-inside, Walk, Next, walk-start, walk-more, walk-next, kid-tree, kid-size, kid-text, whole-next}
 use Rattle.targets.proofs.Looking.{reads-kind, reads-kids, reads-size, no-kid}
 use Rattle.targets.proofs.Records.{filled-none}
 use Rattle.targets.proofs.Turning.{root-set, same-kids, place-root, more-flat}
-use Rattle.targets.proofs.Shapes.{SameShape}
+use Rattle.conversion.specs.Shapes.{SameShape}
 
 false-true : {A : Type 0} → false ≡ true → A
 false-true e = let z : _≡_ {A = ℕ} 0 1 = cc in absurd (omega arith)
@@ -236,7 +238,7 @@ name-inside b {role} e t = b .is role (sym e ∙ t)
 
 -- all of the conversion is that of the name, with no record
 pub judge-name : {rows : List ℕ} {root : ℕ} {role : Role} {at : ℕ} → NameAt rows root role at → at ≤ root → Judged rows root role (Turned 0)
-judge-name n le = record { is = λ h. sym (ap means.found (n .is le h .is)) }
+judge-name n le = record { is = λ h. sym (ap outcome.found (n .is le h .is)) }
 
 pub turn-named : {rows r : List ℕ} {root end : ℕ} {rows′ : List ℕ} {role : Role} {at : ℕ} → NameAt rows root role at → at ≤ root → NameSet rows root at rows′
     → TurnedRow rows r root role end rows′ r end
@@ -410,37 +412,3 @@ first-room {kind = kind} {kids = kids} h wk wn e t ws es = room h wn (begins kin
 -- the place after the row can be counted
 pub next-fits : {rows : List ℕ} {root : ℕ} → Subtree rows root → root + 1 ≤ length rows
 next-fits h = let i = root-inside h in omega arith
-
--- a plain pattern
-array-changed : (role : Role) (s : Seen) → s .kind ≡ row.Array → takes-pattern role ≡ true → turn row.TargetArray [] (elements []) [] ≡ change role s
-unfolding change as-any as-value as-element as-last-element
-array-changed any s i t = rw i
-array-changed simple s i t = false-true t
-array-changed element s i t = rw i
-array-changed (last-element comma) s i t = rw i
-array-changed property s i t = false-true t
-array-changed (last-property comma) s i t = false-true t
-array-changed value s i t = rw i
-array-changed name s i t = false-true t
-array-changed same s i t = false-true t
-
-object-changed : (role : Role) (s : Seen) → s .kind ≡ row.Object → takes-pattern role ≡ true → turn row.TargetObject [] (properties []) [] ≡ change role s
-unfolding change as-any as-value as-element as-last-element
-object-changed any s i t = rw i
-object-changed simple s i t = false-true t
-object-changed element s i t = rw i
-object-changed (last-element comma) s i t = rw i
-object-changed property s i t = false-true t
-object-changed (last-property comma) s i t = false-true t
-object-changed value s i t = rw i
-object-changed name s i t = false-true t
-object-changed same s i t = false-true t
-
-pub pattern-changed : (role : Role) (s : Seen) → is-pattern role (s .kind) ≡ true → pattern-of (s .kind) ≡ change role s
-pattern-changed role s t =
-    by-test Yes (eqb (s .kind) row.Array) t (λ k y. let i = eqb-true (s .kind) _ k in ap pattern-of i ∙ array-changed role s i y)
-    (λ _ y. by-test Yes (eqb (s .kind) row.Object) y (λ k y. let i = eqb-true (s .kind) _ k in ap pattern-of i ∙ object-changed role s i y)
-    (λ _ y. false-true y))
-  where
-    Yes : Bool → Type 0
-    Yes b = b ≡ true

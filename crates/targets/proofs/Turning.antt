@@ -13,24 +13,24 @@ use Rattle.rows.specs.Record.{Record}
 use Rattle.rows.specs.Post.{Word, KindSet, RowInside}
 use Rattle.rows.proofs.Flat.{length-flats}
 use Rattle.rows.proofs.Rows.{sizes-join}
-use Rattle.targets.specs.Conversion as def
-use Rattle.targets.specs.Conversion.{Outcome, turned, refused, roles, over, convert-as, convert-kids}
-use Rattle.targets.specs.Meaning as means
+use Rattle.conversion.specs.Conversion as def
+use Rattle.conversion.specs.Conversion.{Outcome, turned, refused, roles, over, convert-as, convert-kids}
+use Rattle.roles.specs.Meaning as means
 use Rattle.targets.specs.Post.{Subtree, Looked, Filled, NoteFits, Written, Ready, Made, TurnedRow}
-use Rattle.targets.specs.RuleHolds.{refused-turned}
-use Rattle.targets.specs.declared.role.Note.{Note}
-use Rattle.targets.specs.declared.role.Role.{Role}
-use Rattle.targets.specs.declared.role.Kids.{Kids}
-use Rattle.targets.specs.declared.role.Seen.{Seen}
-use Rattle.targets.specs.declared.role.Change.{Change}
-use Rattle.targets.specs.declared.role.Plan.{Plan}
-use Rattle.targets.specs.declared.role.Plan.the-variants.{Refuse, Keep, Turn}
-use Rattle.targets.proofs.Potentials.{turned-is, turned-records}
+use Rattle.conversion.specs.RuleHolds.{refused-turned}
+use Rattle.roles.specs.declared.Note.{Note}
+use Rattle.roles.specs.declared.Role.{Role}
+use Rattle.roles.specs.declared.Kids.{Kids}
+use Rattle.roles.specs.declared.Seen.{Seen}
+use Rattle.roles.specs.declared.Change.{Change}
+use Rattle.roles.specs.declared.Plan.{Plan}
+use Rattle.roles.specs.declared.Plan.the-variants.{Refuse, Keep, Turn}
+use Rattle.conversion.specs.Potentials.{turned-is, turned-records}
 use Rattle.targets.proofs.Flat.{root-words, root-text, root-place, root-inside, size-root, Walk, Next, walk-start, walk-more, walk-next, walk-done, kid-tree, kid-size, whole-next}
 use Rattle.targets.proofs.Looking.{reads-size}
 use Rattle.targets.proofs.Records.{filled-none, filled-more}
 use Rattle.targets.proofs.Judging.{by-plan, kids-seen}
-use Rattle.targets.proofs.Shapes.{SameShape, same-shape, same-size, Both, cons-parts, cons-turned, none-turned}
+use Rattle.conversion.specs.Shapes.{SameShape, same-shape, same-size, Both, cons-parts, cons-turned, none-turned}
 
 -- the last kids of some that are converted are converted
 record Suffix (ts : Forest) (each : ℕ → def.Role) (rs : List Record) : Type 0 where

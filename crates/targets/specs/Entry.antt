@@ -13,7 +13,7 @@ use Rattle.rows.specs.Tree.{Tree, size, flat}
 use Rattle.rows.specs.Record.{Record, record-words}
 use Rattle.rows.specs.Words.{WellFormed}
 use Rattle.rows.specs.Part.{subtree}
-use Rattle.targets.specs.Conversion.{Outcome, turned, refused, convert}
+use Rattle.conversion.specs.Conversion.{Outcome, turned, refused, convert}
 
 -- the answer, and both buffers after it
 pub record Result : Type 0 where

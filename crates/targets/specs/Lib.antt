@@ -1,11 +1,4 @@
-pub mod Conversion
-pub mod KidRoles
-pub mod TargetRule
-pub mod RuleHolds
-pub mod Relabelled
-pub mod Examples
-pub mod Meaning
-pub mod Potential
+pub mod Outcome
 pub mod Post
-pub mod ShortCut
+pub mod Named
 pub mod Entry

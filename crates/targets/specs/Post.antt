@@ -9,14 +9,15 @@ use Rattle.tokens.specs.Bool.{if_then_else_}
 use Rattle.tokens.specs.declared.cause.Cause.{Cause}
 use Rattle.rows.specs.Tree.{Tree, Forest, node, nil, cons, size, flat, count, kind-of, first-of}
 use Rattle.rows.specs.Record.{Record, rest-argument, record-words}
-use Rattle.targets.specs.Conversion as def
-use Rattle.targets.specs.Conversion.{Outcome, turned, refused, convert-as}
-use Rattle.targets.specs.Meaning as means
-use Rattle.targets.specs.Potential.{potential}
+use Rattle.conversion.specs.Conversion as def
+use Rattle.conversion.specs.Conversion.{Outcome, turned, refused, convert-as}
+use Rattle.roles.specs.Meaning as means
+use Rattle.targets.specs.Outcome as outcome
+use Rattle.conversion.specs.Potential.{potential}
 use Rattle.targets.specs.declared.Conversion.{Conversion}
 use Rattle.targets.specs.declared.Conversion.the-variants.{Turned, Refused}
-use Rattle.targets.specs.declared.role.Seen.{Seen}
-use Rattle.targets.specs.declared.role.Note.{Note}
+use Rattle.roles.specs.declared.Seen.{Seen}
+use Rattle.roles.specs.declared.Note.{Note}
 
 -- a row of the words is the root of a tree: the words before its rows, the tree, and the words after
 pub record Subtree (rows : List ℕ) (root : ℕ) : Type 0 where
@@ -44,7 +45,7 @@ pub record Looked (rows : List ℕ) (root : ℕ) (r : Seen) : Type 0 where
 
 -- what the conversion of a row will give
 pub record Judged (rows : List ℕ) (root : ℕ) (role : def.Role) (r : Conversion) : Type 0 where
-  pub is : (h : Subtree rows root) → r ≡ means.found (convert-as (h .tree) role)
+  pub is : (h : Subtree rows root) → r ≡ outcome.found (convert-as (h .tree) role)
 
 -- the records of both are not too many to count
 pub record Sums (one rest : Conversion) : Type 0 where

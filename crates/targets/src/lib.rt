@@ -1,17 +1,15 @@
 // Conversion of what was read as an expression to an assignment target (document 01, "Conversion").
 ghost use mathlib.Core.Path.{_≡_};
 ghost use lib.ListN.{length};
-ghost use Rattle.targets.specs.Meaning as means;
+ghost use Rattle.roles.specs.Meaning as means;
+ghost use Rattle.targets.specs.Outcome as outcome;
 ghost use Rattle.targets.specs.Entry.{Answered};
 ghost use Rattle.targets.specs.Post.{Subtree, Looked, Judged, Sums, NoteFits, Written, Ready, TurnedRow, Room, RowConverted};
-ghost use Rattle.targets.specs.ShortCut.{NameAt, NameBelow, NameInside, NameSet};
-
-mod role;
-
-use role::Note;
-use role::Plan;
-use role::Role;
-use role::Seen;
+ghost use Rattle.targets.specs.Named.{NameAt, NameBelow, NameInside, NameSet};
+use roles::Note;
+use roles::Plan;
+use roles::Role;
+use roles::Seen;
 use rows::clear_from;
 use rows::row;
 use rows::row_word;
@@ -61,7 +59,7 @@ fn look(rows: &[u32], root: usize) -> Seen
 // What comes of a row and of the rows after it: the first refusal, or all records.
 fn both(one: Conversion, rest: Conversion) -> Conversion
     requires { ⌜ Sums one rest ⌝ }
-    ensures { λ r. ⌜ r ≡ means.both one rest ⌝ }
+    ensures { λ r. ⌜ r ≡ outcome.both one rest ⌝ }
 {
     match one {
         Conversion::Refused(cause) => Conversion::Refused(cause),
@@ -77,13 +75,13 @@ fn name_at(rows: &[u32], root: usize, role: Role) -> usize
     requires { ⌜ Subtree (now rows) root ⌝ }
     ensures { λ r. ⌜ NameAt (now (rows .entry)) root (means.role role) r ⌝ }
 {
-    if role::takes_name(role) {
-        if role::is_kept(role, row_word(rows, root, 0)) {
+    if roles::takes_name(role) {
+        if roles::is_kept(role, row_word(rows, root, 0)) {
             return root;
         }
         return root + 1;
     }
-    if role::is_property(role) {
+    if roles::is_property(role) {
         return name_below(rows, root);
     }
     root + 1
@@ -96,15 +94,15 @@ fn name_below(rows: &[u32], root: usize) -> usize
 {
     let kind = row_word(rows, root, 0);
     let kids = row_word(rows, root, 4);
-    if role::is_initialized(kind, kids) {
-        let size = role::wide(row_word(rows, root - 1, 5));
+    if roles::is_initialized(kind, kids) {
+        let size = roles::wide(row_word(rows, root - 1, 5));
         let name = root - size - 1;
         if row_word(rows, name, 0) == row::IDENTIFIER {
             return name;
         }
         return root + 1;
     }
-    if role::ends_in_target(kind, kids) {
+    if roles::ends_in_target(kind, kids) {
         if row_word(rows, root - 1, 0) == row::IDENTIFIER {
             return root - 1;
         }
@@ -118,7 +116,7 @@ fn turn_name(rows: &mut [u32], root: usize, name: usize)
     requires { ⌜ NameInside (length (now rows)) root name ⌝ }
     ensures { λ _. ⌜ NameSet (now (rows .entry)) root name (now (rows .exit)) ⌝ }
 {
-    let kind = role::named_kind(row_word(rows, root, 0));
+    let kind = roles::named_kind(row_word(rows, root, 0));
     set_kind(rows, name, row::TARGET_NAME);
     set_kind(rows, root, kind);
 }
@@ -132,19 +130,19 @@ fn judge(rows: &[u32], root: usize, role: Role) -> Conversion
         return Conversion::Turned(0);
     }
     let seen = look(rows, root);
-    let plan = role::plan_of(role, seen);
+    let plan = roles::plan_of(role, seen);
     match plan {
         Plan::Refuse(cause) => Conversion::Refused(cause),
-        Plan::Keep(_, note) => Conversion::Turned(role::note_count(note)),
+        Plan::Keep(_, note) => Conversion::Turned(roles::note_count(note)),
         Plan::Turn(change) => {
-            let kids = role::wide(seen.kids);
+            let kids = roles::wide(seen.kids);
             let roles = change.kids;
             let mut end = root;
             let mut after = 0;
-            let mut found = Conversion::Turned(role::notes_count(change));
+            let mut found = Conversion::Turned(roles::notes_count(change));
             while after < kids {
-                let size = role::wide(row_word(rows, end - 1, 5));
-                let one = judge(rows, end - 1, role::kid_role(roles, after));
+                let size = roles::wide(row_word(rows, end - 1, 5));
+                let one = judge(rows, end - 1, roles::kid_role(roles, after));
                 found = both(one, found);
                 end -= size;
                 after += 1;
@@ -181,7 +179,7 @@ fn turn(rows: &mut [u32], root: usize, role: Role, records: &mut [u32], end: usi
         return end;
     }
     let seen = look(rows, root);
-    let plan = role::plan_of(role, seen);
+    let plan = roles::plan_of(role, seen);
     match plan {
         Plan::Refuse(_) => end,
         Plan::Keep(kind, note) => {
@@ -189,15 +187,21 @@ fn turn(rows: &mut [u32], root: usize, role: Role, records: &mut [u32], end: usi
             write_note(records, end, note)
         }
         Plan::Turn(change) => {
-            let kids = role::wide(seen.kids);
+            let kids = roles::wide(seen.kids);
             let roles = change.kids;
             let last = change.after;
             let mut start = write_note(records, end, last);
             let mut stop = root;
             let mut after = 0;
             while after < kids {
-                let size = role::wide(row_word(rows, stop - 1, 5));
-                start = turn(rows, stop - 1, role::kid_role(roles, after), records, start);
+                let size = roles::wide(row_word(rows, stop - 1, 5));
+                start = turn(
+                    rows,
+                    stop - 1,
+                    roles::kid_role(roles, after),
+                    records,
+                    start,
+                );
                 stop -= size;
                 after += 1;
             }
@@ -221,7 +225,7 @@ pub fn convert_row(
     requires { ⌜ Room (now rows) root (length (now records)) used ⌝ }
     ensures { λ r. ⌜ RowConverted (now (rows .entry)) (now (records .entry)) root (means.aim simple) used (now (rows .exit)) (now (records .exit)) r ⌝ }
 {
-    let role = role::aim_at(simple);
+    let role = roles::aim_at(simple);
     let name = name_at(rows, root, role);
     if name <= root {
         turn_name(rows, root, name);
@@ -254,7 +258,7 @@ pub fn convert(tree: &mut [u32], row: usize, records: &mut [u32]) -> Answer
     if length / 6 <= row {
         return Answer::Refused(Cause::Outside(0));
     }
-    let size = role::wide(row_word(tree, row, 5));
+    let size = roles::wide(row_word(tree, row, 5));
     if records.len() < 2 * size {
         return Answer::Refused(Cause::RecordRoom(0));
     }

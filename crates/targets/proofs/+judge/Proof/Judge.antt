@@ -12,11 +12,11 @@ use Rattle.targets.proofs.both.Reads as both
 use Rattle.targets.proofs.judge.Reads as judge
 use Rattle.targets.proofs.look.Reads as look
 use Rattle.targets.proofs.name_at.Reads as name-at
-use Rattle.targets.proofs.role.kid_role.Reads as kid-role
-use Rattle.targets.proofs.role.note_count.Reads as note-count
-use Rattle.targets.proofs.role.notes_count.Reads as notes-count
-use Rattle.targets.proofs.role.plan_of.Reads as plan-of
-use Rattle.targets.proofs.role.wide.Reads as wide
+use Rattle.roles.proofs.kid_role.Reads as kid-role
+use Rattle.roles.proofs.note_count.Reads as note-count
+use Rattle.roles.proofs.notes_count.Reads as notes-count
+use Rattle.roles.proofs.plan_of.Reads as plan-of
+use Rattle.roles.proofs.wide.Reads as wide
 
 -- those kids are judged that stand after the row `end`
 abbrev Inv-loop : lts.InvT-loop

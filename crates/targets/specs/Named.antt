@@ -1,0 +1,38 @@
+-- What the contracts of the short cuts say: where all there is to convert is one row, or a name and the row over it, what comes of it.
+-- Assumes nothing: these are definitions.
+use Prim.Native.Nat.{ℕ, _+_, _*_, _≤_}
+use mathlib.Core.Path.{_≡_}
+use mathlib.Core.Bool.{true}
+use mathlib.Core.List.{List, [], _++_}
+use lib.ListN.{getD, set}
+use Rattle.rows.specs.Row as row
+use Rattle.rows.specs.Tree.{Tree, flat}
+use Rattle.conversion.specs.Conversion.{turned, Role, convert-as}
+use Rattle.roles.specs.ShortCut.{is-property, named-kind}
+use Rattle.targets.specs.Post.{Subtree}
+
+-- the words with a name turned, and the row over it
+abbrev pub name-set : List ℕ → ℕ → ℕ → List ℕ
+name-set rows root at = set (set rows (6 * at) row.TargetName) (6 * root) (named-kind (getD rows (6 * root + 0) 0))
+
+-- all of the row's conversion is that one row is turned, or a name and the row over it, with no record
+pub record Named (rows : List ℕ) (root : ℕ) (role : Role) (at : ℕ) (h : Subtree rows root) : Type 0 where
+  pub made : Tree
+  pub is : convert-as (h .tree) role ≡ turned made []
+  pub text : name-set rows root at ≡ h .before ++ (flat made ++ h .after)
+
+-- so it is in this role, or the name is after the row
+pub record NameAt (rows : List ℕ) (root : ℕ) (role : Role) (at : ℕ) : Type 0 where
+  pub is : at ≤ root → (h : Subtree rows root) → Named rows root role at h
+
+-- so it is as a property, the last one or not
+pub record NameBelow (rows : List ℕ) (root at : ℕ) : Type 0 where
+  pub is : (role : Role) → is-property role ≡ true → NameAt rows root role at
+
+-- in so many words both rows have room
+pub record NameInside (words root at : ℕ) : Type 0 where
+  pub order : at ≤ root
+  pub room : 6 * root + 6 ≤ words
+
+pub record NameSet (rows : List ℕ) (root at : ℕ) (rows′ : List ℕ) : Type 0 where
+  pub text : rows′ ≡ name-set rows root at
