@@ -131,8 +131,8 @@ fn print_answer(answer: ThreeWay) {
             io::write_all(1, &[letter(told)]);
         }
         ThreeWay::Refused(cause) => {
-            print(b"refused ", tokens::cause::number_of(cause) as usize);
-            print(b" ", tokens::cause::place_of(cause));
+            print(b"refused ", causes::number_of(cause) as usize);
+            print(b" ", causes::place_of(cause));
         }
     }
 }

@@ -142,9 +142,9 @@ fn print_rest(counts: Counts, rows: &[u32], records: &[u32]) {
 
 // After a refusal both buffers hold what they held, or nothing.
 fn print_refused(cause: tokens::cause::Cause, rows: &[u32], records: &[u32]) {
-    let number = tokens::cause::number_of(cause);
+    let number = causes::number_of(cause);
     print(b"refused ", number as usize);
-    print(b" ", tokens::cause::place_of(cause));
+    print(b" ", causes::place_of(cause));
     let value: u32 = if number < 8 { 9 } else { 0 };
     if !all(rows, 0, value) {
         io::write_all(STDOUT, b" rows left");

@@ -150,9 +150,9 @@ fn put_refused(out: &mut [u8], pen: Pen, cause: Cause) -> Pen
     ensures { λ r. ⌜ Adds (ascii "refused " ++ line (number cause ∷ place cause ∷ [])) (now (out .entry)) pen (now (out .exit)) r ⌝ }
 {
     let word = put_all(out, pen, b"refused ");
-    let number = tokens::cause::number_of(cause) as usize;
+    let number = causes::number_of(cause) as usize;
     let first = put_ended(out, word, number, SPACE);
-    put_ended(out, first, tokens::cause::place_of(cause), NEWLINE)
+    put_ended(out, first, causes::place_of(cause), NEWLINE)
 }
 
 // What is told of a text that was printed from the buffer's start on.

@@ -106,8 +106,8 @@ fn cause_of(number: usize) -> Cause {
 }
 
 fn print_cause(cause: Cause) {
-    print(b" ", tokens::cause::number_of(cause) as usize);
-    print(b" ", tokens::cause::place_of(cause));
+    print(b" ", causes::number_of(cause) as usize);
+    print(b" ", causes::place_of(cause));
 }
 
 fn all_causes() {

@@ -20,10 +20,10 @@ fn tell(answer: Answer, first: &mut usize, second: &mut usize, third: &mut usize
             0
         }
         Answer::Refused(cause) => {
-            *first = tokens::cause::place_of(cause);
+            *first = causes::place_of(cause);
             *second = 0;
             *third = 0;
-            tokens::cause::number_of(cause)
+            causes::number_of(cause)
         }
     }
 }
@@ -107,8 +107,8 @@ pub extern "C" fn vuolmaset_three_way(
             0
         }
         ThreeWay::Refused(cause) => {
-            *told = tokens::cause::place_of(cause);
-            tokens::cause::number_of(cause)
+            *told = causes::place_of(cause);
+            causes::number_of(cause)
         }
     }
 }
