@@ -18,6 +18,10 @@ pub record Sheet : Type 0 where
   pub kinds : List ℕ
   pub flags : List ℕ
 
+-- the sheet of two lists
+abbrev pub sheet-of : List ℕ → List ℕ → Sheet
+sheet-of ks fs = record { kinds = ks; flags = fs }
+
 -- the kind at a place
 abbrev pub token : Sheet → ℕ → ℕ
 token sheet at = kind-at (sheet .kinds) at

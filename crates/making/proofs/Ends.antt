@@ -9,11 +9,11 @@ use Rattle.tokens.specs.declared.cause.Cause.{Cause}
 use Rattle.rows.specs.Tree.{Tree, Forest, one, sizes}
 use Rattle.rows.specs.Record.{Record}
 use Rattle.rows.specs.Post.{Grown, Kept, GrownRecords, KeptRecords}
-use Rattle.grammar.specs.Sheet.{Out, done, fail, first-tree, after-records}
+use Rattle.grammar.specs.Sheet.{sheet-of, Out, done, fail, first-tree, after-records}
 use Rattle.grammar.specs.Job.{Job}
 use Rattle.laws.specs.Bounds.{Limits, Bound, bounded, limits, reads}
 use Rattle.laws.specs.Owed.{oweds}
-use Rattle.making.specs.Post.{sheet-of, Comes, Made, Unmade, ReadTo, Refused, Met, ListTo, MetList, ClosedTo, NotClosedAt, MetClosed}
+use Rattle.making.specs.Post.{Comes, Made, Unmade, ReadTo, Refused, Met, ListTo, MetList, ClosedTo, NotClosedAt, MetClosed}
 use Rattle.making.specs.declared.cursor.Cursor.{Cursor}
 use Rattle.making.specs.declared.cursor.Step.{Step}
 use Rattle.making.specs.declared.cursor.Listed.{Listed}

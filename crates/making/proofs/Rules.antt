@@ -19,7 +19,7 @@ use Rattle.rows.specs.Tree.{Tree, Forest, node, nil, cons, one, join, kind-of, 
 use Rattle.rows.specs.Record.{Record, break-before-arrow, rest-initializer}
 use Rattle.rows.specs.Row as Row
 use Rattle.conversion.specs.Conversion.{any, simple, turned, refused, convert-as}
-use Rattle.grammar.specs.Sheet.{Sheet, Out, done, fail, stuck, first-tree, leaf, after-records, and-then, _>>=_, yield, refuse, say}
+use Rattle.grammar.specs.Sheet.{Sheet, sheet-of, Out, done, fail, stuck, first-tree, leaf, after-records, and-then, _>>=_, yield, refuse, say}
 use Rattle.grammar.specs.Job.{Job, expression, sequence, assignment, value, assign, conditional, binary, operators, unary, postfix, left-hand-side, links, arguments, primary, elements, properties, property, key, spread, binding, binding-element, binding-elements, binding-properties, binding-property, binding-rest, head, parameters, body}
 use Rattle.grammar.specs.Comma.{expression-of, sequence-of}
 use Rattle.grammar.specs.Assignment.{is-assignment-operator, assign-of, conditional-of, after-binary, is-async-name, value-of}
@@ -33,7 +33,7 @@ use Rattle.grammar.specs.Step.{step, read}
 use Rattle.laws.specs.Settles.{μ, rank, Settles}
 use Rattle.grammar.specs.Reading.{box}
 use Rattle.laws.specs.Bounds.{bounded}
-use Rattle.making.specs.Post.{sheet-of, Comes}
+use Rattle.making.specs.Post.{Comes}
 
 positive : (job : Job) → 1 ≤ rank job
 positive (expression at) = omega arith

@@ -1,4 +1,4 @@
--- The way that the box takes at a place, by whether a head may open there and by the three-way answer; and the rules of the assignment level.
+-- The rules of the assignment level, by the way that the box takes at a place.
 -- Assumes nothing.
 use Prim.Native.Nat.{ℕ, _+_, _<_}
 use mathlib.Core.Path.{_≡_, refl, sym, _∙_}
@@ -19,23 +19,9 @@ use Rattle.grammar.specs.Arrow.{Way, pass, attempt, commit, by-way, choose, not
 use Rattle.grammar.specs.Step.{step}
 use Rattle.grammar.specs.Reading.{way-of}
 use Rattle.laws.specs.Bounds.{bounded}
-use Rattle.making.specs.Post.{sheet-of, Comes}
-use Rattle.making.specs.Heads.{may-open, way-at, arrow-kind}
+use Rattle.making.specs.Post.{Comes}
+use Rattle.heads.specs.Heads.{may-open, way-at, arrow-kind}
 use Rattle.making.proofs.Rules.{come}
-
-pub closed : (ks fs m : List ℕ) (at : ℕ) → may-open (getD ks at 0) ≡ false → way-at ks fs m at ≡ pass
-unfolding way-at
-closed ks fs m at e = rw e
-
-pub opened : (ks fs m : List ℕ) (at : ℕ) (answer : Tristate) → may-open (getD ks at 0) ≡ true → three-way ks fs false false at ≡ answer
-    → way-at ks fs m at ≡ way-of answer (not (getD m at 0 is 0))
-unfolding way-at
-opened ks fs m at answer e a = rw (e, a)
-
--- a head opens before the end
-pub open-stands : (ks : List ℕ) (at : ℕ) → may-open (getD ks at 0) ≡ true → at < length ks
-unfolding may-open
-open-stands ks at e = stands-not ks at (λ z. let y = rw z at e in let w : _≡_ {A = ℕ} 0 1 = cc in omega arith)
 
 -- a way other than passing says that a head may open
 only-open : (opens : Bool) (way w : Way) → (pass ≡ w → ⊥) → (if opens then way else pass) ≡ w → (opens ≡ true) × (way ≡ w)

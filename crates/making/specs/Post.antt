@@ -9,7 +9,7 @@ use Rattle.tokens.specs.declared.cause.Cause.{Cause}
 use Rattle.rows.specs.Tree.{Tree, Forest, one, count}
 use Rattle.rows.specs.Record.{Record}
 use Rattle.rows.specs.Post.{Pushed, PushedRecord, Grown, Kept, GrownRecords, KeptRecords}
-use Rattle.grammar.specs.Sheet.{Sheet, Out, done, fail}
+use Rattle.grammar.specs.Sheet.{Sheet, sheet-of, Out, done, fail}
 use Rattle.grammar.specs.Job.{Job, assignment}
 use Rattle.laws.specs.Settles.{Settles}
 use Rattle.grammar.specs.Reading.{box}
@@ -17,14 +17,10 @@ use Rattle.laws.specs.Owed.{owed}
 use Rattle.making.specs.declared.cursor.Cursor.{Cursor}
 use Rattle.making.specs.declared.cursor.Step.{Step}
 use Rattle.making.specs.declared.cursor.Listed.{Listed}
-use Rattle.making.specs.declared.heads.Head.{Head}
+use Rattle.heads.specs.declared.Head.{Head}
 
 abbrev pub cursor : ℕ → ℕ → ℕ → Cursor
 cursor at rows records = record { at = at; rows = rows; records = records }
-
--- the sheet of two lists
-abbrev pub sheet-of : List ℕ → List ℕ → Sheet
-sheet-of ks fs = record { kinds = ks; flags = fs }
 
 -- in the box's reading a nonterminal comes to this
 pub record Comes (ks fs : List ℕ) (job : Job) (m : List ℕ) (out : Out (List ℕ)) : Type 0 where

@@ -1,5 +1,3 @@
-// What is made of what was read: rows over one token or over rows, records, heads and keys, expressions of one token.
+// What is made of what was read: rows over one token or over rows, records, and keys.
 pub mod cursor;
-pub mod heads;
 pub mod keys;
-pub mod singles;

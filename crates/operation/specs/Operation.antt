@@ -12,12 +12,12 @@ use Rattle.rows.specs.Tree.{Tree, node, cons, one}
 use Rattle.rows.specs.Record.{Record}
 use Rattle.rows.specs.Row as Row
 use Rattle.rows.specs.Post.{Grown}
-use Rattle.grammar.specs.Sheet.{done, fail}
+use Rattle.grammar.specs.Sheet.{sheet-of, done, fail}
 use Rattle.grammar.specs.Job.{left-hand-side, postfix, unary}
 use Rattle.grammar.specs.Binary.{operation-kind, operation-records}
 use Rattle.grammar.specs.Update.{is-unary-operator, is-update-operator}
 use Rattle.laws.specs.Owed.{owed}
-use Rattle.making.specs.Post.{sheet-of, Comes, Made, Unmade}
+use Rattle.making.specs.Post.{Comes, Made, Unmade}
 use Rattle.making.specs.declared.cursor.Cursor.{Cursor}
 use Rattle.making.specs.declared.cursor.Step.{Step}
 

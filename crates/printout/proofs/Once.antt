@@ -4,8 +4,8 @@ use Prim.Native.Nat.{ℕ}
 use mathlib.Core.Path.{_≡_, sym, ap, _∙_}
 use mathlib.Core.List.{List}
 use lib.ListN.{length}
+use Rattle.grammar.specs.Sheet.{sheet-of}
 use Rattle.making.specs.Lent.{Given, read-entry}
-use Rattle.making.specs.Post.{sheet-of}
 use Rattle.sheets.specs.Layout.{Sheet}
 use Rattle.sheets.proofs.Once.{kinds-once, flags-once}
 use Rattle.text.specs.Post.{laid-over, printed}

@@ -17,11 +17,11 @@ use Rattle.tokens.specs.declared.check.Checked.{Checked}
 use Rattle.rows.specs.Tree.{sizes}
 use Rattle.grammar.specs.Job.{expression}
 use Rattle.grammar.specs.Reading.{Whole, whole, refused, reading, box, cleared, noted-places}
+use Rattle.grammar.specs.Sheet.{sheet-of}
 use Rattle.making.specs.Lent.{check-row-room, check-record-room, checks, answered, checked, entry, read-entry}
 use Rattle.laws.specs.Bounds as Bounds
 use Rattle.laws.specs.Places as Places
 use Rattle.laws.specs.Abandoned as Abandoned
-use Rattle.making.specs.Post.{sheet-of}
 use Rattle.reader.proofs.Checked.{ready}
 use Rattle.text.specs.Text.{text}
 use Rattle.text.proofs.Room.{Words, Few, read-room, refused-room}

@@ -5,8 +5,8 @@ use native.Mathlib.Omega.{arith}
 use mathlib.Core.Path.{_≡_, refl, subst}
 use mathlib.Core.List.{List}
 use Rattle.tokens.specs.declared.cause.Answer.{Answer}
+use Rattle.grammar.specs.Sheet.{sheet-of}
 use Rattle.making.specs.Lent.{read-entry}
-use Rattle.making.specs.Post.{sheet-of}
 use Rattle.reader.specs.Entry.{Answers}
 use Rattle.sheets.specs.Layout.{Sheet}
 use Rattle.sheets.specs.Post.{Handed}

@@ -12,8 +12,8 @@ use Rattle.tokens.specs.Bool.{_or_, _is_, if_then_else_}
 use Rattle.tokens.specs.Check.{_and-then_, check-length, check-flag-length}
 use Rattle.tokens.specs.declared.cause.Cause.{Cause}
 use Rattle.tokens.specs.declared.check.Checked.{Checked}
+use Rattle.grammar.specs.Sheet.{sheet-of}
 use Rattle.making.specs.Lent.{check-row-room, check-record-room, checks}
-use Rattle.making.specs.Post.{sheet-of}
 use Rattle.reader.specs.Post.{Ready}
 
 apart : (cause : Cause) → Checked.Refused cause ≡ Checked.Fine → ⊥

@@ -11,7 +11,7 @@ use Rattle.tokens.specs.declared.cause.Answer.{Answer}
 use Rattle.tokens.specs.declared.check.Checked.{Checked}
 use Rattle.rows.specs.Tree.{Forest}
 use Rattle.rows.specs.Record.{Record}
-use Rattle.grammar.specs.Sheet.{Out, done}
+use Rattle.grammar.specs.Sheet.{sheet-of, Out, done}
 use Rattle.grammar.specs.Job.{Job}
 use Rattle.grammar.specs.Step as Step
 use Rattle.grammar.specs.Reading.{Whole, whole, refused, box, cleared, at-end, reading}
@@ -22,7 +22,7 @@ use Rattle.laws.specs.Bounds.{limits, reads}
 use Rattle.laws.specs.Rel.{looked-at}
 use Rattle.laws.specs.Steady.{kept-if-done}
 use Rattle.laws.specs.Abandoned.{fine-cleared, notes-stay}
-use Rattle.making.specs.Post.{cursor, sheet-of, Room, Met}
+use Rattle.making.specs.Post.{cursor, Room, Met}
 use Rattle.making.specs.declared.cursor.Step as Made
 use Rattle.making.proofs.Ends.{moved}
 use Rattle.reader.specs.Entry.{Answers}

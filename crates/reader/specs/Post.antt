@@ -13,11 +13,10 @@ use Rattle.rows.specs.Tree.{Forest}
 use Rattle.rows.specs.Row as Row
 use Rattle.rows.specs.Record.{Record, shorthand-initializer}
 use Rattle.rows.specs.Post.{Cleared, Grown, GrownRecords}
-use Rattle.grammar.specs.Sheet.{Out, done, fail}
+use Rattle.grammar.specs.Sheet.{sheet-of, Out, done, fail}
 use Rattle.grammar.specs.Reading.{unconverteds, at-end}
 use Rattle.making.specs.Lent.{checks, answered}
 use Rattle.laws.specs.Abandoned.{Fine}
-use Rattle.making.specs.Post.{sheet-of}
 use Rattle.making.specs.declared.cursor.Cursor.{Cursor}
 use Rattle.making.specs.declared.cursor.Step.{Step}
 use Rattle.reader.specs.Entry.{Answers}

@@ -10,20 +10,20 @@ use Rattle.tokens.specs.Bool.{if_then_else_}
 use Rattle.tokens.specs.declared.cause.Cause.{Cause}
 use Rattle.rows.specs.Tree.{Forest}
 use Rattle.rows.specs.Record.{Record}
-use Rattle.grammar.specs.Sheet.{Out, done, fail, after-records}
+use Rattle.grammar.specs.Sheet.{sheet-of, Out, done, fail, after-records}
 use Rattle.grammar.specs.Job.{Job, assignment, value, head, body}
 use Rattle.grammar.specs.Arrow as Grammar
 use Rattle.trees.proofs.Walks.{some-rows}
 use Rattle.grammar.specs.Reading.{box}
 use Rattle.laws.specs.Good.{inside}
 use Rattle.laws.specs.Bounds.{bounded}
-use Rattle.making.specs.Post.{sheet-of, Room, Comes, Met, MetAfter, MetList, HeadFits}
-use Rattle.making.specs.Heads.{is-pass, is-commit, may-open, way-at, way-of, arrow-kind}
+use Rattle.making.specs.Post.{Room, Comes, Met, MetAfter, MetList, HeadFits}
+use Rattle.heads.specs.Heads.{is-pass, is-commit, may-open, way-at, way-of, arrow-kind}
 use Rattle.making.specs.declared.cursor.Cursor.{Cursor}
 use Rattle.making.specs.declared.cursor.Step.{Step}
 use Rattle.making.specs.declared.cursor.Listed.{Listed}
-use Rattle.making.specs.declared.heads.Head.{Head}
-use Rattle.making.specs.declared.heads.Way.{Way}
+use Rattle.heads.specs.declared.Head.{Head}
+use Rattle.heads.specs.declared.Way.{Way}
 use Rattle.making.proofs.Ways.{assignment-passes, assignment-tries, assignment-gives-up, assignment-commits, assignment-fails}
 use Rattle.making.proofs.Ends.{is-fail}
 use Rattle.making.proofs.Makes.{stands-now, made-over, unmade-over, made-again, unmade-again}

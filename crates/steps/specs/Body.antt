@@ -18,7 +18,7 @@ use Rattle.grammar.specs.Job.{assignment, body}
 use Rattle.making.specs.Post.{cursor, Comes, Room, Met, MetAfter, Made, HeadFits, Topped, Said}
 use Rattle.making.specs.declared.cursor.Cursor.{Cursor}
 use Rattle.making.specs.declared.cursor.Step.{Step}
-use Rattle.making.specs.declared.heads.Head.{Head}
+use Rattle.heads.specs.declared.Head.{Head}
 use Rattle.making.proofs.Rules.{body-curly, body-fails, body-done}
 use Rattle.making.proofs.Ends.{is-fail, single}
 use Rattle.making.proofs.Makes.{stands-made, made-then, unmade-past, unmade-after, count-one, is-topped}

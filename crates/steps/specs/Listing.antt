@@ -10,10 +10,10 @@ use Rattle.tokens.proofs.Stands.{stands-not}
 use Rattle.rows.specs.Tree.{Tree, Forest, nil, one, join, count}
 use Rattle.rows.specs.Record.{Record}
 use Rattle.rows.proofs.Rows.{count-join}
-use Rattle.grammar.specs.Sheet.{Out, done, fail, first-tree, leaf, after-records}
+use Rattle.grammar.specs.Sheet.{sheet-of, Out, done, fail, first-tree, leaf, after-records}
 use Rattle.grammar.specs.Job.{Job, binding-rest}
 use Rattle.laws.specs.Bounds.{Limits, Bound, bounded, limits, reads}
-use Rattle.making.specs.Post.{cursor, sheet-of, Comes, ReadTo, Refused, Made, Unmade, Leafed, ClosedTo, NotClosed, not-read, no-token}
+use Rattle.making.specs.Post.{cursor, Comes, ReadTo, Refused, Made, Unmade, Leafed, ClosedTo, NotClosed, not-read, no-token}
 use Rattle.making.specs.declared.cursor.Cursor.{Cursor}
 use Rattle.making.proofs.Makes.{made-none, made-then, made-at, made-leaf, unmade-past, unmade-after, count-one}
 use Rattle.steps.specs.Shared.{after-none, after-after, comes-to}

@@ -12,7 +12,7 @@ use Rattle.rows.specs.Row as Row
 use Rattle.grammar.specs.Sheet.{Out, done, fail}
 use Rattle.grammar.specs.Job.{Job, expression, primary, elements, properties}
 use Rattle.making.specs.Post.{Room, Comes, Met, NotClosed, not-read, no-token, MetClosed, Topped}
-use Rattle.making.specs.Singles.{single-row}
+use Rattle.singles.specs.Singles.{single-row}
 use Rattle.making.specs.declared.cursor.Cursor.{Cursor}
 use Rattle.making.specs.declared.cursor.Step.{Step}
 use Rattle.making.proofs.Rules.{primary-paren-fails, primary-paren-open, primary-paren, primary-array, primary-object, primary-none}

@@ -12,10 +12,10 @@ use Rattle.rows.specs.Tree.{Tree, Forest, node, one, count, kind-of, mark-of}
 use Rattle.rows.specs.Record.{Record, says, rest-initializer}
 use Rattle.rows.specs.Row as Row
 use Rattle.rows.specs.Post.{Grown, Word}
-use Rattle.grammar.specs.Sheet.{Out, done, first-tree}
+use Rattle.grammar.specs.Sheet.{sheet-of, Out, done, first-tree}
 use Rattle.grammar.specs.Job.{Job, binding-element, binding-rest}
 use Rattle.laws.specs.Bounds.{limits, reads}
-use Rattle.making.specs.Post.{cursor, sheet-of, Comes, Room, Met, ReadTo, Made, MetClosed, ClosedTo, NotClosedAt, NotClosed, not-read, no-token, Topped, Said}
+use Rattle.making.specs.Post.{cursor, Comes, Room, Met, ReadTo, Made, MetClosed, ClosedTo, NotClosedAt, NotClosed, not-read, no-token, Topped, Said}
 use Rattle.making.specs.declared.cursor.Cursor.{Cursor}
 use Rattle.making.specs.declared.cursor.Step.{Step}
 use Rattle.making.proofs.Rules.{rest-fails, rest-done}

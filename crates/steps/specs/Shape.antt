@@ -8,7 +8,7 @@ use Rattle.tokens.specs.declared.cause.Cause.{Cause}
 use Rattle.rows.specs.Tree.{Tree, Forest, node, one}
 use Rattle.rows.specs.Record.{Record}
 use Rattle.rows.specs.Row as Row
-use Rattle.grammar.specs.Sheet.{Sheet, Out, done, first-tree}
+use Rattle.grammar.specs.Sheet.{Sheet, sheet-of, Out, done, first-tree}
 use Rattle.grammar.specs.Job.{Job, Asks, binding-element, binding-rest}
 use Rattle.grammar.specs.Binding.{binding-rest-of}
 use Rattle.grammar.specs.Step.{step, read}
@@ -16,7 +16,7 @@ use Rattle.laws.specs.Settles.{μ}
 use Rattle.grammar.specs.Reading.{box}
 use Rattle.laws.specs.Good.{Reads, Answers, Ends, ends-done, ends-fail, ends-stuck, good, yields, says, follows}
 use Rattle.laws.specs.Bounds.{Bound, limits, step-bound}
-use Rattle.making.specs.Post.{sheet-of, Comes}
+use Rattle.making.specs.Post.{Comes}
 
 pub record RestOf (ts : Forest) : Type 0 where
   pub mark : ℕ

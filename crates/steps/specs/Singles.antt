@@ -21,13 +21,14 @@ use Rattle.grammar.specs.Assignment.{is-assignment-operator, is-async-name}
 use Rattle.grammar.specs.Update.{is-unary-operator, is-update-operator}
 use Rattle.laws.specs.Good.{and-left, and-right}
 use Rattle.laws.specs.Bounds.{bounded}
-use Rattle.making.specs.Post.{cursor, sheet-of, Comes, Met, Leafed}
-use Rattle.making.specs.Heads.{may-open, way-at}
-use Rattle.making.specs.Singles.{single-row, goes-on, closes, single-operand, single-part}
+use Rattle.making.specs.Post.{cursor, Comes, Met, Leafed}
+use Rattle.heads.specs.Heads.{may-open, way-at}
+use Rattle.singles.specs.Singles.{single-row, goes-on, closes, single-operand, single-part}
 use Rattle.making.specs.declared.cursor.Cursor.{Cursor}
 use Rattle.making.specs.declared.cursor.Step.{Step}
 use Rattle.making.proofs.Rules.{primary-name, primary-this, primary-literal, left-more, links-end, postfix-none, unary-none, binary-more, operators-end, value-stops}
-use Rattle.making.proofs.Ways.{closed, assignment-passes}
+use Rattle.heads.proofs.Opens.{closed}
+use Rattle.making.proofs.Ways.{assignment-passes}
 use Rattle.making.proofs.Makes.{is-leafed}
 
 not-both : {b : Bool} → b ≡ true → b ≡ false → ⊥

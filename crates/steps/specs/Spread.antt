@@ -15,7 +15,8 @@ use Rattle.rows.specs.Row as Row
 use Rattle.grammar.specs.Job.{Job, assignment, spread, property}
 use Rattle.laws.specs.Bounds.{Limits, Bound, bounded, limits, reads}
 use Rattle.laws.specs.Owed.{oweds}
-use Rattle.making.specs.Post.{sheet-of, ReadTo, Met, Topped}
+use Rattle.grammar.specs.Sheet.{sheet-of}
+use Rattle.making.specs.Post.{ReadTo, Met, Topped}
 use Rattle.making.specs.declared.cursor.Cursor.{Cursor}
 use Rattle.making.specs.declared.cursor.Step.{Step}
 use Rattle.making.proofs.Rules.{spread-fails, spread-done}

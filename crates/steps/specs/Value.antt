@@ -17,12 +17,12 @@ use Rattle.rows.specs.Record.{Record}
 use Rattle.rows.specs.Row as Row
 use Rattle.rows.specs.Post.{Grown, Word}
 use Rattle.rows.proofs.Rows.{grown-leaf, kept-grown, kept-past}
-use Rattle.grammar.specs.Sheet.{Out, done, fail, leaf, first-tree, break-before, after-records}
+use Rattle.grammar.specs.Sheet.{sheet-of, Out, done, fail, leaf, first-tree, break-before, after-records}
 use Rattle.grammar.specs.Job.{Job, value, binary, assign, conditional, body}
 use Rattle.grammar.specs.Assignment.{is-assignment-operator, is-async-name}
 use Rattle.laws.specs.Good.{inside, and-right}
 use Rattle.laws.specs.Bounds.{alone}
-use Rattle.making.specs.Post.{cursor, sheet-of, Room, Comes, Made, ReadTo, Met, MetOver, MetAfter, Leafed, Operand}
+use Rattle.making.specs.Post.{cursor, Room, Comes, Made, ReadTo, Met, MetOver, MetAfter, Leafed, Operand}
 use Rattle.making.specs.declared.cursor.Cursor.{Cursor}
 use Rattle.making.specs.declared.cursor.Step.{Step}
 use Rattle.making.proofs.Rules.{value-async, value-fails, value-arrow, value-assigns, value-chooses, value-stops}

@@ -10,8 +10,8 @@ use Rattle.rows.specs.Handed.{Handed}
 use Rattle.lookahead.specs.declared.ThreeWay.{ThreeWay}
 use Rattle.lookahead.specs.declared.Tristate.{Tristate}
 use Rattle.targets.specs.Entry.{Answered}
+use Rattle.grammar.specs.Sheet.{sheet-of}
 use Rattle.making.specs.Lent.{read-entry, pattern-entry}
-use Rattle.making.specs.Post.{sheet-of}
 use Rattle.reader.specs.Entry.{Answers}
 
 -- the number of an answer: 0 for Read, else that of the refusal

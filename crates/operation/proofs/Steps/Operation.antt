@@ -22,11 +22,11 @@ use Rattle.rows.proofs.Rows.{grown-join}
 use Rattle.conversion.specs.Conversion.{simple}
 use Rattle.targets.specs.Post as Targets
 use Rattle.targets.specs.declared.Conversion.{Conversion}
-use Rattle.grammar.specs.Sheet.{done}
+use Rattle.grammar.specs.Sheet.{sheet-of, done}
 use Rattle.grammar.specs.Binary.{operation-kind, is-or-and, operation-records}
 use Rattle.grammar.specs.Update.{is-update-operator}
 use Rattle.laws.specs.Owed.{owed}
-use Rattle.making.specs.Post.{cursor, sheet-of, Comes, Made, Topped, Said}
+use Rattle.making.specs.Post.{cursor, Comes, Made, Topped, Said}
 use Rattle.operation.specs.Operation.{or-and, record-number, FinishFits, Finished, OperandFits, PostfixTo, PostfixFail, MetPostfix}
 use Rattle.making.specs.declared.cursor.Cursor.{Cursor}
 use Rattle.making.specs.declared.cursor.Step.{Step}

@@ -12,11 +12,11 @@ use Rattle.steps.specs.Singles.{assign-stands, assign-singles}
 use Rattle.parse.proofs.+args+array+assign+assigned+barray+binary+binding+bobject+body+bproperty+choice+comma+element+head+init+inside+item+key+last+left+object+params+part+primary+property+rest+spread+unary+value.Lts-assign as lts
 use Rattle.parse.proofs.+args+array+assign+assigned+barray+binary+binding+bobject+body+bproperty+choice+comma+element+head+init+inside+item+key+last+left+object+params+part+primary+property+rest+spread+unary+value.Proof.Measures.{assign-at, body-below, head-below, value-below}
 use Rattle.making.proofs.cursor.leaf.Reads as leaf
-use Rattle.making.proofs.heads.head_of.Reads as head-of
-use Rattle.making.proofs.heads.is_commit.Reads as is-commit
-use Rattle.making.proofs.heads.is_pass.Reads as is-pass
-use Rattle.making.proofs.heads.way_at.Reads as way-at
-use Rattle.making.proofs.singles.single_part.Reads as single-part
+use Rattle.heads.proofs.head_of.Reads as head-of
+use Rattle.heads.proofs.is_commit.Reads as is-commit
+use Rattle.heads.proofs.is_pass.Reads as is-pass
+use Rattle.heads.proofs.way_at.Reads as way-at
+use Rattle.singles.proofs.single_part.Reads as single-part
 use Rattle.parse.proofs.assign.Reads as assign
 use Rattle.parse.proofs.body.Reads as body
 use Rattle.parse.proofs.head.Reads as head

@@ -13,7 +13,7 @@ use Rattle.parse.proofs.+args+array+assign+assigned+barray+binary+bindi
 use Rattle.parse.proofs.+args+array+assign+assigned+barray+binary+binding+bobject+body+bproperty+choice+comma+element+head+init+inside+item+key+last+left+object+params+part+primary+property+rest+spread+unary+value.Proof.Measures.{assign-below, body-at}
 use Rattle.making.proofs.cursor.over.Reads as over
 use Rattle.making.proofs.cursor.say.Reads as say
-use Rattle.making.proofs.heads.is_block.Reads as is-block
+use Rattle.heads.proofs.is_block.Reads as is-block
 use Rattle.parse.proofs.assign.Reads as assign
 use Rattle.parse.proofs.body.Reads as body
 use Rattle.tokens.proofs.flag_at.Reads as flag-at

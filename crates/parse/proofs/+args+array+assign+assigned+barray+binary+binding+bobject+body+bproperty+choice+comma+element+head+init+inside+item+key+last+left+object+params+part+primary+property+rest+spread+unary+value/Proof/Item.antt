@@ -10,7 +10,7 @@ use Rattle.steps.specs.Singles.{assign-stands, assign-singles}
 use Rattle.parse.proofs.+args+array+assign+assigned+barray+binary+binding+bobject+body+bproperty+choice+comma+element+head+init+inside+item+key+last+left+object+params+part+primary+property+rest+spread+unary+value.Lts-item as lts
 use Rattle.parse.proofs.+args+array+assign+assigned+barray+binary+binding+bobject+body+bproperty+choice+comma+element+head+init+inside+item+key+last+left+object+params+part+primary+property+rest+spread+unary+value.Proof.Measures.{assign-below, item-at, spread-below}
 use Rattle.making.proofs.cursor.leaf.Reads as leaf
-use Rattle.making.proofs.singles.single_part.Reads as single-part
+use Rattle.singles.proofs.single_part.Reads as single-part
 use Rattle.parse.proofs.assign.Reads as assign
 use Rattle.parse.proofs.item.Reads as item
 use Rattle.parse.proofs.spread.Reads as spread

@@ -13,7 +13,7 @@ use Rattle.parse.proofs.+args+array+assign+assigned+barray+binary+bindi
 use Rattle.parse.proofs.+args+array+assign+assigned+barray+binary+binding+bobject+body+bproperty+choice+comma+element+head+init+inside+item+key+last+left+object+params+part+primary+property+rest+spread+unary+value.Proof.Measures.{array-below, inside-below, object-below, primary-at}
 use Rattle.making.proofs.cursor.leaf.Reads as leaf
 use Rattle.making.proofs.cursor.over.Reads as over
-use Rattle.making.proofs.singles.single_row.Reads as single-row
+use Rattle.singles.proofs.single_row.Reads as single-row
 use Rattle.parse.proofs.array.Reads as array
 use Rattle.parse.proofs.inside.Reads as inside
 use Rattle.parse.proofs.object.Reads as object

@@ -10,7 +10,7 @@ use Rattle.steps.specs.Singles.{unary-stands, unary-singles}
 use Rattle.parse.proofs.+args+array+assign+assigned+barray+binary+binding+bobject+body+bproperty+choice+comma+element+head+init+inside+item+key+last+left+object+params+part+primary+property+rest+spread+unary+value.Lts-unary as lts
 use Rattle.parse.proofs.+args+array+assign+assigned+barray+binary+binding+bobject+body+bproperty+choice+comma+element+head+init+inside+item+key+last+left+object+params+part+primary+property+rest+spread+unary+value.Proof.Measures.{left-below, unary-at}
 use Rattle.making.proofs.cursor.leaf.Reads as leaf
-use Rattle.making.proofs.singles.single_operand.Reads as single-operand
+use Rattle.singles.proofs.single_operand.Reads as single-operand
 use Rattle.operation.proofs.is_prefix_operator.Reads as is-prefix-operator
 use Rattle.operation.proofs.postfix.Reads as postfix
 use Rattle.operation.proofs.prefixes.Reads as prefixes

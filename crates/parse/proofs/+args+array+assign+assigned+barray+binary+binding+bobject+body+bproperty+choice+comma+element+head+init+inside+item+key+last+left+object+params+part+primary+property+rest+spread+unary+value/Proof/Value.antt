@@ -11,7 +11,7 @@ use Rattle.steps.specs.Value.{async-stands, operator-stands, value-asyncs, valu
 use Rattle.parse.proofs.+args+array+assign+assigned+barray+binary+binding+bobject+body+bproperty+choice+comma+element+head+init+inside+item+key+last+left+object+params+part+primary+property+rest+spread+unary+value.Lts-value as lts
 use Rattle.parse.proofs.+args+array+assign+assigned+barray+binary+binding+bobject+body+bproperty+choice+comma+element+head+init+inside+item+key+last+left+object+params+part+primary+property+rest+spread+unary+value.Proof.Measures.{assigned-below, binary-below, body-below, choice-below, value-at}
 use Rattle.making.proofs.cursor.leaf.Reads as leaf
-use Rattle.making.proofs.heads.is_async_name.Reads as is-async-name
+use Rattle.heads.proofs.is_async_name.Reads as is-async-name
 use Rattle.operation.proofs.is_assignment_operator.Reads as is-assignment-operator
 use Rattle.parse.proofs.assigned.Reads as assigned
 use Rattle.parse.proofs.binary.Reads as binary
