@@ -22,7 +22,7 @@ use Rattle.making.specs.Lent.{check-row-room, check-record-room, checks, answer
 use Rattle.laws.specs.Bounds as Bounds
 use Rattle.laws.specs.Places as Places
 use Rattle.laws.specs.Abandoned as Abandoned
-use Rattle.reader.proofs.Checked.{ready}
+use Rattle.frame.proofs.Checked.{ready}
 use Rattle.text.specs.Text.{text}
 use Rattle.text.proofs.Room.{Words, Few, read-room, refused-room}
 

@@ -7,7 +7,7 @@ use mathlib.Core.List.{List}
 use Rattle.tokens.specs.declared.cause.Answer.{Answer}
 use Rattle.grammar.specs.Sheet.{sheet-of}
 use Rattle.making.specs.Lent.{read-entry}
-use Rattle.reader.specs.Entry.{Answers}
+use Rattle.frame.specs.Entry.{Answers}
 use Rattle.sheets.specs.Layout.{Sheet}
 use Rattle.sheets.specs.Post.{Handed}
 use Rattle.sheets.proofs.Once.{kinds-of-once, flags-of-once}

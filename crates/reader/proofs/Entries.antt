@@ -25,9 +25,9 @@ use Rattle.laws.specs.Abandoned.{fine-cleared, notes-stay}
 use Rattle.making.specs.Post.{cursor, Room, Met}
 use Rattle.making.specs.declared.cursor.Step as Made
 use Rattle.making.proofs.Ends.{moved}
-use Rattle.reader.specs.Entry.{Answers}
-use Rattle.reader.specs.Post.{Within, Checks, Ready, Came, CameOut, Finished}
-use Rattle.reader.proofs.Checked.{ready}
+use Rattle.frame.specs.Entry.{Answers}
+use Rattle.frame.specs.Post.{Within, Checks, Ready, Came, CameOut, Finished}
+use Rattle.frame.proofs.Checked.{ready}
 
 -- the list passes the checks: there is room to begin
 pub begins : {ks fs r s : List ℕ} {x : Checked} → Checks ks fs r s x → x ≡ Checked.Fine → Room ks r s (cursor 0 0 0)

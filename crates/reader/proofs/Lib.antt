@@ -1,5 +1,2 @@
-pub mod Checked
-pub mod Last
-pub mod Finishing
 pub mod Entries
 pub mod Once

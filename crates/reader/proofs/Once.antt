@@ -6,7 +6,7 @@ use mathlib.Core.List.{List}
 use Rattle.tokens.specs.declared.cause.Answer.{Answer}
 use Rattle.grammar.specs.Sheet.{Sheet}
 use Rattle.making.specs.Lent.{Given, read-entry, pattern-entry}
-use Rattle.reader.specs.Entry.{Answers}
+use Rattle.frame.specs.Entry.{Answers}
 
 answers-once : {g : Given} {r r′ s s′ : List ℕ} {x y : Answer} → Answers g r s x → Answers g r′ s′ y → (x ≡ y) × (r ≡ r′) × (s ≡ s′)
 answers-once a b = (a .answer ∙ sym (b .answer), a .rows ∙ sym (b .rows), a .records ∙ sym (b .records))

@@ -1,168 +1,21 @@
 // The reader: a list of token bytes into a flat tree in lent memory (document 01).
-ghost use Prim.Native.Nat.{_≤_};
-ghost use mathlib.Core.Path.{_≡_};
-ghost use lib.ListN.{length};
-ghost use Rattle.rows.specs.Post.{GrownRecords};
-ghost use Rattle.grammar.specs.Reading.{noted-places};
 ghost use Rattle.grammar.specs.Sheet.{sheet-of};
-ghost use Rattle.making.specs.Lent.{check-row-room, check-record-room, read-entry, pattern-entry};
-ghost use Rattle.laws.specs.Abandoned.{Fine};
-ghost use Rattle.reader.specs.Entry.{Answers};
-ghost use Rattle.reader.specs.Post.{Within, unconverted-row, unconverted-rows, LastRowRoom, LastRoom, Checks, Ready, CameOut, Emptied, Finished};
-use making::cursor::Step;
+ghost use Rattle.making.specs.Lent.{read-entry, pattern-entry};
+ghost use Rattle.frame.specs.Entry.{Answers};
 use tokens::cause::Answer;
-use tokens::cause::Cause;
-use tokens::cause::Counts;
 use tokens::check::Checked;
-
-// Check 3: room for six words a token.
-fn check_row_room(kinds: &[u8], rows: &[u32]) -> Checked
-    requires { ⌜ length (now kinds) ≤ 2048 ⌝ }
-    ensures { λ x. ⌜ x ≡ check-row-room (now (kinds .entry)) (now (rows .entry)) ⌝ }
-{
-    if rows.len() < 6 * kinds.len() {
-        return Checked::Refused(Cause::RowRoom(0));
-    }
-    Checked::Fine
-}
-
-// Check 4: room for two record words a token.
-fn check_record_room(kinds: &[u8], records: &[u32]) -> Checked
-    requires { ⌜ length (now kinds) ≤ 2048 ⌝ }
-    ensures { λ x. ⌜ x ≡ check-record-room (now (kinds .entry)) (now (records .entry)) ⌝ }
-{
-    if records.len() < 2 * kinds.len() {
-        return Checked::Refused(Cause::RecordRoom(0));
-    }
-    Checked::Fine
-}
-
-// The checks 1 to 7, in this order.
-fn check(kinds: &[u8], flags: &[u8], rows: &[u32], records: &[u32]) -> Checked
-    ensures { λ x. ⌜ Checks (now (kinds .entry)) (now (flags .entry)) (now (rows .entry)) (now (records .entry)) x ⌝ }
-{
-    let length = checks::check_length(kinds);
-    let Checked::Fine = length else {
-        return length;
-    };
-    let flag_length = checks::check_flag_length(kinds, flags);
-    let Checked::Fine = flag_length else {
-        return flag_length;
-    };
-    let row_room = check_row_room(kinds, rows);
-    let Checked::Fine = row_room else {
-        return row_room;
-    };
-    let record_room = check_record_room(kinds, records);
-    let Checked::Fine = record_room else {
-        return record_room;
-    };
-    let all_flags = checks::check_flags(flags);
-    let Checked::Fine = all_flags else {
-        return all_flags;
-    };
-    let all_kinds = checks::check_kinds(kinds);
-    let Checked::Fine = all_kinds else {
-        return all_kinds;
-    };
-    checks::check_nesting(kinds)
-}
-
-// How many places are noted: a note is 0 or 1, and 0 from the end of the list on.
-fn noted(notes: &[u8; 2048], tokens: usize) -> usize
-    requires { ⌜ Fine (now notes) ⌝ }
-    requires { ⌜ Within tokens (now notes) ⌝ }
-    requires { ⌜ tokens ≤ 2048 ⌝ }
-    ensures { λ x. ⌜ x ≡ noted-places (now (notes .entry)) ⌝ }
-{
-    let mut count: usize = 0;
-    let mut at = 0;
-    while at < tokens {
-        count += notes[at] as usize;
-        at += 1;
-    }
-    count
-}
-
-// Record 8 of a row: a ShorthandInit that was never converted, at its mark. The answer is how many records there are then.
-fn unconverted_row(rows: &[u32], records: &mut [u32], n: usize, used: usize) -> usize
-    requires { ⌜ LastRowRoom (now rows) (length (now records)) n used ⌝ }
-    ensures { λ x. ⌜ GrownRecords (now (records .entry)) used (now (records .exit)) x (unconverted-row (now (rows .entry)) n) ⌝ }
-{
-    if rows::row_word(rows, n, 0) != rows::row::SHORTHAND_INIT {
-        return used;
-    }
-    let mark = rows::row_word(rows, n, 1);
-    rows::push_record(records, used, 8, mark as usize);
-    used + 1
-}
-
-// Record 8 of the first n rows, in row order.
-fn unconverted(rows: &[u32], records: &mut [u32], n: usize, used: usize) -> usize
-    requires { ⌜ LastRoom (now rows) (length (now records)) n used ⌝ }
-    ensures { λ x. ⌜ GrownRecords (now (records .entry)) used (now (records .exit)) x (unconverted-rows (now (rows .entry)) 0 n) ⌝ }
-{
-    let mut here = used;
-    let mut at = 0;
-    while at < n {
-        here = unconverted_row(rows, records, at, here);
-        at += 1;
-    }
-    here
-}
-
-// A refusal 8 to 12: every word of both buffers is 0.
-fn refuse(rows: &mut [u32], records: &mut [u32], cause: Cause) -> Answer
-    ensures { λ x. ⌜ Emptied (now (rows .entry)) (now (records .entry)) cause (now (rows .exit)) (now (records .exit)) x ⌝ }
-{
-    rows::clear_from(rows, 0);
-    rows::clear_from(records, 0);
-    Answer::Refused(cause)
-}
-
-// What is left when a reading ends: refused, every word of both buffers is 0; read, the words past the used ones are 0.
-fn finish(
-    kinds: &[u8],
-    rows: &mut [u32],
-    records: &mut [u32],
-    notes: &[u8; 2048],
-    got: Step,
-) -> Answer
-    requires { ⌜ Ready (now kinds) (now rows) (now records) ⌝ }
-    requires { ⌜ CameOut (now kinds) (now rows) (now records) (now notes) got ⌝ }
-    ensures { λ x. ⌜ Finished (now (kinds .entry)) (now (rows .entry)) (now (records .entry)) (now (notes .entry)) got (now (rows .exit)) (now (records .exit)) x ⌝ }
-{
-    match got {
-        Step::Fail(cause) => refuse(rows, records, cause),
-        Step::Done(d) => {
-            let end = d.at;
-            if end != kinds.len() {
-                return refuse(rows, records, Cause::Unexpected(end));
-            }
-            let n = d.rows;
-            let used = unconverted(rows, records, n, d.records);
-            rows::clear_from(rows, 6 * n);
-            rows::clear_from(records, 2 * used);
-            Answer::Read(Counts {
-                rows: n,
-                records: used,
-                abandoned: noted(notes, end),
-            })
-        }
-    }
-}
 
 // The reader: the list is one Expression, then end.
 pub fn read(kinds: &[u8], flags: &[u8], rows: &mut [u32], records: &mut [u32]) -> Answer
     ensures { λ x. ⌜ Answers (read-entry (sheet-of (now (kinds .entry)) (now (flags .entry))) (now (rows .entry)) (now (records .entry))) (now (rows .exit)) (now (records .exit)) x ⌝ }
 {
-    let checked = check(kinds, flags, rows, records);
+    let checked = frame::check(kinds, flags, rows, records);
     match checked {
         Checked::Refused(cause) => Answer::Refused(cause),
         Checked::Fine => {
             let mut notes = [0u8; 2048]; // no head of the sheet has failed yet
             let got = parse::comma(kinds, flags, rows, records, &mut notes, 0, 0, 0);
-            finish(kinds, rows, records, &notes, got)
+            frame::finish(kinds, rows, records, &notes, got)
         }
     }
 }
@@ -171,13 +24,13 @@ pub fn read(kinds: &[u8], flags: &[u8], rows: &mut [u32], records: &mut [u32]) -
 pub fn pattern(kinds: &[u8], flags: &[u8], rows: &mut [u32], records: &mut [u32]) -> Answer
     ensures { λ x. ⌜ Answers (pattern-entry (sheet-of (now (kinds .entry)) (now (flags .entry))) (now (rows .entry)) (now (records .entry))) (now (rows .exit)) (now (records .exit)) x ⌝ }
 {
-    let checked = check(kinds, flags, rows, records);
+    let checked = frame::check(kinds, flags, rows, records);
     match checked {
         Checked::Refused(cause) => Answer::Refused(cause),
         Checked::Fine => {
             let mut notes = [0u8; 2048]; // no head of an initializer has failed yet
             let got = parse::element(kinds, flags, rows, records, &mut notes, 0, 0, 0);
-            finish(kinds, rows, records, &notes, got)
+            frame::finish(kinds, rows, records, &notes, got)
         }
     }
 }

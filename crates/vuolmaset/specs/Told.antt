@@ -12,7 +12,7 @@ use Rattle.lookahead.specs.declared.Tristate.{Tristate}
 use Rattle.targets.specs.Entry.{Answered}
 use Rattle.grammar.specs.Sheet.{sheet-of}
 use Rattle.making.specs.Lent.{read-entry, pattern-entry}
-use Rattle.reader.specs.Entry.{Answers}
+use Rattle.frame.specs.Entry.{Answers}
 
 -- the number of an answer: 0 for Read, else that of the refusal
 abbrev pub number-of : Answer → ℕ

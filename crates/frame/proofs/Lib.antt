@@ -1,0 +1,3 @@
+pub mod Checked
+pub mod Last
+pub mod Finishing
