@@ -1,3 +1,1 @@
--- What the proofs of several functions use.
 pub mod Notes
-mod Patterns

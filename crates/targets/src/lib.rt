@@ -130,7 +130,7 @@ fn judge(rows: &[u32], root: usize, role: Role) -> Conversion
         return Conversion::Turned(0);
     }
     let seen = look(rows, root);
-    let plan = roles::plan_of(role, seen);
+    let plan = plans::plan_of(role, seen);
     match plan {
         Plan::Refuse(cause) => Conversion::Refused(cause),
         Plan::Keep(_, note) => Conversion::Turned(roles::note_count(note)),
@@ -179,7 +179,7 @@ fn turn(rows: &mut [u32], root: usize, role: Role, records: &mut [u32], end: usi
         return end;
     }
     let seen = look(rows, root);
-    let plan = roles::plan_of(role, seen);
+    let plan = plans::plan_of(role, seen);
     match plan {
         Plan::Refuse(_) => end,
         Plan::Keep(kind, note) => {

@@ -15,7 +15,7 @@ use Rattle.targets.proofs.name_at.Reads as name-at
 use Rattle.roles.proofs.kid_role.Reads as kid-role
 use Rattle.roles.proofs.note_count.Reads as note-count
 use Rattle.roles.proofs.notes_count.Reads as notes-count
-use Rattle.roles.proofs.plan_of.Reads as plan-of
+use Rattle.plans.proofs.plan_of.Reads as plan-of
 use Rattle.roles.proofs.wide.Reads as wide
 
 -- those kids are judged that stand after the row `end`

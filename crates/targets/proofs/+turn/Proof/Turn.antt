@@ -13,7 +13,7 @@ use Rattle.rows.proofs.set_kind.Reads as set-kind
 use Rattle.targets.proofs.look.Reads as look
 use Rattle.targets.proofs.name_at.Reads as name-at
 use Rattle.roles.proofs.kid_role.Reads as kid-role
-use Rattle.roles.proofs.plan_of.Reads as plan-of
+use Rattle.plans.proofs.plan_of.Reads as plan-of
 use Rattle.roles.proofs.wide.Reads as wide
 use Rattle.targets.proofs.turn.Reads as turn
 use Rattle.targets.proofs.turn_name.Reads as turn-name

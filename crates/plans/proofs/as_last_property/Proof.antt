@@ -1,0 +1,29 @@
+-- `plans::as_last_property` meets its contract.
+-- Assumes nothing.
+use mathlib.Core.Path.{refl, sym, _∙_}
+use native.Mathlib.Omega.{arith}
+use borrow.Author.Needs.{needs}
+use borrow.Author.Tests.{eq-eqb, ne-eqb, le-leb, lt-leb}
+use Rattle.conversion.specs.Conversion.{as-last-property}
+use Rattle.plans.proofs.as_last_property.Statement.{statement}
+use Rattle.plans.proofs.as_last_property.Tie as tie
+
+is-with-requires : tie.Need-is-with-requires
+is-with-requires c κs = search needs
+
+wrong-argument-requires : tie.Need-wrong-argument-requires
+wrong-argument-requires c κs = search needs
+
+returns : tie.Need-returns
+unfolding as-last-property
+returns c = rw (sym (c .before .before .is-with .ensures) ∙ c .before .if1 .taken, c .wrong-argument .ensures)
+
+as-property-requires : tie.Need-as-property-requires
+as-property-requires c κs = search needs
+
+returns-2 : tie.Need-returns-2
+unfolding as-last-property
+returns-2 c = rw (sym (c .before .before .is-with .ensures) ∙ c .before .if1 .left) (c .as-property .ensures)
+
+pub as-last-property-spec : {M : Type 1} → statement M
+as-last-property-spec = tie.close (tie.spec is-with-requires wrong-argument-requires returns as-property-requires returns-2)

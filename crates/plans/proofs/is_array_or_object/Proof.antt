@@ -1,0 +1,17 @@
+-- `plans::is_array_or_object` meets its contract.
+-- Assumes nothing.
+use mathlib.Core.Path.{refl, sym, _∙_}
+use native.Mathlib.Omega.{arith}
+use borrow.Author.Needs.{needs}
+use borrow.Author.Tests.{eq-eqb, ne-eqb, le-leb, lt-leb}
+use Rattle.plans.proofs.is_array_or_object.Statement.{statement}
+use Rattle.plans.proofs.is_array_or_object.Tie as tie
+
+returns : tie.Need-returns
+returns c = rw (le-leb _ _ (c .if1 .taken))
+
+returns-2 : tie.Need-returns-2
+returns-2 c = rw (lt-leb _ _ (c .if1 .left))
+
+pub is-array-or-object-spec : {M : Type 1} → statement M
+is-array-or-object-spec = tie.close (tie.spec returns returns-2)
