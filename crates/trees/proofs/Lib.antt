@@ -1,5 +1,2 @@
-pub mod Masks
-pub mod Shapes
-pub mod Columns
 pub mod Walks
 pub mod Whole

@@ -2,7 +2,6 @@
 // its next sibling's first row.
 ghost use Prim.Native.Nat.{_≤_, _<_};
 ghost use Rattle.rows.specs.Stands.{Decides, Stands, Before, KidsStand, LastKind, KidFits};
-use crate::shape;
 use rows::row_word;
 
 // The kind of a row's last kid, and 0 if it has none.
@@ -24,7 +23,7 @@ fn kid_fits(words: &[u32], row: usize, kind: u32, before: u64, after: u64) -> bo
 {
     let kid = row_word(words, row, 0);
     let last = last_kind(words, row);
-    shape::fits(kind, before, after, kid, last)
+    shapes::fits(kind, before, after, kid, last)
 }
 
 // Whether the rows from low on, up to row, are so many trees that may stand as the kids of a row of this kind.
@@ -58,11 +57,11 @@ pub fn row_stands(words: &[u32], row: usize) -> bool
     ensures { λ r. ⌜ Decides (Stands (now (words .entry)) row) r ⌝ }
 {
     let kind = row_word(words, row, 0);
-    if !shape::is_listed(kind) {
+    if !shapes::is_listed(kind) {
         return false;
     }
     let kids = row_word(words, row, 4) as u64;
-    if !shape::is_enough(kind, kids) {
+    if !shapes::is_enough(kind, kids) {
         return false;
     }
     let size = row_word(words, row, 5) as usize;

@@ -1,0 +1,3 @@
+mod Masks
+mod Shapes
+mod Columns
