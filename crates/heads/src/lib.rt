@@ -107,7 +107,7 @@ pub fn is_async_name(kinds: &[u8], flags: &[u8], at: usize) -> bool
     if tokens::kind_at(kinds, at) != kind::ASYNC {
         return false;
     }
-    if tokens::is_name(tokens::kind_after(kinds, at, 1)) {
+    if classes::is_name(tokens::kind_after(kinds, at, 1)) {
         if tokens::flag_after(flags, at, 1) == 1 {
             return false;
         }

@@ -46,7 +46,7 @@ fn rest_parameter(third: u8) -> Tristate
     if third == kind::IDENT {
         return Tristate::True;
     }
-    if tokens::is_literal(third) {
+    if classes::is_literal(third) {
         return Tristate::False;
     }
     Tristate::Maybe
@@ -77,8 +77,8 @@ fn modified_name(second: u8, third: u8) -> bool
     if second == kind::ASYNC {
         return false;
     }
-    if tokens::is_modifier_kind(second) {
-        return tokens::is_binding_identifier(third);
+    if classes::is_modifier_kind(second) {
+        return classes::is_binding_identifier(third);
     }
     false
 }
@@ -96,7 +96,7 @@ fn first_parameter(second: u8, third: u8, fourth: u8) -> Tristate
     if second == kind::THIS {
         return after_name(third, fourth);
     }
-    if tokens::is_binding_identifier(second) {
+    if classes::is_binding_identifier(second) {
         return after_name(third, fourth);
     }
     Tristate::False
@@ -124,7 +124,7 @@ fn type_parameter(third: u8, fourth: u8) -> Tristate
         kind::EXTENDS => match fourth {
             kind::EQ | kind::R_ANGLE | kind::SLASH => Tristate::False,
             _ => {
-                if tokens::is_binding_identifier(fourth) {
+                if classes::is_binding_identifier(fourth) {
                     return Tristate::Maybe;
                 }
                 Tristate::True
@@ -142,7 +142,7 @@ fn names_type(second: u8) -> bool
     if second == kind::CONST {
         return true;
     }
-    tokens::is_binding_identifier(second)
+    classes::is_binding_identifier(second)
 }
 
 // `<` at the place.
@@ -212,7 +212,7 @@ pub fn is_parenthesized_arrow_function_expression(
 {
     let first = tokens::kind_at(kinds, at);
     if first == kind::L_PAREN {
-        if tokens::is_literal(tokens::kind_after(kinds, at, 1)) {
+        if classes::is_literal(tokens::kind_after(kinds, at, 1)) {
             return Tristate::False;
         }
     }

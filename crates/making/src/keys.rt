@@ -7,7 +7,7 @@ use tokens::kind;
 pub fn is_shorthand(kinds: &[u8], at: usize) -> bool
     ensures { λ r. ⌜ r ≡ is-shorthand (now (kinds .entry)) at ⌝ }
 {
-    if tokens::is_name(tokens::kind_at(kinds, at)) {
+    if classes::is_name(tokens::kind_at(kinds, at)) {
         return tokens::kind_after(kinds, at, 1) != kind::COLON;
     }
     false
@@ -17,7 +17,7 @@ pub fn is_shorthand(kinds: &[u8], at: usize) -> bool
 pub fn is_key(k: u8) -> bool
     ensures { λ r. ⌜ r ≡ is-key k ⌝ }
 {
-    if tokens::is_word(k) {
+    if classes::is_word(k) {
         return true;
     }
     k == kind::STR || k == kind::NUMBER

@@ -28,7 +28,7 @@ pub fn right_floor(operator: u8) -> u8
 pub fn operation_kind(operator: u8) -> u32
     ensures { λ r. ⌜ r ≡ Binary.operation-kind operator ⌝ }
 {
-    if tokens::between(kind::QUESTION2, kind::AMP2, operator) {
+    if classes::between(kind::QUESTION2, kind::AMP2, operator) {
         return row::LOGICAL;
     }
     row::BINARY
@@ -102,14 +102,14 @@ pub fn finish(
 pub fn is_assignment_operator(k: u8) -> bool
     ensures { λ r. ⌜ r ≡ Assignment.is-assignment-operator k ⌝ }
 {
-    tokens::between(kind::EQ, kind::STAR2_EQ, k)
+    classes::between(kind::EQ, kind::STAR2_EQ, k)
 }
 
 // 13.5: delete void typeof + - ~ !
 pub fn is_unary_operator(k: u8) -> bool
     ensures { λ r. ⌜ r ≡ Update.is-unary-operator k ⌝ }
 {
-    if tokens::between(kind::BANG, kind::DELETE, k) {
+    if classes::between(kind::BANG, kind::DELETE, k) {
         return true;
     }
     k == kind::PLUS || k == kind::MINUS

@@ -566,7 +566,7 @@ pub fn left(
         let place = here.at;
         match tokens::kind_at(kinds, place) {
             kind::DOT => {
-                if !tokens::is_word(tokens::kind_at(kinds, place + 1)) {
+                if !classes::is_word(tokens::kind_at(kinds, place + 1)) {
                     return Step::Fail(Cause::Unexpected(place + 1));
                 }
                 here = over(rows, here, row::MEMBER, place + 1, at, place + 2, 1, made);
@@ -1071,7 +1071,7 @@ pub fn binding(
     ensures { λ x. ⌜ Met (now (kinds .entry)) (now (flags .entry)) (now (rows .entry)) (now (records .entry)) (now (notes .entry)) (now (rows .exit)) (now (records .exit)) (now (notes .exit)) (Job.binding at) made said x ⌝ }
 {
     let k = tokens::kind_at(kinds, at);
-    if tokens::is_name(k) {
+    if classes::is_name(k) {
         return Step::Done(leaf(rows, at, made, said, row::BINDING_NAME));
     }
     match k {

@@ -8,13 +8,13 @@ use tokens::kind;
 pub fn single_row(k: u8) -> u32
     ensures { λ r. ⌜ r ≡ single-row k ⌝ }
 {
-    if tokens::is_name(k) {
+    if classes::is_name(k) {
         return row::IDENTIFIER;
     }
     if k == kind::THIS {
         return row::THIS;
     }
-    if tokens::is_literal(k) {
+    if classes::is_literal(k) {
         return row::LITERAL;
     }
     0
@@ -40,7 +40,7 @@ fn goes_on(k: u8) -> bool
 fn closes(k: u8) -> bool
     ensures { λ r. ⌜ r ≡ closes k ⌝ }
 {
-    if tokens::between(kind::COMMA, kind::COLON, k) {
+    if classes::between(kind::COMMA, kind::COLON, k) {
         return true;
     }
     if k == kind::R_PAREN {

@@ -25,11 +25,11 @@ fn print_classes(k: u8) {
     print(b"byte ", wide(k));
     io::write_all(1, b": ");
     let classes = [
-        told(tokens::is_name(k)),
-        told(tokens::is_word(k)),
-        told(tokens::is_literal(k)),
-        told(tokens::is_binding_identifier(k)),
-        told(tokens::is_modifier_kind(k)),
+        told(classes::is_name(k)),
+        told(classes::is_word(k)),
+        told(classes::is_literal(k)),
+        told(classes::is_binding_identifier(k)),
+        told(classes::is_modifier_kind(k)),
         b'\n',
     ];
     io::write_all(1, &classes);
@@ -50,12 +50,12 @@ fn print_range(low: u8, high: u8) {
     print(b" to ", wide(high));
     io::write_all(1, b": ");
     let inside = [
-        told(tokens::between(low, high, 0)),
-        told(tokens::between(low, high, 7)),
-        told(tokens::between(low, high, 8)),
-        told(tokens::between(low, high, 13)),
-        told(tokens::between(low, high, 14)),
-        told(tokens::between(low, high, 255)),
+        told(classes::between(low, high, 0)),
+        told(classes::between(low, high, 7)),
+        told(classes::between(low, high, 8)),
+        told(classes::between(low, high, 13)),
+        told(classes::between(low, high, 14)),
+        told(classes::between(low, high, 255)),
         b'\n',
     ];
     io::write_all(1, &inside);

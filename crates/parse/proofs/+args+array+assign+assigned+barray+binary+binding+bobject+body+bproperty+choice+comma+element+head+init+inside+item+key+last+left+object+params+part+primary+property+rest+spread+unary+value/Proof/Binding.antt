@@ -12,7 +12,7 @@ use Rattle.making.proofs.cursor.leaf.Reads as leaf
 use Rattle.parse.proofs.barray.Reads as barray
 use Rattle.parse.proofs.binding.Reads as binding
 use Rattle.parse.proofs.bobject.Reads as bobject
-use Rattle.tokens.proofs.is_name.Reads as is-name
+use Rattle.classes.proofs.is_name.Reads as is-name
 use Rattle.tokens.proofs.kind_at.Reads as kind-at
 
 module _ (t : ℕ) where

@@ -18,7 +18,7 @@ use Rattle.parse.proofs.args.Reads as args
 use Rattle.parse.proofs.inside.Reads as inside
 use Rattle.parse.proofs.left.Reads as left
 use Rattle.parse.proofs.primary.Reads as primary
-use Rattle.tokens.proofs.is_word.Reads as is-word
+use Rattle.classes.proofs.is_word.Reads as is-word
 use Rattle.tokens.proofs.kind_at.Reads as kind-at
 
 abbrev Inv-loop : lts.InvT-loop

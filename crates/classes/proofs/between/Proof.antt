@@ -1,9 +1,9 @@
--- `tokens::between` meets its contract.
+-- `classes::between` meets its contract.
 -- Assumes nothing.
 use mathlib.Core.Path.{refl}
 use borrow.Author.Tests.{le-leb, lt-leb}
-use Rattle.tokens.proofs.between.Statement.{statement}
-use Rattle.tokens.proofs.between.Tie as tie
+use Rattle.classes.proofs.between.Statement.{statement}
+use Rattle.classes.proofs.between.Tie as tie
 
 returns : tie.Need-returns
 returns c = rw (le-leb _ _ (c .if1 .taken))

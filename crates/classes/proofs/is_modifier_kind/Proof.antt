@@ -1,11 +1,11 @@
--- `tokens::is_modifier_kind` meets its contract.
+-- `classes::is_modifier_kind` meets its contract.
 -- Assumes nothing.
 use mathlib.Core.Path.{sym, _∙_}
 use borrow.Author.Needs.{needs}
 use borrow.Author.Tests.{ne-eqb}
 use Rattle.tokens.specs.Token.{is-modifier-kind}
-use Rattle.tokens.proofs.is_modifier_kind.Statement.{statement}
-use Rattle.tokens.proofs.is_modifier_kind.Tie as tie
+use Rattle.classes.proofs.is_modifier_kind.Statement.{statement}
+use Rattle.classes.proofs.is_modifier_kind.Tie as tie
 
 between-requires : tie.Need-between-requires
 between-requires c κs = search needs

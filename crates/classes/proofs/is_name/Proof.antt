@@ -1,9 +1,9 @@
--- `tokens::is_name` meets its contract.
+-- `classes::is_name` meets its contract.
 -- Assumes nothing.
 use borrow.Author.Needs.{needs}
 use Rattle.tokens.specs.Token.{is-name}
-use Rattle.tokens.proofs.is_name.Statement.{statement}
-use Rattle.tokens.proofs.is_name.Tie as tie
+use Rattle.classes.proofs.is_name.Statement.{statement}
+use Rattle.classes.proofs.is_name.Tie as tie
 
 between-requires : tie.Need-between-requires
 between-requires c κs = search needs

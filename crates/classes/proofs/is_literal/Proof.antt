@@ -1,9 +1,9 @@
--- `tokens::is_literal` meets its contract.
+-- `classes::is_literal` meets its contract.
 -- Assumes nothing.
 use borrow.Author.Needs.{needs}
 use Rattle.tokens.specs.Token.{is-literal}
-use Rattle.tokens.proofs.is_literal.Statement.{statement}
-use Rattle.tokens.proofs.is_literal.Tie as tie
+use Rattle.classes.proofs.is_literal.Statement.{statement}
+use Rattle.classes.proofs.is_literal.Tie as tie
 
 between-requires : tie.Need-between-requires
 between-requires c κs = search needs

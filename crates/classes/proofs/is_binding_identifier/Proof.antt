@@ -1,10 +1,10 @@
--- `tokens::is_binding_identifier` meets its contract.
+-- `classes::is_binding_identifier` meets its contract.
 -- Assumes nothing.
 use mathlib.Core.Path.{sym, _∙_}
 use borrow.Author.Needs.{needs}
 use Rattle.tokens.specs.Token.{is-binding-identifier}
-use Rattle.tokens.proofs.is_binding_identifier.Statement.{statement}
-use Rattle.tokens.proofs.is_binding_identifier.Tie as tie
+use Rattle.classes.proofs.is_binding_identifier.Statement.{statement}
+use Rattle.classes.proofs.is_binding_identifier.Tie as tie
 
 between-requires : tie.Need-between-requires
 between-requires c κs = search needs

@@ -1,10 +1,10 @@
--- `tokens::is_word` meets its contract.
+-- `classes::is_word` meets its contract.
 -- Assumes nothing.
 use mathlib.Core.Path.{sym, _∙_}
 use borrow.Author.Needs.{needs}
 use Rattle.tokens.specs.Token.{is-word}
-use Rattle.tokens.proofs.is_word.Statement.{statement}
-use Rattle.tokens.proofs.is_word.Tie as tie
+use Rattle.classes.proofs.is_word.Statement.{statement}
+use Rattle.classes.proofs.is_word.Tie as tie
 
 between-requires : tie.Need-between-requires
 between-requires c κs = search needs
