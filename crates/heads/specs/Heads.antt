@@ -1,9 +1,10 @@
 -- Where a head may open, and the way that the box takes there.
 -- Assumes nothing: these are definitions.
 use Prim.Native.Nat.{ℕ}
+use mathlib.Core.Path.{_≡_}
 use mathlib.Core.Bool.{Bool, true, false}
 use mathlib.Core.List.{List}
-use lib.ListN.{getD}
+use lib.ListN.{set, getD}
 use Rattle.tokens.specs.Bool.{_or_, _is_, if_then_else_}
 use Rattle.tokens.specs.Kind.{Async, LParen, LCurly}
 use Rattle.rows.specs.Row as Row
@@ -37,6 +38,11 @@ abbrev pub is-commit : Way → Bool
 is-commit Way.Pass = false
 is-commit Way.Attempt = false
 is-commit Way.Commit = true
+
+-- a head that failed is dropped: 1 is noted at its place, and there are as many records as before it
+pub record Dropped (m₀ : List ℕ) (at said : ℕ) (m : List ℕ) (r : ℕ) : Type 0 where
+  pub noted : m ≡ set m₀ at 1
+  pub records : r ≡ said
 
 -- the row of an arrow whose head begins at a place
 unfoldable pub arrow-kind : List ℕ → ℕ → ℕ

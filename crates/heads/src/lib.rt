@@ -1,10 +1,10 @@
 // Heads of arrow functions (15.3, 15.9): where one may open, and what is known of one that was read.
 ghost use mathlib.Core.Path.{_≡_};
-ghost use Prim.Native.Nat.{_≤_};
+ghost use Prim.Native.Nat.{_≤_, _<_};
 ghost use lib.ListN.{length};
 ghost use Rattle.grammar.specs.Assignment.{is-async-name};
 ghost use Rattle.grammar.specs.Sheet.{sheet-of};
-ghost use Rattle.heads.specs.Heads.{is-block, is-pass, is-commit, may-open, way-at, way-of, arrow-kind};
+ghost use Rattle.heads.specs.Heads.{Dropped, is-block, is-pass, is-commit, may-open, way-at, way-of, arrow-kind};
 use lookahead::Tristate;
 use rows::row;
 use tokens::kind;
@@ -70,6 +70,15 @@ pub fn way_at(kinds: &[u8], flags: &[u8], notes: &[u8; 2048], at: usize) -> Way
             Way::Attempt
         }
     }
+}
+
+// Drops a head that failed: its place is noted, and none of its records stays. The answer is how many records there are then.
+pub fn drop_head(notes: &mut [u8; 2048], at: usize, said: usize) -> usize
+    requires { ⌜ at < 2048 ⌝ }
+    ensures { λ r. ⌜ Dropped (now (notes .entry)) at said (now (notes .exit)) r ⌝ }
+{
+    notes[at] = 1;
+    said
 }
 
 // A head that was read: the kind of its arrow, where it begins, the row of its first parameter, and how many parameters it has.

@@ -44,27 +44,19 @@ pub fn comma(
     if tokens::kind_at(kinds, mark) != kind::COMMA {
         return Step::Done(part);
     }
-    let mut here = part;
+    let mut c = part;
     let mut kids = 1;
     loop {
-        let place = here.at;
+        let place = c.at;
         if tokens::kind_at(kinds, place) != kind::COMMA {
-            return Step::Done(over(rows, here, row::SEQUENCE, mark, at, place, kids, made));
+            return Step::Done(over(rows, c, row::SEQUENCE, mark, at, place, kids, made));
         }
-        let more = assign(
-            kinds,
-            flags,
-            rows,
-            records,
-            notes,
-            place + 1,
-            here.rows,
-            here.records,
-        );
+        let start = place + 1;
+        let more = assign(kinds, flags, rows, records, notes, start, c.rows, c.records);
         let Step::Done(d) = more else {
             return more;
         };
-        here = d;
+        c = d;
         kids += 1;
     }
 }
@@ -88,32 +80,24 @@ pub fn assign(
         return Step::Done(leaf(rows, at, made, said, single));
     }
     let way = heads::way_at(kinds, flags, notes, at);
+    let mut kept = said;
     if !heads::is_pass(way) {
         let got = head(kinds, flags, rows, records, notes, at, made, said);
         match got {
             Listed::Done(d, kids) => {
                 let head = heads::head_of(kinds, at, made, kids);
-                return body(
-                    kinds,
-                    flags,
-                    rows,
-                    records,
-                    notes,
-                    d.at,
-                    d.rows,
-                    d.records,
-                    head,
-                );
+                let n = d.rows;
+                return body(kinds, flags, rows, records, notes, d.at, n, d.records, head);
             }
             Listed::Fail(cause) => {
                 if heads::is_commit(way) {
                     return Step::Fail(cause);
                 }
-                notes[at] = 1;
+                kept = heads::drop_head(notes, at, said);
             }
         }
     }
-    value(kinds, flags, rows, records, notes, at, made, said)
+    value(kinds, flags, rows, records, notes, at, made, kept)
 }
 
 // The assignment level past a head: an async arrow of one name, or the binary level and what may follow it.
@@ -138,75 +122,35 @@ pub fn value(
             from: made,
             kids: 1,
         };
-        return body(
-            kinds,
-            flags,
-            rows,
-            records,
-            notes,
-            d.at,
-            d.rows,
-            d.records,
-            head,
-        );
+        let n = d.rows;
+        return body(kinds, flags, rows, records, notes, d.at, n, d.records, head);
     }
     let got = binary(kinds, flags, rows, records, notes, at, made, said, 0);
     let Step::Done(d) = got else {
         return got;
     };
-    let end = d.at;
-    let next = tokens::kind_at(kinds, end);
+    let next = tokens::kind_at(kinds, d.at);
     if next == kind::ARROW {
-        let root = d.rows - 1;
-        if rows::row_word(rows, root, 0) == row::IDENTIFIER {
-            let name = leaf(rows, at, made, d.records, row::BINDING_NAME);
+        if rows::row_word(rows, d.rows - 1, 0) == row::IDENTIFIER {
+            let c = leaf(rows, at, made, d.records, row::BINDING_NAME);
             let head = Head {
                 kind: row::ARROW,
                 first: at,
                 from: made,
                 kids: 1,
             };
-            return body(
-                kinds,
-                flags,
-                rows,
-                records,
-                notes,
-                end,
-                name.rows,
-                name.records,
-                head,
-            );
+            let n = c.rows;
+            return body(kinds, flags, rows, records, notes, d.at, n, c.records, head);
         }
         return got;
     }
+    let n = d.rows;
+    let used = d.records;
     if operation::is_assignment_operator(next) {
-        return assigned(
-            kinds,
-            flags,
-            rows,
-            records,
-            notes,
-            d.at,
-            d.rows,
-            d.records,
-            at,
-            made,
-        );
+        return assigned(kinds, flags, rows, records, notes, d.at, n, used, at, made);
     }
     if next == kind::QUESTION {
-        return choice(
-            kinds,
-            flags,
-            rows,
-            records,
-            notes,
-            d.at,
-            d.rows,
-            d.records,
-            at,
-            made,
-        );
+        return choice(kinds, flags, rows, records, notes, d.at, n, used, at, made);
     }
     got
 }
@@ -281,16 +225,8 @@ pub fn choice(
     if tokens::kind_at(kinds, colon) != kind::COLON {
         return Step::Fail(Cause::Unexpected(colon));
     }
-    let more = assign(
-        kinds,
-        flags,
-        rows,
-        records,
-        notes,
-        colon + 1,
-        d.rows,
-        d.records,
-    );
+    let start = colon + 1;
+    let more = assign(kinds, flags, rows, records, notes, start, d.rows, d.records);
     let Step::Done(e) = more else {
         return more;
     };
@@ -346,63 +282,39 @@ pub fn params(
     requires { ⌜ Room (now kinds) (now rows) (now records) (cursor at made said) ⌝ }
     ensures { λ x. ⌜ MetList (now (kinds .entry)) (now (flags .entry)) (now (rows .entry)) (now (records .entry)) (now (notes .entry)) (now (rows .exit)) (now (records .exit)) (now (notes .exit)) (Job.parameters at nil) made said x ⌝ }
 {
-    let mut here = Cursor {
+    let mut c = Cursor {
         at,
         rows: made,
         records: said,
     };
     let mut kids = 0;
     loop {
-        let place = here.at;
+        let place = c.at;
         let k = tokens::kind_at(kinds, place);
         if k == kind::R_PAREN {
-            here.at = place + 1;
+            c.at = place + 1;
             break;
         }
         kids += 1;
         if k == kind::DOT3 {
-            let got = last(
-                kinds,
-                flags,
-                rows,
-                records,
-                notes,
-                here.at,
-                here.rows,
-                here.records,
-                kind::R_PAREN,
-            );
+            let n = c.rows;
+            let used = c.records;
+            let close = kind::R_PAREN;
+            let got = last(kinds, flags, rows, records, notes, place, n, used, close);
             match got {
-                Step::Fail(cause) => {
-                    return Listed::Fail(cause);
-                }
-                Step::Done(d) => {
-                    here = d;
-                }
+                Step::Fail(cause) => return Listed::Fail(cause),
+                Step::Done(d) => c = d,
             }
             break;
         }
-        let got = element(
-            kinds,
-            flags,
-            rows,
-            records,
-            notes,
-            here.at,
-            here.rows,
-            here.records,
-        );
+        let got = element(kinds, flags, rows, records, notes, c.at, c.rows, c.records);
         match got {
-            Step::Fail(cause) => {
-                return Listed::Fail(cause);
-            }
-            Step::Done(d) => {
-                here = d;
-            }
+            Step::Fail(cause) => return Listed::Fail(cause),
+            Step::Done(d) => c = d,
         }
-        let close = here.at;
+        let close = c.at;
         let next = tokens::kind_at(kinds, close);
-        here.at = close + 1;
+        c.at = close + 1;
         if next == kind::R_PAREN {
             break;
         }
@@ -410,7 +322,7 @@ pub fn params(
             return Listed::Fail(Cause::Unexpected(close));
         }
     }
-    Listed::Done(here, kids)
+    Listed::Done(c, kids)
 }
 
 // `=>` and the body, which is final: a break before `=>` is record 1, and `{` as body is 8.
@@ -432,24 +344,15 @@ pub fn body(
     if heads::is_block(kinds, at + 1) {
         return Step::Fail(Cause::Unexpected(at + 1));
     }
-    let mut next = Cursor {
+    let mut c = Cursor {
         at: at + 1,
         rows: made,
         records: said,
     };
     if tokens::flag_at(flags, at) == 1 {
-        next = say(records, next, 1, at);
+        c = say(records, c, 1, at);
     }
-    let got = assign(
-        kinds,
-        flags,
-        rows,
-        records,
-        notes,
-        next.at,
-        next.rows,
-        next.records,
-    );
+    let got = assign(kinds, flags, rows, records, notes, c.at, c.rows, c.records);
     let Step::Done(d) = got else {
         return got;
     };
@@ -484,11 +387,11 @@ pub fn binary(
     let Step::Done(operand) = got else {
         return got;
     };
-    let mut here = operand;
+    let mut c = operand;
     let mut mark = operand.at;
     let mut operator = tokens::kind_at(kinds, mark);
     while floor < operators::expression_precedence(operator) {
-        let left = here.rows;
+        let left = c.rows;
         let more = binary(
             kinds,
             flags,
@@ -497,17 +400,17 @@ pub fn binary(
             notes,
             mark + 1,
             left,
-            here.records,
+            c.records,
             operation::right_floor(operator),
         );
         let Step::Done(d) = more else {
             return more;
         };
-        here = operation::finish(kinds, rows, records, d, mark, at, left, made);
+        c = operation::finish(kinds, rows, records, d, mark, at, left, made);
         mark = d.at;
         operator = tokens::kind_at(kinds, mark);
     }
-    Step::Done(here)
+    Step::Done(c)
 }
 
 // 13.5 and 13.4: prefix operators over an operand, which a postfix update may follow on its line.
@@ -561,53 +464,35 @@ pub fn left(
     let Step::Done(base) = got else {
         return got;
     };
-    let mut here = base;
+    let mut c = base;
     loop {
-        let place = here.at;
+        let place = c.at;
+        let n = c.rows;
+        let used = c.records;
         match tokens::kind_at(kinds, place) {
             kind::DOT => {
                 if !classes::is_word(tokens::kind_at(kinds, place + 1)) {
                     return Step::Fail(Cause::Unexpected(place + 1));
                 }
-                here = over(rows, here, row::MEMBER, place + 1, at, place + 2, 1, made);
+                c = over(rows, c, row::MEMBER, place + 1, at, place + 2, 1, made);
             }
             kind::L_BRACK => {
-                let inner = inside(
-                    kinds,
-                    flags,
-                    rows,
-                    records,
-                    notes,
-                    here.at,
-                    here.rows,
-                    here.records,
-                    kind::R_BRACK,
-                );
+                let close = kind::R_BRACK;
+                let inner = inside(kinds, flags, rows, records, notes, place, n, used, close);
                 let Step::Done(d) = inner else {
                     return inner;
                 };
-                here = over(rows, d, row::INDEX, at, at, d.at, 2, made);
+                c = over(rows, d, row::INDEX, at, at, d.at, 2, made);
             }
             kind::L_PAREN => {
-                let call = args(
-                    kinds,
-                    flags,
-                    rows,
-                    records,
-                    notes,
-                    here.at,
-                    here.rows,
-                    here.records,
-                    at,
-                    made,
-                );
+                let call = args(kinds, flags, rows, records, notes, place, n, used, at, made);
                 let Step::Done(d) = call else {
                     return call;
                 };
-                here = d;
+                c = d;
             }
             _ => {
-                return Step::Done(here);
+                return Step::Done(c);
             }
         }
     }
@@ -630,27 +515,18 @@ pub fn args(
     requires { ⌜ Operand (now kinds) (now rows) (cursor at made said) first from ⌝ }
     ensures { λ x. ⌜ MetOver (now (kinds .entry)) (now (flags .entry)) (now (rows .entry)) (now (records .entry)) (now (notes .entry)) (now (rows .exit)) (now (records .exit)) (now (notes .exit)) (λ left. Job.arguments first (at + 1) (one left)) from made said x ⌝ }
 {
-    let mut here = Cursor {
+    let mut c = Cursor {
         at: at + 1,
         rows: made,
         records: said,
     };
     let mut kids = 1;
     let read = loop {
-        let place = here.at;
+        let place = c.at;
         if tokens::kind_at(kinds, place) == kind::R_PAREN {
-            break over(rows, here, row::CALL, first, first, place + 1, kids, from);
+            break over(rows, c, row::CALL, first, first, place + 1, kids, from);
         }
-        let got = item(
-            kinds,
-            flags,
-            rows,
-            records,
-            notes,
-            here.at,
-            here.rows,
-            here.records,
-        );
+        let got = item(kinds, flags, rows, records, notes, c.at, c.rows, c.records);
         let Step::Done(d) = got else {
             return got;
         };
@@ -663,7 +539,7 @@ pub fn args(
         if next != kind::COMMA {
             return Step::Fail(Cause::Unexpected(close));
         }
-        here = Cursor {
+        c = Cursor {
             at: close + 1,
             rows: d.rows,
             records: d.records,
@@ -724,17 +600,8 @@ pub fn primary(
     }
     match k {
         kind::L_PAREN => {
-            let got = inside(
-                kinds,
-                flags,
-                rows,
-                records,
-                notes,
-                at,
-                made,
-                said,
-                kind::R_PAREN,
-            );
+            let close = kind::R_PAREN;
+            let got = inside(kinds, flags, rows, records, notes, at, made, said, close);
             let Step::Done(d) = got else {
                 return got;
             };
@@ -807,7 +674,7 @@ pub fn array(
     requires { ⌜ at < length (now kinds) ⌝ }
     ensures { λ x. ⌜ Met (now (kinds .entry)) (now (flags .entry)) (now (rows .entry)) (now (records .entry)) (now (notes .entry)) (now (rows .exit)) (now (records .exit)) (now (notes .exit)) (Job.elements at (at + 1) Row.Array nil) made said x ⌝ }
 {
-    let mut here = Cursor {
+    let mut c = Cursor {
         at: at + 1,
         rows: made,
         records: said,
@@ -815,27 +682,18 @@ pub fn array(
     let mut kids = 0;
     let mut kind = row::ARRAY;
     let read = loop {
-        let place = here.at;
+        let place = c.at;
         let k = tokens::kind_at(kinds, place);
         if k == kind::R_BRACK {
-            break over(rows, here, kind, at, at, place + 1, kids, made);
+            break over(rows, c, kind, at, at, place + 1, kids, made);
         }
         kind = row::ARRAY;
         kids += 1;
         if k == kind::COMMA {
-            here = leaf(rows, here.at, here.rows, here.records, row::HOLE);
+            c = leaf(rows, c.at, c.rows, c.records, row::HOLE);
             continue;
         }
-        let got = item(
-            kinds,
-            flags,
-            rows,
-            records,
-            notes,
-            here.at,
-            here.rows,
-            here.records,
-        );
+        let got = item(kinds, flags, rows, records, notes, c.at, c.rows, c.records);
         let Step::Done(d) = got else {
             return got;
         };
@@ -847,11 +705,8 @@ pub fn array(
         if next != kind::COMMA {
             return Step::Fail(Cause::Unexpected(close));
         }
-        here = Cursor {
-            at: close + 1,
-            rows: d.rows,
-            records: d.records,
-        };
+        c = d;
+        c.at = close + 1;
         if k == kind::DOT3 {
             kind = row::ARRAY_REST_COMMA;
         }
@@ -874,7 +729,7 @@ pub fn object(
     requires { ⌜ at < length (now kinds) ⌝ }
     ensures { λ x. ⌜ Met (now (kinds .entry)) (now (flags .entry)) (now (rows .entry)) (now (records .entry)) (now (notes .entry)) (now (rows .exit)) (now (records .exit)) (now (notes .exit)) (Job.properties at (at + 1) Row.Object nil) made said x ⌝ }
 {
-    let mut here = Cursor {
+    let mut c = Cursor {
         at: at + 1,
         rows: made,
         records: said,
@@ -882,23 +737,14 @@ pub fn object(
     let mut kids = 0;
     let mut kind = row::OBJECT;
     let read = loop {
-        let place = here.at;
+        let place = c.at;
         let k = tokens::kind_at(kinds, place);
         if k == kind::R_CURLY {
-            break over(rows, here, kind, at, at, place + 1, kids, made);
+            break over(rows, c, kind, at, at, place + 1, kids, made);
         }
         kind = row::OBJECT;
         kids += 1;
-        let got = part(
-            kinds,
-            flags,
-            rows,
-            records,
-            notes,
-            here.at,
-            here.rows,
-            here.records,
-        );
+        let got = part(kinds, flags, rows, records, notes, c.at, c.rows, c.records);
         let Step::Done(d) = got else {
             return got;
         };
@@ -910,11 +756,8 @@ pub fn object(
         if next != kind::COMMA {
             return Step::Fail(Cause::Unexpected(close));
         }
-        here = Cursor {
-            at: close + 1,
-            rows: d.rows,
-            records: d.records,
-        };
+        c = d;
+        c.at = close + 1;
         if k == kind::DOT3 {
             kind = row::OBJECT_REST_COMMA;
         }
@@ -984,16 +827,8 @@ pub fn property(
     if tokens::kind_at(kinds, colon) != kind::COLON {
         return Step::Fail(Cause::Unexpected(colon));
     }
-    let more = assign(
-        kinds,
-        flags,
-        rows,
-        records,
-        notes,
-        colon + 1,
-        d.rows,
-        d.records,
-    );
+    let start = colon + 1;
+    let more = assign(kinds, flags, rows, records, notes, start, d.rows, d.records);
     let Step::Done(e) = more else {
         return more;
     };
@@ -1103,16 +938,8 @@ pub fn element(
     if tokens::kind_at(kinds, mark) != kind::EQ {
         return got;
     }
-    let more = assign(
-        kinds,
-        flags,
-        rows,
-        records,
-        notes,
-        mark + 1,
-        d.rows,
-        d.records,
-    );
+    let start = mark + 1;
+    let more = assign(kinds, flags, rows, records, notes, start, d.rows, d.records);
     let Step::Done(e) = more else {
         return more;
     };
@@ -1143,8 +970,8 @@ pub fn rest(
         return Step::Done(over(rows, d, row::BINDING_REST, at, at, d.at, 1, made));
     }
     let mark = rows::row_word(rows, root, 1) as usize;
-    let here = say(records, d, 2, mark);
-    Step::Done(over(rows, here, row::BINDING_REST, at, at, here.at, 1, made))
+    let c = say(records, d, 2, mark);
+    Step::Done(over(rows, c, row::BINDING_REST, at, at, c.at, 1, made))
 }
 
 // A rest and its closing token, or 12.
@@ -1193,59 +1020,34 @@ pub fn barray(
     requires { ⌜ at < length (now kinds) ⌝ }
     ensures { λ x. ⌜ Met (now (kinds .entry)) (now (flags .entry)) (now (rows .entry)) (now (records .entry)) (now (notes .entry)) (now (rows .exit)) (now (records .exit)) (now (notes .exit)) (Job.binding-elements at (at + 1) nil) made said x ⌝ }
 {
-    let mut here = Cursor {
+    let mut c = Cursor {
         at: at + 1,
         rows: made,
         records: said,
     };
     let mut kids = 0;
     let read = loop {
-        let place = here.at;
+        let place = c.at;
         let k = tokens::kind_at(kinds, place);
         if k == kind::R_BRACK {
-            break over(
-                rows,
-                here,
-                row::BINDING_ARRAY,
-                at,
-                at,
-                place + 1,
-                kids,
-                made,
-            );
+            break over(rows, c, row::BINDING_ARRAY, at, at, place + 1, kids, made);
         }
         kids += 1;
         if k == kind::COMMA {
-            here = leaf(rows, here.at, here.rows, here.records, row::HOLE);
+            c = leaf(rows, c.at, c.rows, c.records, row::HOLE);
             continue;
         }
         if k == kind::DOT3 {
-            let got = last(
-                kinds,
-                flags,
-                rows,
-                records,
-                notes,
-                here.at,
-                here.rows,
-                here.records,
-                kind::R_BRACK,
-            );
+            let n = c.rows;
+            let used = c.records;
+            let close = kind::R_BRACK;
+            let got = last(kinds, flags, rows, records, notes, place, n, used, close);
             let Step::Done(d) = got else {
                 return got;
             };
             break over(rows, d, row::BINDING_ARRAY, at, at, d.at, kids, made);
         }
-        let got = element(
-            kinds,
-            flags,
-            rows,
-            records,
-            notes,
-            here.at,
-            here.rows,
-            here.records,
-        );
+        let got = element(kinds, flags, rows, records, notes, c.at, c.rows, c.records);
         let Step::Done(d) = got else {
             return got;
         };
@@ -1257,11 +1059,8 @@ pub fn barray(
         if next != kind::COMMA {
             return Step::Fail(Cause::Unexpected(close));
         }
-        here = Cursor {
-            at: close + 1,
-            rows: d.rows,
-            records: d.records,
-        };
+        c = d;
+        c.at = close + 1;
     };
     Step::Done(read)
 }
@@ -1281,40 +1080,24 @@ pub fn bobject(
     requires { ⌜ at < length (now kinds) ⌝ }
     ensures { λ x. ⌜ Met (now (kinds .entry)) (now (flags .entry)) (now (rows .entry)) (now (records .entry)) (now (notes .entry)) (now (rows .exit)) (now (records .exit)) (now (notes .exit)) (Job.binding-properties at (at + 1) nil) made said x ⌝ }
 {
-    let mut here = Cursor {
+    let mut c = Cursor {
         at: at + 1,
         rows: made,
         records: said,
     };
     let mut kids = 0;
     let read = loop {
-        let place = here.at;
+        let place = c.at;
         let k = tokens::kind_at(kinds, place);
         if k == kind::R_CURLY {
-            break over(
-                rows,
-                here,
-                row::BINDING_OBJECT,
-                at,
-                at,
-                place + 1,
-                kids,
-                made,
-            );
+            break over(rows, c, row::BINDING_OBJECT, at, at, place + 1, kids, made);
         }
         kids += 1;
         if k == kind::DOT3 {
-            let got = last(
-                kinds,
-                flags,
-                rows,
-                records,
-                notes,
-                here.at,
-                here.rows,
-                here.records,
-                kind::R_CURLY,
-            );
+            let n = c.rows;
+            let used = c.records;
+            let close = kind::R_CURLY;
+            let got = last(kinds, flags, rows, records, notes, place, n, used, close);
             let Step::Done(d) = got else {
                 return got;
             };
@@ -1323,16 +1106,7 @@ pub fn bobject(
             }
             break over(rows, d, row::BINDING_OBJECT, at, at, d.at, kids, made);
         }
-        let got = bproperty(
-            kinds,
-            flags,
-            rows,
-            records,
-            notes,
-            here.at,
-            here.rows,
-            here.records,
-        );
+        let got = bproperty(kinds, flags, rows, records, notes, c.at, c.rows, c.records);
         let Step::Done(d) = got else {
             return got;
         };
@@ -1344,11 +1118,8 @@ pub fn bobject(
         if next != kind::COMMA {
             return Step::Fail(Cause::Unexpected(close));
         }
-        here = Cursor {
-            at: close + 1,
-            rows: d.rows,
-            records: d.records,
-        };
+        c = d;
+        c.at = close + 1;
     };
     Step::Done(read)
 }
@@ -1394,16 +1165,8 @@ pub fn bproperty(
     if tokens::kind_at(kinds, colon) != kind::COLON {
         return Step::Fail(Cause::Unexpected(colon));
     }
-    let more = element(
-        kinds,
-        flags,
-        rows,
-        records,
-        notes,
-        colon + 1,
-        d.rows,
-        d.records,
-    );
+    let start = colon + 1;
+    let more = element(kinds, flags, rows, records, notes, start, d.rows, d.records);
     let Step::Done(e) = more else {
         return more;
     };

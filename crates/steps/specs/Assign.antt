@@ -18,7 +18,7 @@ use Rattle.grammar.specs.Reading.{box}
 use Rattle.laws.specs.Good.{inside}
 use Rattle.laws.specs.Bounds.{bounded}
 use Rattle.making.specs.Post.{Room, Comes, Met, MetAfter, MetList, HeadFits}
-use Rattle.heads.specs.Heads.{is-pass, is-commit, may-open, way-at, way-of, arrow-kind}
+use Rattle.heads.specs.Heads.{Dropped, is-pass, is-commit, may-open, way-at, way-of, arrow-kind}
 use Rattle.making.specs.declared.cursor.Cursor.{Cursor}
 use Rattle.making.specs.declared.cursor.Step.{Step}
 use Rattle.making.specs.declared.cursor.Listed.{Listed}
@@ -143,33 +143,36 @@ module _ {ks fs r₀ s₀ m₀ : List ℕ} {c : Cursor} where
   unfolding way-of
   assign-fails t e a q = let g = a .list-fail _ q in is-fail refl record { comes = assignment-fails (sym t ∙ ap way-of e) (g .comes); unmade = g .unmade }
 
--- past a head: what the value comes to is what the assignment level comes to
-pub record Past (ks fs r₀ s₀ m₀ r₁ s₁ m₁ : List ℕ) (c : Cursor) : Type 0 where
+-- past a head, with k records: what the value comes to is what the assignment level comes to
+pub record Past (ks fs r₀ s₀ m₀ r₁ s₁ m₁ : List ℕ) (k : ℕ) (c : Cursor) : Type 0 where
   pub long : length r₁ ≡ length r₀
   pub deep : length s₁ ≡ length s₀
-  pub goes : (r s m : List ℕ) (x : Step) → Met ks fs r₁ s₁ m₁ r s m (value (c .at)) (c .rows) (c .records) x → Met ks fs r₀ s₀ m₀ r s m (assignment (c .at)) (c .rows) (c .records) x
+  pub same : k ≡ c .records
+  pub goes : (r s m : List ℕ) (x : Step) → Met ks fs r₁ s₁ m₁ r s m (value (c .at)) (c .rows) k x → Met ks fs r₀ s₀ m₀ r s m (assignment (c .at)) (c .rows) (c .records) x
 
--- rows, records and notes under other names
-now : {ks fs r₁ s₁ m₁ r₂ s₂ m₂ r s m : List ℕ} {job : Job} {n k : ℕ} {x : Step} → r₁ ≡ r₂ → s₁ ≡ s₂ → m₁ ≡ m₂ → Met ks fs r₁ s₁ m₁ r s m job n k x → Met ks fs r₂ s₂ m₂ r s m job n k x
-now i j l a = rw (sym i, sym j, sym l) a
+-- rows, records, notes and the number of records under other names
+now : {ks fs r₁ s₁ m₁ r₂ s₂ m₂ r s m : List ℕ} {job : Job} {n k₁ k₂ : ℕ} {x : Step} → r₁ ≡ r₂ → s₁ ≡ s₂ → m₁ ≡ m₂ → k₁ ≡ k₂ → Met ks fs r₁ s₁ m₁ r s m job n k₁ x
+    → Met ks fs r₂ s₂ m₂ r s m job n k₂ x
+now i j l o a = rw (sym i, sym j, sym l, sym o) a
 
-module _ {ks fs r₀ s₀ m₀ r₁ s₁ m₁ : List ℕ} {c : Cursor} {w : Way} (t : way-of w ≡ way-at ks fs m₀ (c .at)) where
+module _ {ks fs r₀ s₀ m₀ r₁ s₁ m₁ : List ℕ} {k : ℕ} {c : Cursor} {w : Way} (t : way-of w ≡ way-at ks fs m₀ (c .at)) where
   -- no head is tried
-  pub past-none : w ≡ Way.Pass → r₁ ≡ r₀ → s₁ ≡ s₀ → m₁ ≡ m₀ → Past ks fs r₀ s₀ m₀ r₁ s₁ m₁ c
-  past-none e i j l = record { long = ap length i; deep = ap length j; goes = λ r s m x a. assign-passes t e (now i j l a) }
+  pub past-none : w ≡ Way.Pass → r₁ ≡ r₀ → s₁ ≡ s₀ → m₁ ≡ m₀ → k ≡ c .records → Past ks fs r₀ s₀ m₀ r₁ s₁ m₁ k c
+  past-none e i j l o = record { long = ap length i; deep = ap length j; same = o; goes = λ r s m x a. assign-passes t e (now i j l o a) }
 
-  -- a head that failed is given up: its place is noted
-  pub past-given-up : {r₂ s₂ m₂ : List ℕ} {y : Listed} {p : Cause} → w ≡ Way.Attempt → MetList ks fs r₀ s₀ m₀ r₂ s₂ m₂ (head (c .at)) (c .rows) (c .records) y → y ≡ Listed.Fail p
-      → length r₂ ≡ length r₀ → length s₂ ≡ length s₀ → r₁ ≡ r₂ → s₁ ≡ s₂ → m₁ ≡ set m₂ (c .at) 1 → Past ks fs r₀ s₀ m₀ r₁ s₁ m₁ c
+  -- a head that failed is given up: it is dropped
+  pub past-given-up : {r₂ s₂ m₂ m₃ : List ℕ} {k₃ : ℕ} {y : Listed} {p : Cause} → w ≡ Way.Attempt → MetList ks fs r₀ s₀ m₀ r₂ s₂ m₂ (head (c .at)) (c .rows) (c .records) y → y ≡ Listed.Fail p
+      → Dropped m₂ (c .at) (c .records) m₃ k₃ → length r₂ ≡ length r₀ → length s₂ ≡ length s₀ → r₁ ≡ r₂ → s₁ ≡ s₂ → m₁ ≡ m₃ → k ≡ k₃ → Past ks fs r₀ s₀ m₀ r₁ s₁ m₁ k c
   unfolding way-of
-  past-given-up {r₂} {s₂} {m₂} e a q u v i j l =
+  past-given-up {r₂} {s₂} {m₂} e a q d u v i j l o =
       let g = a .list-fail _ q in
       let w = sym t ∙ ap way-of e in
       record {
         long = ap length i ∙ u;
         deep = ap length j ∙ v;
+        same = o ∙ d .records;
         goes = λ r s m x b.
-            let b′ : Met ks fs r₂ s₂ (set m₂ (c .at) 1) r s m (value (c .at)) (c .rows) (c .records) x = now i j l b in
+            let b′ : Met ks fs r₂ s₂ (set m₂ (c .at) 1) r s m (value (c .at)) (c .rows) (c .records) x = now i j (l ∙ d .noted) (o ∙ d .records) b in
             record {
               done-to = λ d z. let f = b′ .done-to d z in
                   record { trees = f .trees; records = f .records; comes = assignment-gives-up w (g .comes) (f .comes); made = made-again (g .unmade) (f .made) };
@@ -177,5 +180,5 @@ module _ {ks fs r₀ s₀ m₀ r₁ s₁ m₁ : List ℕ} {c : Cursor} {w : Way}
             };
       }
 
-pub past-as : (ks fs r₀ s₀ m₀ r₁ s₁ m₁ : List ℕ) (c : Cursor) → Past ks fs r₀ s₀ m₀ r₁ s₁ m₁ c → Past ks fs r₀ s₀ m₀ r₁ s₁ m₁ c
-past-as ks fs r₀ s₀ m₀ r₁ s₁ m₁ c p = p
+pub past-as : (ks fs r₀ s₀ m₀ r₁ s₁ m₁ : List ℕ) (k : ℕ) (c : Cursor) → Past ks fs r₀ s₀ m₀ r₁ s₁ m₁ k c → Past ks fs r₀ s₀ m₀ r₁ s₁ m₁ k c
+past-as ks fs r₀ s₀ m₀ r₁ s₁ m₁ k c p = p

@@ -15,10 +15,10 @@ use Rattle.parse.proofs.item.Reads as item
 use Rattle.tokens.proofs.kind_at.Reads as kind-at
 
 abbrev Inv-loop : lts.InvT-loop
-Inv-loop kinds flags rows₀ records₀ notes₀ at made said first from here₀ kids₀ rows records notes here kids = ArgsSoFar kinds flags rows₀ records₀ notes₀ first from here₀ rows records notes here kids
+Inv-loop kinds flags rows₀ records₀ notes₀ at made said first from c₀ kids₀ rows records notes c kids = ArgsSoFar kinds flags rows₀ records₀ notes₀ first from c₀ rows records notes c kids
 
 abbrev μ-loop : lts.MeasureT-loop
-μ-loop kinds flags rows₀ records₀ notes₀ at made said first from here₀ kids₀ rows records notes here kids = length kinds - here .at
+μ-loop kinds flags rows₀ records₀ notes₀ at made said first from c₀ kids₀ rows records notes c kids = length kinds - c .at
 
 module _ (t : ℕ) where
   abbrev K : lts.Claims

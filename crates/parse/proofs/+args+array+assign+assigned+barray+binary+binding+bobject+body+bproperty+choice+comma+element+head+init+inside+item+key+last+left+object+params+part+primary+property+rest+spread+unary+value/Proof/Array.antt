@@ -17,10 +17,10 @@ use Rattle.parse.proofs.item.Reads as item
 use Rattle.tokens.proofs.kind_at.Reads as kind-at
 
 abbrev Inv-loop : lts.InvT-loop
-Inv-loop kinds flags rows₀ records₀ notes₀ at made said here₀ kids₀ kind₀ rows records notes here kids kind = ArraySoFar kinds flags rows₀ records₀ notes₀ (cursor at made said) rows records notes here kids kind
+Inv-loop kinds flags rows₀ records₀ notes₀ at made said c₀ kids₀ kind₀ rows records notes c kids kind = ArraySoFar kinds flags rows₀ records₀ notes₀ (cursor at made said) rows records notes c kids kind
 
 abbrev μ-loop : lts.MeasureT-loop
-μ-loop kinds flags rows₀ records₀ notes₀ at made said here₀ kids₀ kind₀ rows records notes here kids kind = length kinds - here .at
+μ-loop kinds flags rows₀ records₀ notes₀ at made said c₀ kids₀ kind₀ rows records notes c kids kind = length kinds - c .at
 
 module _ (t : ℕ) where
   abbrev K : lts.Claims
@@ -89,8 +89,8 @@ module _ (t : ℕ) where
   returns-2 : lts.Need-returns-2 K (array-at t) array.Post Inv-loop μ-loop
   returns-2 c = array-opens (c .before .before .before .before .before .before .before .before .before .before .before .before .before .before .before .before .before .loop .inv) (c .before .before .before .before .before .before .before .before .before .before .before .before .before .before .before .before .kind-at .ensures) (c .before .before .before .before .before .before .before .before .before .before .before .before .before .before .before .if1 .left) (c .before .before .before .before .before .before .before .before .before .before .before .before .before .before .if2 .left) (c .before .before .before .before .before .before .before .before .before .before .item .ensures) (c .before .before .before .before .got .given .1) (c .before .before .kind-at2 .ensures) (c .before .before .before .before .before .before .before .before .before .before .before .before .before .before .before .before .before .before .before .before .before .before .pre .1 .0) (c .before .if3 .left) (c .if4 .taken)
 
-  add-t36 : lts.Need-add-t36 K (array-at t) array.Post Inv-loop μ-loop
-  add-t36 c = omega (arith, c .before .before .before .before .before .before .before .before .before .before .before .before .before .before .before .before .before .loop .inv, c .before .before .before .before .before .before .before .before .before .before .before .before .before .before .before .before .before .before .before .before .before .before .pre, c .before .before .before .before .before .before .before .before .before .before .item .kept, array-moves (c .before .before .before .before .before .before .before .before .before .before .before .before .before .before .before .before .before .loop .inv) (c .before .before .before .before .before .before .before .before .before .before .item .ensures) (c .before .before .before .before .got .given .1))
+  add-c : lts.Need-add-c K (array-at t) array.Post Inv-loop μ-loop
+  add-c c = omega (arith, c .before .before .before .before .before .before .before .before .before .before .before .before .before .before .before .before .before .loop .inv, c .before .before .before .before .before .before .before .before .before .before .before .before .before .before .before .before .before .before .before .before .before .before .pre, c .before .before .before .before .before .before .before .before .before .before .item .kept, array-moves (c .before .before .before .before .before .before .before .before .before .before .before .before .before .before .before .before .before .loop .inv) (c .before .before .before .before .before .before .before .before .before .before .item .ensures) (c .before .before .before .before .got .given .1))
 
   loop-less-2 : lts.Need-loop-less-2 K (array-at t) array.Post Inv-loop μ-loop
   loop-less-2 c = omega (arith, c .before .before .before .before .before .before .before .before .before .before .before .before .before .before .before .before .before .before .loop .inv, c .before .before .before .before .before .before .before .before .before .before .before .before .before .before .before .before .before .before .before .before .before .before .before .pre, c .before .before .before .before .before .before .before .before .before .before .before .item .kept, array-moves (c .before .before .before .before .before .before .before .before .before .before .before .before .before .before .before .before .before .before .loop .inv) (c .before .before .before .before .before .before .before .before .before .before .before .item .ensures) (c .before .before .before .before .before .got .given .1), stands (c .before .before .before .before .before .before .before .before .before .before .before .before .before .before .before .before .before .before .before .before .before .before .before .args .kinds .now) (sym (c .before .before .before .kind-at2 .ensures) ∙ c .before .if4 .left))
@@ -123,4 +123,4 @@ module _ (t : ℕ) where
   returns-4 c = array-closes (c .before .before .before .before .before .before .before .before .before .before .before .before .before .before .before .before .before .before .before .before .loop .inv) (c .before .before .before .before .before .before .before .before .before .before .before .before .before .before .before .before .before .before .before .kind-at .ensures) (c .before .before .before .before .before .before .before .before .before .before .before .before .before .before .before .before .before .before .if1 .left) (c .before .before .before .before .before .before .before .before .before .before .before .before .before .before .before .before .before .if2 .left) (c .before .before .before .before .before .before .before .before .before .before .before .before .before .item .ensures) (c .before .before .before .before .before .before .before .got .given .1) (c .before .before .before .before .before .kind-at2 .ensures) (c .before .before .before .before .if3 .taken) (c .before .before .over2 .ensures)
 
   pub array-closed : {M : Type 1} → lts.Closed K (array-at t) array.Post M
-  array-closed = lts.spec K (array-at t) array.Post Inv-loop μ-loop add-t19 loop-holds kind-at-requires add-over over-requires add-kids leaf-requires loop-less loop-again item-requires enum-known-got enum-told same-length same-length-2 returns kind-at-requires-2 add-over-2 over-requires-2 same-length-3 same-length-4 returns-2 add-t36 loop-less-2 loop-again-2 loop-less-3 loop-again-3 same-length-5 same-length-6 returns-3 same-length-7 same-length-8 returns-4
+  array-closed = lts.spec K (array-at t) array.Post Inv-loop μ-loop add-t19 loop-holds kind-at-requires add-over over-requires add-kids leaf-requires loop-less loop-again item-requires enum-known-got enum-told same-length same-length-2 returns kind-at-requires-2 add-over-2 over-requires-2 same-length-3 same-length-4 returns-2 add-c loop-less-2 loop-again-2 loop-less-3 loop-again-3 same-length-5 same-length-6 returns-3 same-length-7 same-length-8 returns-4

@@ -20,17 +20,17 @@ use Rattle.parse.proofs.last.Reads as last
 use Rattle.tokens.proofs.kind_at.Reads as kind-at
 
 abbrev Inv-loop : lts.InvT-loop
-Inv-loop kinds flags rows₀ records₀ notes₀ at made said here₀ kids₀ rows records notes here kids = BarraySoFar kinds flags rows₀ records₀ notes₀ at here₀ rows records notes here kids
+Inv-loop kinds flags rows₀ records₀ notes₀ at made said c₀ kids₀ rows records notes c kids = BarraySoFar kinds flags rows₀ records₀ notes₀ at c₀ rows records notes c kids
 
 abbrev μ-loop : lts.MeasureT-loop
-μ-loop kinds flags rows₀ records₀ notes₀ at made said here₀ kids₀ rows records notes here kids = length kinds - here .at
+μ-loop kinds flags rows₀ records₀ notes₀ at made said c₀ kids₀ rows records notes c kids = length kinds - c .at
 
 module _ (t : ℕ) where
   abbrev K : lts.Claims
   K = (kind-at.Asked, kind-at.Learnt, over.Asked, over.Learnt, leaf.Asked, leaf.Learnt, last-below t, last.Post, element-below t, element.Post)
 
-  add-t20 : lts.Need-add-t20 K (barray-at t) barray.Post Inv-loop μ-loop
-  add-t20 c = omega (arith, c .before .before .before .before .pre)
+  add-t23 : lts.Need-add-t23 K (barray-at t) barray.Post Inv-loop μ-loop
+  add-t23 c = omega (arith, c .before .before .before .before .pre)
 
   loop-holds : lts.Need-loop-holds K (barray-at t) barray.Post Inv-loop μ-loop
   loop-holds c = barray-starts (c .before .before .before .before .pre .1 .1)
@@ -113,8 +113,8 @@ module _ (t : ℕ) where
   returns-3 : lts.Need-returns-3 K (barray-at t) barray.Post Inv-loop μ-loop
   returns-3 c = barray-opens (c .before .before .before .before .before .before .before .before .before .before .before .before .before .before .before .before .before .before .before .before .before .before .before .pre .1 .0) (c .before .before .before .before .before .before .before .before .before .before .before .before .before .before .before .before .before .before .loop .inv) (c .before .before .before .before .before .before .before .before .before .before .before .before .before .before .before .before .before .kind-at .ensures) (c .before .before .before .before .before .before .before .before .before .before .before .before .before .before .before .before .if1 .left) (c .before .before .before .before .before .before .before .before .before .before .before .before .before .before .before .if2 .left) (c .before .before .before .before .before .before .before .before .before .before .before .before .before .before .if3 .left) (c .before .before .before .before .before .before .before .before .before .before .element .ensures) (c .before .before .before .before .got2 .given .1) (c .before .before .kind-at2 .ensures) (c .before .if4 .left) (c .if5 .taken)
 
-  add-t44 : lts.Need-add-t44 K (barray-at t) barray.Post Inv-loop μ-loop
-  add-t44 c = omega (arith, c .before .before .before .before .before .before .before .before .before .before .before .before .before .before .before .before .before .before .loop .inv, c .before .before .before .before .before .before .before .before .before .before .before .before .before .before .before .before .before .before .before .before .before .before .before .pre, c .before .before .before .before .before .before .before .before .before .before .element .kept, moved _ (c .before .before .before .before .before .before .before .before .before .before .element .ensures .done-to _ (c .before .before .before .before .got2 .given .1)) refl)
+  add-c : lts.Need-add-c K (barray-at t) barray.Post Inv-loop μ-loop
+  add-c c = omega (arith, c .before .before .before .before .before .before .before .before .before .before .before .before .before .before .before .before .before .before .loop .inv, c .before .before .before .before .before .before .before .before .before .before .before .before .before .before .before .before .before .before .before .before .before .before .before .pre, c .before .before .before .before .before .before .before .before .before .before .element .kept, moved _ (c .before .before .before .before .before .before .before .before .before .before .element .ensures .done-to _ (c .before .before .before .before .got2 .given .1)) refl)
 
   loop-less-2 : lts.Need-loop-less-2 K (barray-at t) barray.Post Inv-loop μ-loop
   loop-less-2 c = omega (arith, c .before .before .before .before .before .before .before .before .before .before .before .before .before .before .before .before .before .before .loop .inv, c .before .before .before .before .before .before .before .before .before .before .before .before .before .before .before .before .before .before .before .before .before .before .before .pre, c .before .before .before .before .before .before .before .before .before .before .element .kept, moved _ (c .before .before .before .before .before .before .before .before .before .before .element .ensures .done-to _ (c .before .before .before .before .got2 .given .1)) refl, stands (c .before .before .before .before .before .before .before .before .before .before .before .before .before .before .before .before .before .before .before .before .before .before .before .args .kinds .now) (sym (c .before .before .kind-at2 .ensures) ∙ c .if5 .left))
@@ -150,4 +150,4 @@ module _ (t : ℕ) where
   returns-6 c = barray-last (c .before .before .before .before .before .before .before .before .before .before .before .before .before .before .before .before .before .before .before .before .before .before .before .before .before .before .pre .1 .0) (c .before .before .before .before .before .before .before .before .before .before .before .before .before .before .before .before .before .before .before .before .before .loop .inv) (c .before .before .before .before .before .before .before .before .before .before .before .before .before .before .before .before .before .before .before .before .kind-at .ensures) (c .before .before .before .before .before .before .before .before .before .before .before .before .before .before .before .before .before .before .before .if1 .left) (c .before .before .before .before .before .before .before .before .before .before .before .before .before .before .before .before .before .before .if2 .left) (c .before .before .before .before .before .before .before .before .before .before .before .before .before .before .before .before .before .if3 .left) (c .before .before .before .before .before .before .before .before .before .before .before .before .before .element .ensures) (c .before .before .before .before .before .before .before .got2 .given .1) (c .before .before .before .before .before .kind-at2 .ensures) (c .before .before .before .before .if4 .taken) (c .before .before .over3 .ensures)
 
   pub barray-closed : {M : Type 1} → lts.Closed K (barray-at t) barray.Post M
-  barray-closed = lts.spec K (barray-at t) barray.Post Inv-loop μ-loop add-t20 loop-holds kind-at-requires add-over over-requires add-kids leaf-requires loop-less loop-again last-requires enum-known-got enum-told same-length same-length-2 returns over-requires-2 element-requires enum-known-got-2 enum-told-2 same-length-3 same-length-4 returns-2 kind-at-requires-2 add-over-2 over-requires-3 same-length-5 same-length-6 returns-3 add-t44 loop-less-2 loop-again-2 same-length-7 same-length-8 returns-4 same-length-9 same-length-10 returns-5 same-length-11 same-length-12 returns-6
+  barray-closed = lts.spec K (barray-at t) barray.Post Inv-loop μ-loop add-t23 loop-holds kind-at-requires add-over over-requires add-kids leaf-requires loop-less loop-again last-requires enum-known-got enum-told same-length same-length-2 returns over-requires-2 element-requires enum-known-got-2 enum-told-2 same-length-3 same-length-4 returns-2 kind-at-requires-2 add-over-2 over-requires-3 same-length-5 same-length-6 returns-3 add-c loop-less-2 loop-again-2 same-length-7 same-length-8 returns-4 same-length-9 same-length-10 returns-5 same-length-11 same-length-12 returns-6

@@ -17,10 +17,10 @@ use Rattle.parse.proofs.unary.Reads as unary
 use Rattle.tokens.proofs.kind_at.Reads as kind-at
 
 abbrev Inv-loop : lts.InvT-loop
-Inv-loop kinds flags rows₁ records₁ notes₁ at made said floor here₁ mark₁ operator₁ rows records notes here mark operator = Grouping kinds flags rows₁ records₁ notes₁ floor at made here₁ rows records notes here mark operator
+Inv-loop kinds flags rows₁ records₁ notes₁ at made said floor c₁ mark₁ operator₁ rows records notes c mark operator = Grouping kinds flags rows₁ records₁ notes₁ floor at made c₁ rows records notes c mark operator
 
 abbrev μ-loop : lts.MeasureT-loop
-μ-loop kinds flags rows₁ records₁ notes₁ at made said floor here₁ mark₁ operator₁ rows records notes here mark operator = length kinds - mark
+μ-loop kinds flags rows₁ records₁ notes₁ at made said floor c₁ mark₁ operator₁ rows records notes c mark operator = length kinds - mark
 
 module _ (t : ℕ) where
   abbrev K : lts.Claims

@@ -18,17 +18,17 @@ use Rattle.rows.proofs.row_word.Reads as row-word
 use Rattle.tokens.proofs.kind_at.Reads as kind-at
 
 abbrev Inv-loop : lts.InvT-loop
-Inv-loop kinds flags rows₀ records₀ notes₀ at made said here₀ kids₀ rows records notes here kids = BobjectSoFar kinds flags rows₀ records₀ notes₀ at here₀ rows records notes here kids
+Inv-loop kinds flags rows₀ records₀ notes₀ at made said c₀ kids₀ rows records notes c kids = BobjectSoFar kinds flags rows₀ records₀ notes₀ at c₀ rows records notes c kids
 
 abbrev μ-loop : lts.MeasureT-loop
-μ-loop kinds flags rows₀ records₀ notes₀ at made said here₀ kids₀ rows records notes here kids = length kinds - here .at
+μ-loop kinds flags rows₀ records₀ notes₀ at made said c₀ kids₀ rows records notes c kids = length kinds - c .at
 
 module _ (t : ℕ) where
   abbrev K : lts.Claims
   K = (kind-at.Asked, kind-at.Learnt, over.Asked, over.Learnt, last-below t, last.Post, row-word.Asked, row-word.Learnt, bproperty-below t, bproperty.Post)
 
-  add-t20 : lts.Need-add-t20 K (bobject-at t) bobject.Post Inv-loop μ-loop
-  add-t20 c = omega (arith, c .before .before .before .before .pre)
+  add-t23 : lts.Need-add-t23 K (bobject-at t) bobject.Post Inv-loop μ-loop
+  add-t23 c = omega (arith, c .before .before .before .before .pre)
 
   loop-holds : lts.Need-loop-holds K (bobject-at t) bobject.Post Inv-loop μ-loop
   loop-holds c = bobject-starts (c .before .before .before .before .pre .1 .1)
@@ -69,8 +69,8 @@ module _ (t : ℕ) where
   row-word-requires : lts.Need-row-word-requires K (bobject-at t) bobject.Post Inv-loop μ-loop
   row-word-requires c κs = search needs
 
-  add-t36 : lts.Need-add-t36 K (bobject-at t) bobject.Post Inv-loop μ-loop
-  add-t36 c = omega (arith, c .before .before .before .before .before .before .before .before .before .before .before .before .before .before .before .before .before .before .loop .inv, c .before .before .before .before .before .before .before .before .before .before .before .before .before .before .before .before .before .before .before .before .before .before .before .pre, stands (c .before .before .before .before .before .before .before .before .before .before .before .before .before .before .before .before .before .before .before .before .before .before .before .args .kinds .now) (sym (c .before .before .before .before .before .before .before .before .before .before .before .before .before .before .before .before .before .kind-at .ensures) ∙ c .before .before .before .before .before .before .before .before .before .before .before .before .before .before .before .if2 .taken), c .before .before .before .before .before .before .before .before .before .before .before .last .kept, closed-after (c .before .before .before .before .before .before .before .before .before .before .before .last .ensures .closed-to _ (c .before .before .before .before .before .got .given .1)) (omega arith), named-rest (c .before .before .before .before .before .before .before .before .before .before .before .last .ensures) (c .before .before .before .before .before .got .given .1) .two)
+  add-t39 : lts.Need-add-t39 K (bobject-at t) bobject.Post Inv-loop μ-loop
+  add-t39 c = omega (arith, c .before .before .before .before .before .before .before .before .before .before .before .before .before .before .before .before .before .before .loop .inv, c .before .before .before .before .before .before .before .before .before .before .before .before .before .before .before .before .before .before .before .before .before .before .before .pre, stands (c .before .before .before .before .before .before .before .before .before .before .before .before .before .before .before .before .before .before .before .before .before .before .before .args .kinds .now) (sym (c .before .before .before .before .before .before .before .before .before .before .before .before .before .before .before .before .before .kind-at .ensures) ∙ c .before .before .before .before .before .before .before .before .before .before .before .before .before .before .before .if2 .taken), c .before .before .before .before .before .before .before .before .before .before .before .last .kept, closed-after (c .before .before .before .before .before .before .before .before .before .before .before .last .ensures .closed-to _ (c .before .before .before .before .before .got .given .1)) (omega arith), named-rest (c .before .before .before .before .before .before .before .before .before .before .before .last .ensures) (c .before .before .before .before .before .got .given .1) .two)
 
   same-length-3 : lts.Need-same-length-3 K (bobject-at t) bobject.Post Inv-loop μ-loop
   same-length-3 c = omega (arith, c .before .before .before .before .before .before .before .before .before .before .before .before .before .before .before .before .before .before .loop .inv, c .before .before .before .before .before .before .before .before .before .before .before .before .before .before .before .before .before .before .before .before .before .before .before .pre, stands (c .before .before .before .before .before .before .before .before .before .before .before .before .before .before .before .before .before .before .before .before .before .before .before .args .kinds .now) (sym (c .before .before .before .before .before .before .before .before .before .before .before .before .before .before .before .before .before .kind-at .ensures) ∙ c .before .before .before .before .before .before .before .before .before .before .before .before .before .before .before .if2 .taken), c .before .before .before .before .before .before .before .before .before .before .before .last .kept, closed-after (c .before .before .before .before .before .before .before .before .before .before .before .last .ensures .closed-to _ (c .before .before .before .before .before .got .given .1)) (omega arith), named-rest (c .before .before .before .before .before .before .before .before .before .before .before .last .ensures) (c .before .before .before .before .before .got .given .1) .two)
@@ -120,8 +120,8 @@ module _ (t : ℕ) where
   returns-4 : lts.Need-returns-4 K (bobject-at t) bobject.Post Inv-loop μ-loop
   returns-4 c = bobject-opens (c .before .before .before .before .before .before .before .before .before .before .before .before .before .before .before .before .before .before .before .before .before .before .pre .1 .0) (c .before .before .before .before .before .before .before .before .before .before .before .before .before .before .before .before .before .loop .inv) (c .before .before .before .before .before .before .before .before .before .before .before .before .before .before .before .before .kind-at .ensures) (c .before .before .before .before .before .before .before .before .before .before .before .before .before .before .before .if1 .left) (c .before .before .before .before .before .before .before .before .before .before .before .before .before .before .if2 .left) (c .before .before .before .before .before .before .before .before .before .before .bproperty .ensures) (c .before .before .before .before .got2 .given .1) (c .before .before .kind-at2 .ensures) (c .before .if4 .left) (c .if5 .taken)
 
-  add-t49 : lts.Need-add-t49 K (bobject-at t) bobject.Post Inv-loop μ-loop
-  add-t49 c = omega (arith, c .before .before .before .before .before .before .before .before .before .before .before .before .before .before .before .before .before .loop .inv, c .before .before .before .before .before .before .before .before .before .before .before .before .before .before .before .before .before .before .before .before .before .before .pre, c .before .before .before .before .before .before .before .before .before .before .bproperty .kept, property-moves (c .before .before .before .before .before .before .before .before .before .before .bproperty .ensures) (c .before .before .before .before .got2 .given .1))
+  add-c : lts.Need-add-c K (bobject-at t) bobject.Post Inv-loop μ-loop
+  add-c c = omega (arith, c .before .before .before .before .before .before .before .before .before .before .before .before .before .before .before .before .before .loop .inv, c .before .before .before .before .before .before .before .before .before .before .before .before .before .before .before .before .before .before .before .before .before .before .pre, c .before .before .before .before .before .before .before .before .before .before .bproperty .kept, property-moves (c .before .before .before .before .before .before .before .before .before .before .bproperty .ensures) (c .before .before .before .before .got2 .given .1))
 
   loop-less : lts.Need-loop-less K (bobject-at t) bobject.Post Inv-loop μ-loop
   loop-less c = omega (arith, c .before .before .before .before .before .before .before .before .before .before .before .before .before .before .before .before .before .loop .inv, c .before .before .before .before .before .before .before .before .before .before .before .before .before .before .before .before .before .before .before .before .before .before .pre, c .before .before .before .before .before .before .before .before .before .before .bproperty .kept, property-moves (c .before .before .before .before .before .before .before .before .before .before .bproperty .ensures) (c .before .before .before .before .got2 .given .1), stands (c .before .before .before .before .before .before .before .before .before .before .before .before .before .before .before .before .before .before .before .before .before .before .args .kinds .now) (sym (c .before .before .kind-at2 .ensures) ∙ c .if5 .left))
@@ -157,4 +157,4 @@ module _ (t : ℕ) where
   returns-7 c = bobject-last (c .before .before .before .before .before .before .before .before .before .before .before .before .before .before .before .before .before .before .before .before .before .before .before .before .before .pre .1 .0) (c .before .before .before .before .before .before .before .before .before .before .before .before .before .before .before .before .before .before .before .before .loop .inv) (c .before .before .before .before .before .before .before .before .before .before .before .before .before .before .before .before .before .before .before .kind-at .ensures) (c .before .before .before .before .before .before .before .before .before .before .before .before .before .before .before .before .before .before .if1 .left) (c .before .before .before .before .before .before .before .before .before .before .before .before .before .before .before .before .before .if2 .left) (c .before .before .before .before .before .before .before .before .before .before .before .before .before .bproperty .ensures) (c .before .before .before .before .before .before .before .got2 .given .1) (c .before .before .before .before .before .kind-at2 .ensures) (c .before .before .before .before .if4 .taken) (c .before .before .over3 .ensures)
 
   pub bobject-closed : {M : Type 1} → lts.Closed K (bobject-at t) bobject.Post M
-  bobject-closed = lts.spec K (bobject-at t) bobject.Post Inv-loop μ-loop add-t20 loop-holds kind-at-requires add-over over-requires add-kids last-requires enum-known-got enum-told same-length same-length-2 returns sub-row-word row-word-requires add-t36 same-length-3 same-length-4 returns-2 over-requires-2 bproperty-requires enum-known-got-2 enum-told-2 same-length-5 same-length-6 returns-3 kind-at-requires-2 add-over-2 over-requires-3 same-length-7 same-length-8 returns-4 add-t49 loop-less loop-again same-length-9 same-length-10 returns-5 same-length-11 same-length-12 returns-6 same-length-13 same-length-14 returns-7
+  bobject-closed = lts.spec K (bobject-at t) bobject.Post Inv-loop μ-loop add-t23 loop-holds kind-at-requires add-over over-requires add-kids last-requires enum-known-got enum-told same-length same-length-2 returns sub-row-word row-word-requires add-t39 same-length-3 same-length-4 returns-2 over-requires-2 bproperty-requires enum-known-got-2 enum-told-2 same-length-5 same-length-6 returns-3 kind-at-requires-2 add-over-2 over-requires-3 same-length-7 same-length-8 returns-4 add-c loop-less loop-again same-length-9 same-length-10 returns-5 same-length-11 same-length-12 returns-6 same-length-13 same-length-14 returns-7

@@ -44,7 +44,7 @@ module _ (t : ℕ) where
   say-requires c κs = omega (arith, c .before .before .before .before .before .before .before .before .before .pre)
 
   assign-requires : lts.Need-assign-requires K (body-at t) body.Post
-  assign-requires c κs = omega (arith, c .before .before .before .before .before .before .before .before .before .before .before .pre, breaks-as (c .before .before .before .before .before .before .before .before .before .before .before .args .flags .now) (c .before .before .before .before .before .before .before .before .before .before .before .args .records .now) (cursor (c .before .before .before .before .before .before .before .before .before .before .before .args .at) (c .before .before .before .before .before .before .before .before .before .before .before .args .made) (c .before .before .before .before .before .before .before .before .before .before .before .args .said)) (c .before .before .before .if2 .records) (c .before .before .before .if2 .next) (⊎-elim (λ w. breaks (c .before .before .before .before .flag-at .ensures) (w .0 .taken) (w .2 .ensures) (omega (arith, w .2 .kept)) (w .5) (w .6)) (λ w. no-break (c .before .before .before .before .flag-at .ensures) (w .0 .left) (w .1) (w .2)) (c .before .before .before .if2 .came)))
+  assign-requires c κs = omega (arith, c .before .before .before .before .before .before .before .before .before .before .before .pre, breaks-as (c .before .before .before .before .before .before .before .before .before .before .before .args .flags .now) (c .before .before .before .before .before .before .before .before .before .before .before .args .records .now) (cursor (c .before .before .before .before .before .before .before .before .before .before .before .args .at) (c .before .before .before .before .before .before .before .before .before .before .before .args .made) (c .before .before .before .before .before .before .before .before .before .before .before .args .said)) (c .before .before .before .if2 .records) (c .before .before .before .if2 .c) (⊎-elim (λ w. breaks (c .before .before .before .before .flag-at .ensures) (w .0 .taken) (w .2 .ensures) (omega (arith, w .2 .kept)) (w .5) (w .6)) (λ w. no-break (c .before .before .before .before .flag-at .ensures) (w .0 .left) (w .1) (w .2)) (c .before .before .before .if2 .came)))
 
   enum-known-got : lts.Need-enum-known-got K (body-at t) body.Post
   enum-known-got c = search needs
@@ -53,25 +53,25 @@ module _ (t : ℕ) where
   enum-told c = search needs
 
   same-length : lts.Need-same-length K (body-at t) body.Post
-  same-length c = omega (arith, c .before .before .before .before .before .before .before .before .before .before .before .before .before .before .before .before .before .before .pre, breaks-as (c .before .before .before .before .before .before .before .before .before .before .before .before .before .before .before .before .before .before .args .flags .now) (c .before .before .before .before .before .before .before .before .before .before .before .before .before .before .before .before .before .before .args .records .now) (cursor (c .before .before .before .before .before .before .before .before .before .before .before .before .before .before .before .before .before .before .args .at) (c .before .before .before .before .before .before .before .before .before .before .before .before .before .before .before .before .before .before .args .made) (c .before .before .before .before .before .before .before .before .before .before .before .before .before .before .before .before .before .before .args .said)) (c .before .before .before .before .before .before .before .before .before .before .if2 .records) (c .before .before .before .before .before .before .before .before .before .before .if2 .next) (⊎-elim (λ w. breaks (c .before .before .before .before .before .before .before .before .before .before .before .flag-at .ensures) (w .0 .taken) (w .2 .ensures) (omega (arith, w .2 .kept)) (w .5) (w .6)) (λ w. no-break (c .before .before .before .before .before .before .before .before .before .before .before .flag-at .ensures) (w .0 .left) (w .1) (w .2)) (c .before .before .before .before .before .before .before .before .before .before .if2 .came)), c .before .before .before .before .before .before .assign .kept)
+  same-length c = omega (arith, c .before .before .before .before .before .before .before .before .before .before .before .before .before .before .before .before .before .before .pre, breaks-as (c .before .before .before .before .before .before .before .before .before .before .before .before .before .before .before .before .before .before .args .flags .now) (c .before .before .before .before .before .before .before .before .before .before .before .before .before .before .before .before .before .before .args .records .now) (cursor (c .before .before .before .before .before .before .before .before .before .before .before .before .before .before .before .before .before .before .args .at) (c .before .before .before .before .before .before .before .before .before .before .before .before .before .before .before .before .before .before .args .made) (c .before .before .before .before .before .before .before .before .before .before .before .before .before .before .before .before .before .before .args .said)) (c .before .before .before .before .before .before .before .before .before .before .if2 .records) (c .before .before .before .before .before .before .before .before .before .before .if2 .c) (⊎-elim (λ w. breaks (c .before .before .before .before .before .before .before .before .before .before .before .flag-at .ensures) (w .0 .taken) (w .2 .ensures) (omega (arith, w .2 .kept)) (w .5) (w .6)) (λ w. no-break (c .before .before .before .before .before .before .before .before .before .before .before .flag-at .ensures) (w .0 .left) (w .1) (w .2)) (c .before .before .before .before .before .before .before .before .before .before .if2 .came)), c .before .before .before .before .before .before .assign .kept)
 
   same-length-2 : lts.Need-same-length-2 K (body-at t) body.Post
-  same-length-2 c = omega (arith, c .before .before .before .before .before .before .before .before .before .before .before .before .before .before .before .before .before .before .pre, breaks-as (c .before .before .before .before .before .before .before .before .before .before .before .before .before .before .before .before .before .before .args .flags .now) (c .before .before .before .before .before .before .before .before .before .before .before .before .before .before .before .before .before .before .args .records .now) (cursor (c .before .before .before .before .before .before .before .before .before .before .before .before .before .before .before .before .before .before .args .at) (c .before .before .before .before .before .before .before .before .before .before .before .before .before .before .before .before .before .before .args .made) (c .before .before .before .before .before .before .before .before .before .before .before .before .before .before .before .before .before .before .args .said)) (c .before .before .before .before .before .before .before .before .before .before .if2 .records) (c .before .before .before .before .before .before .before .before .before .before .if2 .next) (⊎-elim (λ w. breaks (c .before .before .before .before .before .before .before .before .before .before .before .flag-at .ensures) (w .0 .taken) (w .2 .ensures) (omega (arith, w .2 .kept)) (w .5) (w .6)) (λ w. no-break (c .before .before .before .before .before .before .before .before .before .before .before .flag-at .ensures) (w .0 .left) (w .1) (w .2)) (c .before .before .before .before .before .before .before .before .before .before .if2 .came)), c .before .before .before .before .before .before .assign .kept)
+  same-length-2 c = omega (arith, c .before .before .before .before .before .before .before .before .before .before .before .before .before .before .before .before .before .before .pre, breaks-as (c .before .before .before .before .before .before .before .before .before .before .before .before .before .before .before .before .before .before .args .flags .now) (c .before .before .before .before .before .before .before .before .before .before .before .before .before .before .before .before .before .before .args .records .now) (cursor (c .before .before .before .before .before .before .before .before .before .before .before .before .before .before .before .before .before .before .args .at) (c .before .before .before .before .before .before .before .before .before .before .before .before .before .before .before .before .before .before .args .made) (c .before .before .before .before .before .before .before .before .before .before .before .before .before .before .before .before .before .before .args .said)) (c .before .before .before .before .before .before .before .before .before .before .if2 .records) (c .before .before .before .before .before .before .before .before .before .before .if2 .c) (⊎-elim (λ w. breaks (c .before .before .before .before .before .before .before .before .before .before .before .flag-at .ensures) (w .0 .taken) (w .2 .ensures) (omega (arith, w .2 .kept)) (w .5) (w .6)) (λ w. no-break (c .before .before .before .before .before .before .before .before .before .before .before .flag-at .ensures) (w .0 .left) (w .1) (w .2)) (c .before .before .before .before .before .before .before .before .before .before .if2 .came)), c .before .before .before .before .before .before .assign .kept)
 
   returns-2 : lts.Need-returns-2 K (body-at t) body.Post
   returns-2 c = body-refused (c .before .before .before .before .before .before .before .before .before .before .before .before .before .before .before .before .before .before .pre .1 .0) (c .before .before .before .before .before .before .before .before .before .before .before .before .before .before .before .before .before .before .pre .1 .1) refl (eqb-false _ _ (sym (c .before .before .before .before .before .before .before .before .before .before .before .before .before .is-block .ensures) ∙ c .before .before .before .before .before .before .before .before .before .before .before .before .if1 .left)) (⊎-elim (λ w. breaks (c .before .before .before .before .before .before .before .before .before .before .before .flag-at .ensures) (w .0 .taken) (w .2 .ensures) (omega (arith, w .2 .kept)) (w .5) (w .6)) (λ w. no-break (c .before .before .before .before .before .before .before .before .before .before .before .flag-at .ensures) (w .0 .left) (w .1) (w .2)) (c .before .before .before .before .before .before .before .before .before .before .if2 .came)) (c .before .before .before .before .before .before .assign .ensures) (c .enum-told .given .1)
 
   add-over-2 : lts.Need-add-over-2 K (body-at t) body.Post
-  add-over-2 c = omega (arith, c .before .before .before .before .before .before .before .before .before .before .before .before .before .before .before .before .before .before .before .before .before .pre, breaks-as (c .before .before .before .before .before .before .before .before .before .before .before .before .before .before .before .before .before .before .before .before .before .args .flags .now) (c .before .before .before .before .before .before .before .before .before .before .before .before .before .before .before .before .before .before .before .before .before .args .records .now) (cursor (c .before .before .before .before .before .before .before .before .before .before .before .before .before .before .before .before .before .before .before .before .before .args .at) (c .before .before .before .before .before .before .before .before .before .before .before .before .before .before .before .before .before .before .before .before .before .args .made) (c .before .before .before .before .before .before .before .before .before .before .before .before .before .before .before .before .before .before .before .before .before .args .said)) (c .before .before .before .before .before .before .before .before .before .before .before .before .before .if2 .records) (c .before .before .before .before .before .before .before .before .before .before .before .before .before .if2 .next) (⊎-elim (λ w. breaks (c .before .before .before .before .before .before .before .before .before .before .before .before .before .before .flag-at .ensures) (w .0 .taken) (w .2 .ensures) (omega (arith, w .2 .kept)) (w .5) (w .6)) (λ w. no-break (c .before .before .before .before .before .before .before .before .before .before .before .before .before .before .flag-at .ensures) (w .0 .left) (w .1) (w .2)) (c .before .before .before .before .before .before .before .before .before .before .before .before .before .if2 .came)), c .before .before .before .before .before .before .before .before .before .assign .kept, moved _ (c .before .before .before .before .before .before .before .before .before .assign .ensures .done-to _ (c .before .before .before .got .given .1)) refl)
+  add-over-2 c = omega (arith, c .before .before .before .before .before .before .before .before .before .before .before .before .before .before .before .before .before .before .before .before .before .pre, breaks-as (c .before .before .before .before .before .before .before .before .before .before .before .before .before .before .before .before .before .before .before .before .before .args .flags .now) (c .before .before .before .before .before .before .before .before .before .before .before .before .before .before .before .before .before .before .before .before .before .args .records .now) (cursor (c .before .before .before .before .before .before .before .before .before .before .before .before .before .before .before .before .before .before .before .before .before .args .at) (c .before .before .before .before .before .before .before .before .before .before .before .before .before .before .before .before .before .before .before .before .before .args .made) (c .before .before .before .before .before .before .before .before .before .before .before .before .before .before .before .before .before .before .before .before .before .args .said)) (c .before .before .before .before .before .before .before .before .before .before .before .before .before .if2 .records) (c .before .before .before .before .before .before .before .before .before .before .before .before .before .if2 .c) (⊎-elim (λ w. breaks (c .before .before .before .before .before .before .before .before .before .before .before .before .before .before .flag-at .ensures) (w .0 .taken) (w .2 .ensures) (omega (arith, w .2 .kept)) (w .5) (w .6)) (λ w. no-break (c .before .before .before .before .before .before .before .before .before .before .before .before .before .before .flag-at .ensures) (w .0 .left) (w .1) (w .2)) (c .before .before .before .before .before .before .before .before .before .before .before .before .before .if2 .came)), c .before .before .before .before .before .before .before .before .before .assign .kept, moved _ (c .before .before .before .before .before .before .before .before .before .assign .ensures .done-to _ (c .before .before .before .got .given .1)) refl)
 
   over-requires : lts.Need-over-requires K (body-at t) body.Post
-  over-requires c κs = omega (arith, c .before .before .before .before .before .before .before .before .before .before .before .before .before .before .before .before .before .before .before .before .before .pre, breaks-as (c .before .before .before .before .before .before .before .before .before .before .before .before .before .before .before .before .before .before .before .before .before .args .flags .now) (c .before .before .before .before .before .before .before .before .before .before .before .before .before .before .before .before .before .before .before .before .before .args .records .now) (cursor (c .before .before .before .before .before .before .before .before .before .before .before .before .before .before .before .before .before .before .before .before .before .args .at) (c .before .before .before .before .before .before .before .before .before .before .before .before .before .before .before .before .before .before .before .before .before .args .made) (c .before .before .before .before .before .before .before .before .before .before .before .before .before .before .before .before .before .before .before .before .before .args .said)) (c .before .before .before .before .before .before .before .before .before .before .before .before .before .if2 .records) (c .before .before .before .before .before .before .before .before .before .before .before .before .before .if2 .next) (⊎-elim (λ w. breaks (c .before .before .before .before .before .before .before .before .before .before .before .before .before .before .flag-at .ensures) (w .0 .taken) (w .2 .ensures) (omega (arith, w .2 .kept)) (w .5) (w .6)) (λ w. no-break (c .before .before .before .before .before .before .before .before .before .before .before .before .before .before .flag-at .ensures) (w .0 .left) (w .1) (w .2)) (c .before .before .before .before .before .before .before .before .before .before .before .before .before .if2 .came)), c .before .before .before .before .before .before .before .before .before .assign .kept, moved _ (c .before .before .before .before .before .before .before .before .before .assign .ensures .done-to _ (c .before .before .before .got .given .1)) refl)
+  over-requires c κs = omega (arith, c .before .before .before .before .before .before .before .before .before .before .before .before .before .before .before .before .before .before .before .before .before .pre, breaks-as (c .before .before .before .before .before .before .before .before .before .before .before .before .before .before .before .before .before .before .before .before .before .args .flags .now) (c .before .before .before .before .before .before .before .before .before .before .before .before .before .before .before .before .before .before .before .before .before .args .records .now) (cursor (c .before .before .before .before .before .before .before .before .before .before .before .before .before .before .before .before .before .before .before .before .before .args .at) (c .before .before .before .before .before .before .before .before .before .before .before .before .before .before .before .before .before .before .before .before .before .args .made) (c .before .before .before .before .before .before .before .before .before .before .before .before .before .before .before .before .before .before .before .before .before .args .said)) (c .before .before .before .before .before .before .before .before .before .before .before .before .before .if2 .records) (c .before .before .before .before .before .before .before .before .before .before .before .before .before .if2 .c) (⊎-elim (λ w. breaks (c .before .before .before .before .before .before .before .before .before .before .before .before .before .before .flag-at .ensures) (w .0 .taken) (w .2 .ensures) (omega (arith, w .2 .kept)) (w .5) (w .6)) (λ w. no-break (c .before .before .before .before .before .before .before .before .before .before .before .before .before .before .flag-at .ensures) (w .0 .left) (w .1) (w .2)) (c .before .before .before .before .before .before .before .before .before .before .before .before .before .if2 .came)), c .before .before .before .before .before .before .before .before .before .assign .kept, moved _ (c .before .before .before .before .before .before .before .before .before .assign .ensures .done-to _ (c .before .before .before .got .given .1)) refl)
 
   same-length-3 : lts.Need-same-length-3 K (body-at t) body.Post
-  same-length-3 c = omega (arith, c .before .before .before .before .before .before .before .before .before .before .before .before .before .before .before .before .before .before .before .before .before .before .before .before .pre, breaks-as (c .before .before .before .before .before .before .before .before .before .before .before .before .before .before .before .before .before .before .before .before .before .before .before .before .args .flags .now) (c .before .before .before .before .before .before .before .before .before .before .before .before .before .before .before .before .before .before .before .before .before .before .before .before .args .records .now) (cursor (c .before .before .before .before .before .before .before .before .before .before .before .before .before .before .before .before .before .before .before .before .before .before .before .before .args .at) (c .before .before .before .before .before .before .before .before .before .before .before .before .before .before .before .before .before .before .before .before .before .before .before .before .args .made) (c .before .before .before .before .before .before .before .before .before .before .before .before .before .before .before .before .before .before .before .before .before .before .before .before .args .said)) (c .before .before .before .before .before .before .before .before .before .before .before .before .before .before .before .before .if2 .records) (c .before .before .before .before .before .before .before .before .before .before .before .before .before .before .before .before .if2 .next) (⊎-elim (λ w. breaks (c .before .before .before .before .before .before .before .before .before .before .before .before .before .before .before .before .before .flag-at .ensures) (w .0 .taken) (w .2 .ensures) (omega (arith, w .2 .kept)) (w .5) (w .6)) (λ w. no-break (c .before .before .before .before .before .before .before .before .before .before .before .before .before .before .before .before .before .flag-at .ensures) (w .0 .left) (w .1) (w .2)) (c .before .before .before .before .before .before .before .before .before .before .before .before .before .before .before .before .if2 .came)), c .before .before .before .before .before .before .before .before .before .before .before .before .assign .kept, moved _ (c .before .before .before .before .before .before .before .before .before .before .before .before .assign .ensures .done-to _ (c .before .before .before .before .before .before .got .given .1)) refl)
+  same-length-3 c = omega (arith, c .before .before .before .before .before .before .before .before .before .before .before .before .before .before .before .before .before .before .before .before .before .before .before .before .pre, breaks-as (c .before .before .before .before .before .before .before .before .before .before .before .before .before .before .before .before .before .before .before .before .before .before .before .before .args .flags .now) (c .before .before .before .before .before .before .before .before .before .before .before .before .before .before .before .before .before .before .before .before .before .before .before .before .args .records .now) (cursor (c .before .before .before .before .before .before .before .before .before .before .before .before .before .before .before .before .before .before .before .before .before .before .before .before .args .at) (c .before .before .before .before .before .before .before .before .before .before .before .before .before .before .before .before .before .before .before .before .before .before .before .before .args .made) (c .before .before .before .before .before .before .before .before .before .before .before .before .before .before .before .before .before .before .before .before .before .before .before .before .args .said)) (c .before .before .before .before .before .before .before .before .before .before .before .before .before .before .before .before .if2 .records) (c .before .before .before .before .before .before .before .before .before .before .before .before .before .before .before .before .if2 .c) (⊎-elim (λ w. breaks (c .before .before .before .before .before .before .before .before .before .before .before .before .before .before .before .before .before .flag-at .ensures) (w .0 .taken) (w .2 .ensures) (omega (arith, w .2 .kept)) (w .5) (w .6)) (λ w. no-break (c .before .before .before .before .before .before .before .before .before .before .before .before .before .before .before .before .before .flag-at .ensures) (w .0 .left) (w .1) (w .2)) (c .before .before .before .before .before .before .before .before .before .before .before .before .before .before .before .before .if2 .came)), c .before .before .before .before .before .before .before .before .before .before .before .before .assign .kept, moved _ (c .before .before .before .before .before .before .before .before .before .before .before .before .assign .ensures .done-to _ (c .before .before .before .before .before .before .got .given .1)) refl)
 
   same-length-4 : lts.Need-same-length-4 K (body-at t) body.Post
-  same-length-4 c = omega (arith, c .before .before .before .before .before .before .before .before .before .before .before .before .before .before .before .before .before .before .before .before .before .before .before .before .pre, breaks-as (c .before .before .before .before .before .before .before .before .before .before .before .before .before .before .before .before .before .before .before .before .before .before .before .before .args .flags .now) (c .before .before .before .before .before .before .before .before .before .before .before .before .before .before .before .before .before .before .before .before .before .before .before .before .args .records .now) (cursor (c .before .before .before .before .before .before .before .before .before .before .before .before .before .before .before .before .before .before .before .before .before .before .before .before .args .at) (c .before .before .before .before .before .before .before .before .before .before .before .before .before .before .before .before .before .before .before .before .before .before .before .before .args .made) (c .before .before .before .before .before .before .before .before .before .before .before .before .before .before .before .before .before .before .before .before .before .before .before .before .args .said)) (c .before .before .before .before .before .before .before .before .before .before .before .before .before .before .before .before .if2 .records) (c .before .before .before .before .before .before .before .before .before .before .before .before .before .before .before .before .if2 .next) (⊎-elim (λ w. breaks (c .before .before .before .before .before .before .before .before .before .before .before .before .before .before .before .before .before .flag-at .ensures) (w .0 .taken) (w .2 .ensures) (omega (arith, w .2 .kept)) (w .5) (w .6)) (λ w. no-break (c .before .before .before .before .before .before .before .before .before .before .before .before .before .before .before .before .before .flag-at .ensures) (w .0 .left) (w .1) (w .2)) (c .before .before .before .before .before .before .before .before .before .before .before .before .before .before .before .before .if2 .came)), c .before .before .before .before .before .before .before .before .before .before .before .before .assign .kept, moved _ (c .before .before .before .before .before .before .before .before .before .before .before .before .assign .ensures .done-to _ (c .before .before .before .before .before .before .got .given .1)) refl)
+  same-length-4 c = omega (arith, c .before .before .before .before .before .before .before .before .before .before .before .before .before .before .before .before .before .before .before .before .before .before .before .before .pre, breaks-as (c .before .before .before .before .before .before .before .before .before .before .before .before .before .before .before .before .before .before .before .before .before .before .before .before .args .flags .now) (c .before .before .before .before .before .before .before .before .before .before .before .before .before .before .before .before .before .before .before .before .before .before .before .before .args .records .now) (cursor (c .before .before .before .before .before .before .before .before .before .before .before .before .before .before .before .before .before .before .before .before .before .before .before .before .args .at) (c .before .before .before .before .before .before .before .before .before .before .before .before .before .before .before .before .before .before .before .before .before .before .before .before .args .made) (c .before .before .before .before .before .before .before .before .before .before .before .before .before .before .before .before .before .before .before .before .before .before .before .before .args .said)) (c .before .before .before .before .before .before .before .before .before .before .before .before .before .before .before .before .if2 .records) (c .before .before .before .before .before .before .before .before .before .before .before .before .before .before .before .before .if2 .c) (⊎-elim (λ w. breaks (c .before .before .before .before .before .before .before .before .before .before .before .before .before .before .before .before .before .flag-at .ensures) (w .0 .taken) (w .2 .ensures) (omega (arith, w .2 .kept)) (w .5) (w .6)) (λ w. no-break (c .before .before .before .before .before .before .before .before .before .before .before .before .before .before .before .before .before .flag-at .ensures) (w .0 .left) (w .1) (w .2)) (c .before .before .before .before .before .before .before .before .before .before .before .before .before .before .before .before .if2 .came)), c .before .before .before .before .before .before .before .before .before .before .before .before .assign .kept, moved _ (c .before .before .before .before .before .before .before .before .before .before .before .before .assign .ensures .done-to _ (c .before .before .before .before .before .before .got .given .1)) refl)
 
   returns-3 : lts.Need-returns-3 K (body-at t) body.Post
   returns-3 c = body-dones (c .before .before .before .before .before .before .before .before .before .before .before .before .before .before .before .before .before .before .before .before .before .before .before .before .pre .1 .0) (c .before .before .before .before .before .before .before .before .before .before .before .before .before .before .before .before .before .before .before .before .before .before .before .before .pre .1 .1) refl (eqb-false _ _ (sym (c .before .before .before .before .before .before .before .before .before .before .before .before .before .before .before .before .before .before .before .is-block .ensures) ∙ c .before .before .before .before .before .before .before .before .before .before .before .before .before .before .before .before .before .before .if1 .left)) (⊎-elim (λ w. breaks (c .before .before .before .before .before .before .before .before .before .before .before .before .before .before .before .before .before .flag-at .ensures) (w .0 .taken) (w .2 .ensures) (omega (arith, w .2 .kept)) (w .5) (w .6)) (λ w. no-break (c .before .before .before .before .before .before .before .before .before .before .before .before .before .before .before .before .before .flag-at .ensures) (w .0 .left) (w .1) (w .2)) (c .before .before .before .before .before .before .before .before .before .before .before .before .before .before .before .before .if2 .came)) (c .before .before .before .before .before .before .before .before .before .before .before .before .assign .ensures) (c .before .before .before .before .before .before .got .given .1) (c .before .before .over .ensures)

@@ -90,8 +90,8 @@ module _ (t : ℕ) where
   returns-4 : lts.Need-returns-4 K (bproperty-at t) bproperty.Post
   returns-4 c = bproperty-opens (c .before .before .before .before .before .before .before .before .before .before .before .before .before .before .before .before .before .before .before .pre .1 .0) (c .before .before .before .before .before .before .before .before .before .before .before .before .before .before .is-shorthand .ensures) (c .before .before .before .before .before .before .before .before .before .before .before .before .before .if1 .left) (c .before .before .before .before .before .before .before .before .before .key .ensures) (c .before .before .before .got .given .1) (c .before .kind-at2 .ensures) (c .if3 .taken)
 
-  add-element : lts.Need-add-element K (bproperty-at t) bproperty.Post
-  add-element c = omega (arith, c .before .before .before .before .before .before .before .before .before .before .before .before .before .before .before .before .before .before .before .before .before .before .pre, c .before .before .before .before .before .before .before .before .before .before .before .before .key .kept, moved _ (c .before .before .before .before .before .before .before .before .before .before .before .before .key .ensures .done-to _ (c .before .before .before .before .before .before .got .given .1)) refl, stands (c .before .before .before .before .before .before .before .before .before .before .before .before .before .before .before .before .before .before .before .before .before .before .args .kinds .now) (sym (c .before .before .before .before .kind-at2 .ensures) ∙ c .before .before .before .if3 .left))
+  add-start : lts.Need-add-start K (bproperty-at t) bproperty.Post
+  add-start c = omega (arith, c .before .before .before .before .before .before .before .before .before .before .before .before .before .before .before .before .before .before .before .pre, c .before .before .before .before .before .before .before .before .before .key .kept, moved _ (c .before .before .before .before .before .before .before .before .before .key .ensures .done-to _ (c .before .before .before .got .given .1)) refl)
 
   element-requires : lts.Need-element-requires K (bproperty-at t) bproperty.Post
   element-requires c κs = omega (arith, c .before .before .before .before .before .before .before .before .before .before .before .before .before .before .before .before .before .before .before .before .before .before .pre, c .before .before .before .before .before .before .before .before .before .before .before .before .key .kept, moved _ (c .before .before .before .before .before .before .before .before .before .before .before .before .key .ensures .done-to _ (c .before .before .before .before .before .before .got .given .1)) refl, stands (c .before .before .before .before .before .before .before .before .before .before .before .before .before .before .before .before .before .before .before .before .before .before .args .kinds .now) (sym (c .before .before .before .before .kind-at2 .ensures) ∙ c .before .before .before .if3 .left))
@@ -124,4 +124,4 @@ module _ (t : ℕ) where
   returns-6 c = bproperty-dones (c .before .before .before .before .before .before .before .before .before .before .before .before .before .before .before .before .before .before .before .before .before .before .before .before .before .before .before .before .before .before .before .before .before .before .pre .1 .0) (c .before .before .before .before .before .before .before .before .before .before .before .before .before .before .before .before .before .before .before .before .before .before .before .before .before .before .before .before .before .is-shorthand .ensures) (c .before .before .before .before .before .before .before .before .before .before .before .before .before .before .before .before .before .before .before .before .before .before .before .before .before .before .before .before .if1 .left) (c .before .before .before .before .before .before .before .before .before .before .before .before .before .before .before .before .before .before .before .before .before .before .before .before .key .ensures) (c .before .before .before .before .before .before .before .before .before .before .before .before .before .before .before .before .before .before .got .given .1) (c .before .before .before .before .before .before .before .before .before .before .before .before .before .before .before .before .kind-at2 .ensures) (c .before .before .before .before .before .before .before .before .before .before .before .before .before .before .before .if3 .left) (c .before .before .before .before .before .before .before .before .before .before .before .element .ensures) (c .before .before .before .before .before .more .given .1) (c .before .before .over2 .ensures)
 
   pub bproperty-closed : {M : Type 1} → lts.Closed K (bproperty-at t) bproperty.Post M
-  bproperty-closed = lts.spec K (bproperty-at t) bproperty.Post is-shorthand-requires leaf-requires add-kind-at kind-at-requires add-over over-requires same-length returns init-requires same-length-2 same-length-3 returns-2 key-requires enum-known-got enum-told same-length-4 same-length-5 returns-3 kind-at-requires-2 same-length-6 same-length-7 returns-4 add-element element-requires enum-known-more enum-told-2 same-length-8 same-length-9 returns-5 over-requires-2 same-length-10 same-length-11 returns-6
+  bproperty-closed = lts.spec K (bproperty-at t) bproperty.Post is-shorthand-requires leaf-requires add-kind-at kind-at-requires add-over over-requires same-length returns init-requires same-length-2 same-length-3 returns-2 key-requires enum-known-got enum-told same-length-4 same-length-5 returns-3 kind-at-requires-2 same-length-6 same-length-7 returns-4 add-start element-requires enum-known-more enum-told-2 same-length-8 same-length-9 returns-5 over-requires-2 same-length-10 same-length-11 returns-6

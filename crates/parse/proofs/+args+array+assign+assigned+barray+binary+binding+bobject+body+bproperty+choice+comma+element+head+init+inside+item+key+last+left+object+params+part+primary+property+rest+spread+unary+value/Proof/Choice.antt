@@ -51,8 +51,8 @@ module _ (t : ℕ) where
   returns-2 : lts.Need-returns-2 K (choice-at t) choice.Post
   returns-2 c = choice-opens (c .before .before .before .before .before .before .before .before .before .before .before .before .before .before .before .before .before .pre .1 .0) (c .before .before .before .before .before .before .before .before .before .before .before .before .before .before .before .before .before .pre .1 .1) (c .before .before .before .before .before .before .before .before .before .assign .ensures) (c .before .before .before .got .given .1) (c .before .kind-at .ensures) (c .if1 .taken)
 
-  add-assign-2 : lts.Need-add-assign-2 K (choice-at t) choice.Post
-  add-assign-2 c = omega (arith, c .before .before .before .before .before .before .before .before .before .before .before .before .before .before .before .before .before .before .before .before .pre, c .before .before .before .before .before .before .before .before .before .before .before .before .assign .kept, moved _ (c .before .before .before .before .before .before .before .before .before .before .before .before .assign .ensures .done-to _ (c .before .before .before .before .before .before .got .given .1)) refl, stands (c .before .before .before .before .before .before .before .before .before .before .before .before .before .before .before .before .before .before .before .before .args .kinds .now) (sym (c .before .before .before .before .kind-at .ensures) ∙ c .before .before .before .if1 .left))
+  add-start : lts.Need-add-start K (choice-at t) choice.Post
+  add-start c = omega (arith, c .before .before .before .before .before .before .before .before .before .before .before .before .before .before .before .before .before .pre, c .before .before .before .before .before .before .before .before .before .assign .kept, moved _ (c .before .before .before .before .before .before .before .before .before .assign .ensures .done-to _ (c .before .before .before .got .given .1)) refl)
 
   assign-requires-2 : lts.Need-assign-requires-2 K (choice-at t) choice.Post
   assign-requires-2 c κs = omega (arith, c .before .before .before .before .before .before .before .before .before .before .before .before .before .before .before .before .before .before .before .before .pre, c .before .before .before .before .before .before .before .before .before .before .before .before .assign .kept, moved _ (c .before .before .before .before .before .before .before .before .before .before .before .before .assign .ensures .done-to _ (c .before .before .before .before .before .before .got .given .1)) refl, stands (c .before .before .before .before .before .before .before .before .before .before .before .before .before .before .before .before .before .before .before .before .args .kinds .now) (sym (c .before .before .before .before .kind-at .ensures) ∙ c .before .before .before .if1 .left))
@@ -85,4 +85,4 @@ module _ (t : ℕ) where
   returns-4 c = choice-done (c .before .before .before .before .before .before .before .before .before .before .before .before .before .before .before .before .before .before .before .before .before .before .before .before .before .before .before .before .before .before .before .before .pre .1 .0) (c .before .before .before .before .before .before .before .before .before .before .before .before .before .before .before .before .before .before .before .before .before .before .before .before .before .before .before .before .before .before .before .before .pre .1 .1) (c .before .before .before .before .before .before .before .before .before .before .before .before .before .before .before .before .before .before .before .before .before .before .before .before .assign .ensures) (c .before .before .before .before .before .before .before .before .before .before .before .before .before .before .before .before .before .before .got .given .1) (c .before .before .before .before .before .before .before .before .before .before .before .before .before .before .before .before .kind-at .ensures) (c .before .before .before .before .before .before .before .before .before .before .before .before .before .before .before .if1 .left) (c .before .before .before .before .before .before .before .before .before .before .before .assign2 .ensures) (c .before .before .before .before .before .more .given .1) (c .before .before .over .ensures)
 
   pub choice-closed : {M : Type 1} → lts.Closed K (choice-at t) choice.Post M
-  choice-closed = lts.spec K (choice-at t) choice.Post add-assign assign-requires enum-known-got enum-told same-length same-length-2 returns kind-at-requires same-length-3 same-length-4 returns-2 add-assign-2 assign-requires-2 enum-known-more enum-told-2 same-length-5 same-length-6 returns-3 over-requires same-length-7 same-length-8 returns-4
+  choice-closed = lts.spec K (choice-at t) choice.Post add-assign assign-requires enum-known-got enum-told same-length same-length-2 returns kind-at-requires same-length-3 same-length-4 returns-2 add-start assign-requires-2 enum-known-more enum-told-2 same-length-5 same-length-6 returns-3 over-requires same-length-7 same-length-8 returns-4

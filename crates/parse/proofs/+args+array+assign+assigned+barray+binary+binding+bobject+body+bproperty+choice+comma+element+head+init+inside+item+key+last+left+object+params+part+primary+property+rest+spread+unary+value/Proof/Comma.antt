@@ -17,10 +17,10 @@ use Rattle.parse.proofs.comma.Reads as comma
 use Rattle.tokens.proofs.kind_at.Reads as kind-at
 
 abbrev Inv-loop : lts.InvT-loop
-Inv-loop kinds flags rows₀ records₀ notes₀ at made said mark here₀ kids₀ rows records notes here kids = CommaSoFar kinds flags rows₀ records₀ notes₀ (cursor at made said) mark here₀ rows records notes here kids
+Inv-loop kinds flags rows₀ records₀ notes₀ at made said mark c₀ kids₀ rows records notes c kids = CommaSoFar kinds flags rows₀ records₀ notes₀ (cursor at made said) mark c₀ rows records notes c kids
 
 abbrev μ-loop : lts.MeasureT-loop
-μ-loop kinds flags rows₀ records₀ notes₀ at made said mark here₀ kids₀ rows records notes here kids = length kinds - here .at
+μ-loop kinds flags rows₀ records₀ notes₀ at made said mark c₀ kids₀ rows records notes c kids = length kinds - c .at
 
 module _ (t : ℕ) where
   abbrev K : lts.Claims
@@ -74,8 +74,8 @@ module _ (t : ℕ) where
   returns-3 : lts.Need-returns-3 K (comma-at t) comma.Post Inv-loop μ-loop
   returns-3 c = comma-ends (c .before .before .before .before .before .before .before .before .before .before .before .before .before .before .before .before .assign .ensures) (c .before .before .before .before .before .before .before .before .before .before .got .given .1) (c .before .before .before .before .before .before .before .before .kind-at .ensures) (c .before .before .before .before .before .before .before .if1 .left) (c .before .before .before .before .before .before .loop .inv) (c .before .before .before .before .before .kind-at2 .ensures) (c .before .before .before .before .if2 .taken) (c .before .before .over .ensures)
 
-  add-assign : lts.Need-add-assign K (comma-at t) comma.Post Inv-loop μ-loop
-  add-assign c = omega (arith, c .before .before .before .before .before .loop .inv, c .before .before .before .before .before .before .before .before .before .before .before .before .before .before .before .before .before .before .before .before .before .before .before .pre, c .before .before .before .before .before .before .before .before .before .before .before .before .before .before .before .assign .kept, stands (c .before .before .before .before .before .before .before .before .before .before .before .before .before .before .before .before .before .before .before .before .before .before .before .args .kinds .now) (sym (c .before .before .before .before .kind-at2 .ensures) ∙ c .before .before .before .if2 .left))
+  add-start : lts.Need-add-start K (comma-at t) comma.Post Inv-loop μ-loop
+  add-start c = omega (arith, c .before .before .loop .inv, c .before .before .before .before .before .before .before .before .before .before .before .before .before .before .before .before .before .before .before .before .pre, c .before .before .before .before .before .before .before .before .before .before .before .before .assign .kept)
 
   assign-requires-2 : lts.Need-assign-requires-2 K (comma-at t) comma.Post Inv-loop μ-loop
   assign-requires-2 c κs = omega (arith, c .before .before .before .before .before .loop .inv, c .before .before .before .before .before .before .before .before .before .before .before .before .before .before .before .before .before .before .before .before .before .before .before .pre, c .before .before .before .before .before .before .before .before .before .before .before .before .before .before .before .assign .kept, stands (c .before .before .before .before .before .before .before .before .before .before .before .before .before .before .before .before .before .before .before .before .before .before .before .args .kinds .now) (sym (c .before .before .before .before .kind-at2 .ensures) ∙ c .before .before .before .if2 .left))
@@ -105,4 +105,4 @@ module _ (t : ℕ) where
   loop-again c = comma-turns (c .before .before .before .before .before .before .before .before .before .before .before .before .before .loop .inv) (c .before .before .before .before .before .before .before .before .before .before .before .before .kind-at2 .ensures) (c .before .before .before .before .before .before .before .before .before .before .before .if2 .left) (c .before .before .before .before .before .before .before .assign2 .ensures) (c .before .more .given .1) (c .before .before .before .before .before .before .before .assign2 .kept .1 .1 .0) (c .before .before .before .before .before .before .before .assign2 .kept .1 .1 .1 .0)
 
   pub comma-closed : {M : Type 1} → lts.Closed K (comma-at t) comma.Post M
-  comma-closed = lts.spec K (comma-at t) comma.Post Inv-loop μ-loop assign-requires enum-known-got enum-told same-length same-length-2 returns kind-at-requires same-length-3 same-length-4 returns-2 loop-holds kind-at-requires-2 over-requires same-length-5 same-length-6 returns-3 add-assign assign-requires-2 enum-known-more enum-told-2 same-length-7 same-length-8 returns-4 add-kids loop-less loop-again
+  comma-closed = lts.spec K (comma-at t) comma.Post Inv-loop μ-loop assign-requires enum-known-got enum-told same-length same-length-2 returns kind-at-requires same-length-3 same-length-4 returns-2 loop-holds kind-at-requires-2 over-requires same-length-5 same-length-6 returns-3 add-start assign-requires-2 enum-known-more enum-told-2 same-length-7 same-length-8 returns-4 add-kids loop-less loop-again

@@ -49,8 +49,8 @@ module _ (t : ℕ) where
   returns-2 : lts.Need-returns-2 K (element-at t) element.Post
   returns-2 c = element-stops (c .before .before .before .before .before .before .before .before .before .before .before .before .before .before .before .before .before .pre .1) (c .before .before .before .before .before .before .before .before .before .binding .ensures) (c .before .before .before .got .given .1) (c .before .kind-at .ensures) (c .if1 .taken)
 
-  add-assign : lts.Need-add-assign K (element-at t) element.Post
-  add-assign c = omega (arith, c .before .before .before .before .before .before .before .before .before .before .before .before .before .before .before .before .before .before .before .before .pre, c .before .before .before .before .before .before .before .before .before .before .before .before .binding .kept, moved _ (c .before .before .before .before .before .before .before .before .before .before .before .before .binding .ensures .done-to _ (c .before .before .before .before .before .before .got .given .1)) refl, stands (c .before .before .before .before .before .before .before .before .before .before .before .before .before .before .before .before .before .before .before .before .args .kinds .now) (sym (c .before .before .before .before .kind-at .ensures) ∙ c .before .before .before .if1 .left))
+  add-start : lts.Need-add-start K (element-at t) element.Post
+  add-start c = omega (arith, c .before .before .before .before .before .before .before .before .before .before .before .before .before .before .before .before .before .pre, c .before .before .before .before .before .before .before .before .before .binding .kept, moved _ (c .before .before .before .before .before .before .before .before .before .binding .ensures .done-to _ (c .before .before .before .got .given .1)) refl)
 
   assign-requires : lts.Need-assign-requires K (element-at t) element.Post
   assign-requires c κs = omega (arith, c .before .before .before .before .before .before .before .before .before .before .before .before .before .before .before .before .before .before .before .before .pre, c .before .before .before .before .before .before .before .before .before .before .before .before .binding .kept, moved _ (c .before .before .before .before .before .before .before .before .before .before .before .before .binding .ensures .done-to _ (c .before .before .before .before .before .before .got .given .1)) refl, stands (c .before .before .before .before .before .before .before .before .before .before .before .before .before .before .before .before .before .before .before .before .args .kinds .now) (sym (c .before .before .before .before .kind-at .ensures) ∙ c .before .before .before .if1 .left))
@@ -83,4 +83,4 @@ module _ (t : ℕ) where
   returns-4 c = element-done (c .before .before .before .before .before .before .before .before .before .before .before .before .before .before .before .before .before .before .before .before .before .before .before .before .before .before .before .before .before .before .before .before .pre .1) (c .before .before .before .before .before .before .before .before .before .before .before .before .before .before .before .before .before .before .before .before .before .before .before .before .binding .ensures) (c .before .before .before .before .before .before .before .before .before .before .before .before .before .before .before .before .before .before .got .given .1) (c .before .before .before .before .before .before .before .before .before .before .before .before .before .before .before .before .kind-at .ensures) (c .before .before .before .before .before .before .before .before .before .before .before .before .before .before .before .if1 .left) (c .before .before .before .before .before .before .before .before .before .before .before .assign .ensures) (c .before .before .before .before .before .more .given .1) (c .before .before .over .ensures)
 
   pub element-closed : {M : Type 1} → lts.Closed K (element-at t) element.Post M
-  element-closed = lts.spec K (element-at t) element.Post binding-requires enum-known-got enum-told same-length same-length-2 returns kind-at-requires same-length-3 same-length-4 returns-2 add-assign assign-requires enum-known-more enum-told-2 same-length-5 same-length-6 returns-3 over-requires same-length-7 same-length-8 returns-4
+  element-closed = lts.spec K (element-at t) element.Post binding-requires enum-known-got enum-told same-length same-length-2 returns kind-at-requires same-length-3 same-length-4 returns-2 add-start assign-requires enum-known-more enum-told-2 same-length-5 same-length-6 returns-3 over-requires same-length-7 same-length-8 returns-4

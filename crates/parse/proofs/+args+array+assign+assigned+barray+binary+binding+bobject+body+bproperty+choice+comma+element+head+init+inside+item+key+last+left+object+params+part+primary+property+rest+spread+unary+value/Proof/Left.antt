@@ -22,10 +22,10 @@ use Rattle.classes.proofs.is_word.Reads as is-word
 use Rattle.tokens.proofs.kind_at.Reads as kind-at
 
 abbrev Inv-loop : lts.InvT-loop
-Inv-loop kinds flags rows₁ records₁ notes₁ at made said base rows records notes here = Linking kinds flags rows₁ records₁ notes₁ at made base rows records notes here
+Inv-loop kinds flags rows₁ records₁ notes₁ at made said base rows records notes c = Linking kinds flags rows₁ records₁ notes₁ at made base rows records notes c
 
 abbrev μ-loop : lts.MeasureT-loop
-μ-loop kinds flags rows₁ records₁ notes₁ at made said base rows records notes here = length kinds - here .at
+μ-loop kinds flags rows₁ records₁ notes₁ at made said base rows records notes c = length kinds - c .at
 
 module _ (t : ℕ) where
   abbrev K : lts.Claims
@@ -64,8 +64,8 @@ module _ (t : ℕ) where
   is-word-requires : lts.Need-is-word-requires K (left-at t) left.Post Inv-loop μ-loop
   is-word-requires c κs = search needs
 
-  add-t27 : lts.Need-add-t27 K (left-at t) left.Post Inv-loop μ-loop
-  add-t27 c = omega (arith, c .before .before .before .before .before .loop .inv, c .before .before .before .before .before .before .before .before .before .before .before .before .before .before .before .before .before .before .before .before .before .pre, c .before .before .before .before .before .before .before .before .before .before .before .before .before .primary .kept, (left-linked (c .before .before .before .before .before .before .before .before .before .before .before .before .before .before .before .before .before .before .before .before .before .pre .1) (c .before .before .before .before .before .before .before .before .before .before .before .before .before .primary .ensures) (c .before .before .before .before .before .before .before .got .given .1) (c .before .before .before .before .before .loop .inv)))
+  add-t30 : lts.Need-add-t30 K (left-at t) left.Post Inv-loop μ-loop
+  add-t30 c = omega (arith, c .before .before .before .before .before .loop .inv, c .before .before .before .before .before .before .before .before .before .before .before .before .before .before .before .before .before .before .before .before .before .pre, c .before .before .before .before .before .before .before .before .before .before .before .before .before .primary .kept, (left-linked (c .before .before .before .before .before .before .before .before .before .before .before .before .before .before .before .before .before .before .before .before .before .pre .1) (c .before .before .before .before .before .before .before .before .before .before .before .before .before .primary .ensures) (c .before .before .before .before .before .before .before .got .given .1) (c .before .before .before .before .before .loop .inv)))
 
   same-length-3 : lts.Need-same-length-3 K (left-at t) left.Post Inv-loop μ-loop
   same-length-3 c = omega (arith, c .before .before .before .before .before .loop .inv, c .before .before .before .before .before .before .before .before .before .before .before .before .before .before .before .before .before .before .before .before .before .pre, c .before .before .before .before .before .before .before .before .before .before .before .before .before .primary .kept, (left-linked (c .before .before .before .before .before .before .before .before .before .before .before .before .before .before .before .before .before .before .before .before .before .pre .1) (c .before .before .before .before .before .before .before .before .before .before .before .before .before .primary .ensures) (c .before .before .before .before .before .before .before .got .given .1) (c .before .before .before .before .before .loop .inv)))
@@ -152,4 +152,4 @@ module _ (t : ℕ) where
   returns-5 c = left-ends (left-linked (c .before .before .before .before .before .before .before .before .before .before .before .before .before .before .before .before .before .before .pre .1) (c .before .before .before .before .before .before .before .before .before .before .primary .ensures) (c .before .before .before .before .got .given .1) (c .before .before .loop .inv)) (c .before .kind-at .ensures) (c .match2 .rest .0 .0 .1) (c .match2 .rest .0 .1) (c .match2 .rest .1)
 
   pub left-closed : {M : Type 1} → lts.Closed K (left-at t) left.Post M
-  left-closed = lts.spec K (left-at t) left.Post Inv-loop μ-loop primary-requires enum-known-got enum-told same-length same-length-2 returns loop-holds kind-at-requires add-kind-at kind-at-requires-2 is-word-requires add-t27 same-length-3 same-length-4 returns-2 add-over add-over-2 over-requires loop-less loop-again inside-requires enum-known-inner enum-told-2 same-length-5 same-length-6 returns-3 over-requires-2 loop-less-2 loop-again-2 args-requires enum-known-call enum-told-3 same-length-7 same-length-8 returns-4 loop-less-3 loop-again-3 same-length-9 same-length-10 returns-5
+  left-closed = lts.spec K (left-at t) left.Post Inv-loop μ-loop primary-requires enum-known-got enum-told same-length same-length-2 returns loop-holds kind-at-requires add-kind-at kind-at-requires-2 is-word-requires add-t30 same-length-3 same-length-4 returns-2 add-over add-over-2 over-requires loop-less loop-again inside-requires enum-known-inner enum-told-2 same-length-5 same-length-6 returns-3 over-requires-2 loop-less-2 loop-again-2 args-requires enum-known-call enum-told-3 same-length-7 same-length-8 returns-4 loop-less-3 loop-again-3 same-length-9 same-length-10 returns-5

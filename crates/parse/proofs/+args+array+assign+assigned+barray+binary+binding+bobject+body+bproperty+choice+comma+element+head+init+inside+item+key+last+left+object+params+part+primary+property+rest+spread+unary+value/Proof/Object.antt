@@ -16,10 +16,10 @@ use Rattle.parse.proofs.part.Reads as part
 use Rattle.tokens.proofs.kind_at.Reads as kind-at
 
 abbrev Inv-loop : lts.InvT-loop
-Inv-loop kinds flags rows₀ records₀ notes₀ at made said here₀ kids₀ kind₀ rows records notes here kids kind = ObjectSoFar kinds flags rows₀ records₀ notes₀ (cursor at made said) rows records notes here kids kind
+Inv-loop kinds flags rows₀ records₀ notes₀ at made said c₀ kids₀ kind₀ rows records notes c kids kind = ObjectSoFar kinds flags rows₀ records₀ notes₀ (cursor at made said) rows records notes c kids kind
 
 abbrev μ-loop : lts.MeasureT-loop
-μ-loop kinds flags rows₀ records₀ notes₀ at made said here₀ kids₀ kind₀ rows records notes here kids kind = length kinds - here .at
+μ-loop kinds flags rows₀ records₀ notes₀ at made said c₀ kids₀ kind₀ rows records notes c kids kind = length kinds - c .at
 
 module _ (t : ℕ) where
   abbrev K : lts.Claims
@@ -79,8 +79,8 @@ module _ (t : ℕ) where
   returns-2 : lts.Need-returns-2 K (object-at t) object.Post Inv-loop μ-loop
   returns-2 c = object-opens (c .before .before .before .before .before .before .before .before .before .before .before .before .before .before .before .before .loop .inv) (c .before .before .before .before .before .before .before .before .before .before .before .before .before .before .before .kind-at .ensures) (c .before .before .before .before .before .before .before .before .before .before .before .before .before .before .if1 .left) (c .before .before .before .before .before .before .before .before .before .before .part .ensures) (c .before .before .before .before .got .given .1) (c .before .before .kind-at2 .ensures) (c .before .before .before .before .before .before .before .before .before .before .before .before .before .before .before .before .before .before .before .before .before .pre .1 .0) (c .before .if2 .left) (c .if3 .taken)
 
-  add-t34 : lts.Need-add-t34 K (object-at t) object.Post Inv-loop μ-loop
-  add-t34 c = omega (arith, c .before .before .before .before .before .before .before .before .before .before .before .before .before .before .before .before .loop .inv, c .before .before .before .before .before .before .before .before .before .before .before .before .before .before .before .before .before .before .before .before .before .pre, c .before .before .before .before .before .before .before .before .before .before .part .kept, object-moves (c .before .before .before .before .before .before .before .before .before .before .before .before .before .before .before .before .loop .inv) (c .before .before .before .before .before .before .before .before .before .before .part .ensures) (c .before .before .before .before .got .given .1))
+  add-c : lts.Need-add-c K (object-at t) object.Post Inv-loop μ-loop
+  add-c c = omega (arith, c .before .before .before .before .before .before .before .before .before .before .before .before .before .before .before .before .loop .inv, c .before .before .before .before .before .before .before .before .before .before .before .before .before .before .before .before .before .before .before .before .before .pre, c .before .before .before .before .before .before .before .before .before .before .part .kept, object-moves (c .before .before .before .before .before .before .before .before .before .before .before .before .before .before .before .before .loop .inv) (c .before .before .before .before .before .before .before .before .before .before .part .ensures) (c .before .before .before .before .got .given .1))
 
   loop-less : lts.Need-loop-less K (object-at t) object.Post Inv-loop μ-loop
   loop-less c = omega (arith, c .before .before .before .before .before .before .before .before .before .before .before .before .before .before .before .before .before .loop .inv, c .before .before .before .before .before .before .before .before .before .before .before .before .before .before .before .before .before .before .before .before .before .before .pre, c .before .before .before .before .before .before .before .before .before .before .before .part .kept, object-moves (c .before .before .before .before .before .before .before .before .before .before .before .before .before .before .before .before .before .loop .inv) (c .before .before .before .before .before .before .before .before .before .before .before .part .ensures) (c .before .before .before .before .before .got .given .1), stands (c .before .before .before .before .before .before .before .before .before .before .before .before .before .before .before .before .before .before .before .before .before .before .args .kinds .now) (sym (c .before .before .before .kind-at2 .ensures) ∙ c .before .if3 .left))
@@ -113,4 +113,4 @@ module _ (t : ℕ) where
   returns-4 c = object-closes (c .before .before .before .before .before .before .before .before .before .before .before .before .before .before .before .before .before .before .before .loop .inv) (c .before .before .before .before .before .before .before .before .before .before .before .before .before .before .before .before .before .before .kind-at .ensures) (c .before .before .before .before .before .before .before .before .before .before .before .before .before .before .before .before .before .if1 .left) (c .before .before .before .before .before .before .before .before .before .before .before .before .before .part .ensures) (c .before .before .before .before .before .before .before .got .given .1) (c .before .before .before .before .before .kind-at2 .ensures) (c .before .before .before .before .if2 .taken) (c .before .before .over2 .ensures)
 
   pub object-closed : {M : Type 1} → lts.Closed K (object-at t) object.Post M
-  object-closed = lts.spec K (object-at t) object.Post Inv-loop μ-loop add-t19 loop-holds kind-at-requires add-over over-requires add-kids part-requires enum-known-got enum-told same-length same-length-2 returns kind-at-requires-2 add-over-2 over-requires-2 same-length-3 same-length-4 returns-2 add-t34 loop-less loop-again loop-less-2 loop-again-2 same-length-5 same-length-6 returns-3 same-length-7 same-length-8 returns-4
+  object-closed = lts.spec K (object-at t) object.Post Inv-loop μ-loop add-t19 loop-holds kind-at-requires add-over over-requires add-kids part-requires enum-known-got enum-told same-length same-length-2 returns kind-at-requires-2 add-over-2 over-requires-2 same-length-3 same-length-4 returns-2 add-c loop-less loop-again loop-less-2 loop-again-2 same-length-5 same-length-6 returns-3 same-length-7 same-length-8 returns-4

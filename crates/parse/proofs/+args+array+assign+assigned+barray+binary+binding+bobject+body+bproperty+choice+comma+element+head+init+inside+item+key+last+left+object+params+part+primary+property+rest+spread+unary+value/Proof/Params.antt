@@ -19,10 +19,10 @@ use Rattle.parse.proofs.params.Reads as params
 use Rattle.tokens.proofs.kind_at.Reads as kind-at
 
 abbrev Inv-loop : lts.InvT-loop
-Inv-loop kinds flags rows₀ records₀ notes₀ at made said here₀ kids₀ rows records notes here kids = SoFar kinds flags rows₀ records₀ notes₀ (Job.parameters (here₀ .at) nil) Job.parameters here₀ rows records notes here kids
+Inv-loop kinds flags rows₀ records₀ notes₀ at made said c₀ kids₀ rows records notes c kids = SoFar kinds flags rows₀ records₀ notes₀ (Job.parameters (c₀ .at) nil) Job.parameters c₀ rows records notes c kids
 
 abbrev μ-loop : lts.MeasureT-loop
-μ-loop kinds flags rows₀ records₀ notes₀ at made said here₀ kids₀ rows records notes here kids = length kinds - here .at
+μ-loop kinds flags rows₀ records₀ notes₀ at made said c₀ kids₀ rows records notes c kids = length kinds - c .at
 
 module _ (t : ℕ) where
   abbrev K : lts.Claims
@@ -34,8 +34,8 @@ module _ (t : ℕ) where
   kind-at-requires : lts.Need-kind-at-requires K (params-at t) params.Post Inv-loop μ-loop
   kind-at-requires c κs = search needs
 
-  add-here : lts.Need-add-here K (params-at t) params.Post Inv-loop μ-loop
-  add-here c = omega (arith, c .before .before .loop .inv, c .before .before .before .before .before .before .before .pre)
+  add-c : lts.Need-add-c K (params-at t) params.Post Inv-loop μ-loop
+  add-c c = omega (arith, c .before .before .loop .inv, c .before .before .before .before .before .before .before .pre)
 
   add-kids : lts.Need-add-kids K (params-at t) params.Post Inv-loop μ-loop
   add-kids c = omega (arith, c .before .before .loop .inv, c .before .before .before .before .before .before .before .pre)
@@ -79,8 +79,8 @@ module _ (t : ℕ) where
   kind-at-requires-2 : lts.Need-kind-at-requires-2 K (params-at t) params.Post Inv-loop μ-loop
   kind-at-requires-2 c κs = search needs
 
-  add-here-2 : lts.Need-add-here-2 K (params-at t) params.Post Inv-loop μ-loop
-  add-here-2 c = omega (arith, c .before .before .before .before .before .before .before .before .before .before .before .before .before .before .before .loop .inv, c .before .before .before .before .before .before .before .before .before .before .before .before .before .before .before .before .before .before .before .before .pre, c .before .before .before .before .before .before .before .before .element .kept, moved _ (c .before .before .before .before .before .before .before .before .element .ensures .done-to _ (c .before .before .got4 .given .1)) refl)
+  add-c-2 : lts.Need-add-c-2 K (params-at t) params.Post Inv-loop μ-loop
+  add-c-2 c = omega (arith, c .before .before .before .before .before .before .before .before .before .before .before .before .before .before .before .loop .inv, c .before .before .before .before .before .before .before .before .before .before .before .before .before .before .before .before .before .before .before .before .pre, c .before .before .before .before .before .before .before .before .element .kept, moved _ (c .before .before .before .before .before .before .before .before .element .ensures .done-to _ (c .before .before .got4 .given .1)) refl)
 
   same-length-5 : lts.Need-same-length-5 K (params-at t) params.Post Inv-loop μ-loop
   same-length-5 c = omega (arith, c .before .before .before .before .before .before .before .before .before .before .before .before .before .before .before .before .before .loop .inv, c .before .before .before .before .before .before .before .before .before .before .before .before .before .before .before .before .before .before .before .before .before .before .pre, c .before .before .before .before .before .before .before .before .before .before .element .kept, moved _ (c .before .before .before .before .before .before .before .before .before .before .element .ensures .done-to _ (c .before .before .before .before .got4 .given .1)) refl)
@@ -125,4 +125,4 @@ module _ (t : ℕ) where
   returns-6 c = params-last (c .before .before .before .before .before .before .before .before .before .before .before .before .before .before .before .before .before .before .before .before .before .pre .1) (c .before .before .before .before .before .before .before .before .before .before .before .before .before .before .before .before .loop .inv) (c .before .before .before .before .before .before .before .before .before .before .before .before .before .before .before .kind-at .ensures) (c .before .before .before .before .before .before .before .before .before .before .before .before .before .before .if1 .left) (c .before .before .before .before .before .before .before .before .before .before .before .before .before .if2 .left) (c .before .before .before .before .before .before .before .before .before .element .ensures) (c .before .before .before .got4 .given .1) (c .before .kind-at2 .ensures) (c .if3 .taken)
 
   pub params-closed : {M : Type 1} → lts.Closed K (params-at t) params.Post M
-  params-closed = lts.spec K (params-at t) params.Post Inv-loop μ-loop loop-holds kind-at-requires add-here add-kids last-requires enum-known-got same-length same-length-2 returns enum-known-got-2 element-requires enum-known-got-3 same-length-3 same-length-4 returns-2 enum-known-got-4 kind-at-requires-2 add-here-2 same-length-5 same-length-6 returns-3 loop-less loop-again same-length-7 same-length-8 returns-4 same-length-9 same-length-10 returns-5 same-length-11 same-length-12 returns-6
+  params-closed = lts.spec K (params-at t) params.Post Inv-loop μ-loop loop-holds kind-at-requires add-c add-kids last-requires enum-known-got same-length same-length-2 returns enum-known-got-2 element-requires enum-known-got-3 same-length-3 same-length-4 returns-2 enum-known-got-4 kind-at-requires-2 add-c-2 same-length-5 same-length-6 returns-3 loop-less loop-again same-length-7 same-length-8 returns-4 same-length-9 same-length-10 returns-5 same-length-11 same-length-12 returns-6

@@ -67,8 +67,8 @@ module _ (t : ℕ) where
   kind-at-requires : lts.Need-kind-at-requires K (value-at t) value.Post
   kind-at-requires c κs = search needs
 
-  sub-root : lts.Need-sub-root K (value-at t) value.Post
-  sub-root c = omega (arith, c .before .before .before .before .before .before .before .before .before .before .before .before .before .before .before .before .before .before .before .before .pre, c .before .before .before .before .before .before .before .before .before .before .binary .kept, moved _ (c .before .before .before .before .before .before .before .before .before .before .binary .ensures .done-to _ (c .before .before .before .before .got .given .1)) refl, value-some (c .before .before .before .before .before .before .before .before .before .before .before .before .before .before .before .before .before .before .before .before .pre .1) (c .before .before .before .before .before .before .before .before .before .before .before .before .before .before .before .is-async-name .ensures) (c .before .before .before .before .before .before .before .before .before .before .before .before .before .before .if1 .left) (c .before .before .before .before .before .before .before .before .before .before .binary .ensures) (c .before .before .before .before .got .given .1) (c .before .before .kind-at .ensures), stands (c .before .before .before .before .before .before .before .before .before .before .before .before .before .before .before .before .before .before .before .before .args .kinds .now) (sym (c .before .before .kind-at .ensures) ∙ c .before .if2 .taken))
+  sub-row-word : lts.Need-sub-row-word K (value-at t) value.Post
+  sub-row-word c = omega (arith, c .before .before .before .before .before .before .before .before .before .before .before .before .before .before .before .before .before .before .before .before .before .pre, c .before .before .before .before .before .before .before .before .before .before .before .binary .kept, moved _ (c .before .before .before .before .before .before .before .before .before .before .before .binary .ensures .done-to _ (c .before .before .before .before .before .got .given .1)) refl, value-some (c .before .before .before .before .before .before .before .before .before .before .before .before .before .before .before .before .before .before .before .before .before .pre .1) (c .before .before .before .before .before .before .before .before .before .before .before .before .before .before .before .before .is-async-name .ensures) (c .before .before .before .before .before .before .before .before .before .before .before .before .before .before .before .if1 .left) (c .before .before .before .before .before .before .before .before .before .before .before .binary .ensures) (c .before .before .before .before .before .got .given .1) (c .before .before .before .kind-at .ensures), stands (c .before .before .before .before .before .before .before .before .before .before .before .before .before .before .before .before .before .before .before .before .before .args .kinds .now) (sym (c .before .before .before .kind-at .ensures) ∙ c .before .before .if2 .taken))
 
   row-word-requires : lts.Need-row-word-requires K (value-at t) value.Post
   row-word-requires c κs = search needs
@@ -134,4 +134,4 @@ module _ (t : ℕ) where
   returns-7 c = value-ends (c .before .before .before .before .before .before .before .before .before .before .before .before .before .before .before .before .before .before .before .before .before .before .pre .1) (c .before .before .before .before .before .before .before .before .before .before .before .before .before .before .before .before .before .is-async-name .ensures) (c .before .before .before .before .before .before .before .before .before .before .before .before .before .before .before .before .if1 .left) (c .before .before .before .before .before .before .before .before .before .before .before .before .binary .ensures) (c .before .before .before .before .before .before .got .given .1) (c .before .before .before .before .kind-at .ensures) (c .before .before .before .if2 .left) (c .before .before .is-assignment-operator .ensures) (c .before .if4 .left) (c .if5 .left)
 
   pub value-closed : {M : Type 1} → lts.Closed K (value-at t) value.Post M
-  value-closed = lts.spec K (value-at t) value.Post is-async-name-requires add-leaf leaf-requires body-requires same-length same-length-2 returns binary-requires enum-known-got enum-told same-length-3 same-length-4 returns-2 kind-at-requires sub-root row-word-requires leaf-requires-2 body-requires-2 same-length-5 same-length-6 returns-3 same-length-7 same-length-8 returns-4 is-assignment-operator-requires assigned-requires same-length-9 same-length-10 returns-5 choice-requires same-length-11 same-length-12 returns-6 same-length-13 same-length-14 returns-7
+  value-closed = lts.spec K (value-at t) value.Post is-async-name-requires add-leaf leaf-requires body-requires same-length same-length-2 returns binary-requires enum-known-got enum-told same-length-3 same-length-4 returns-2 kind-at-requires sub-row-word row-word-requires leaf-requires-2 body-requires-2 same-length-5 same-length-6 returns-3 same-length-7 same-length-8 returns-4 is-assignment-operator-requires assigned-requires same-length-9 same-length-10 returns-5 choice-requires same-length-11 same-length-12 returns-6 same-length-13 same-length-14 returns-7
