@@ -1,4 +1,4 @@
--- Where a head may open, and the way that the box takes there.
+-- Where a head may open, the way that the box takes there, and what is left of a head that failed.
 -- Assumes nothing: these are definitions.
 use Prim.Native.Nat.{ℕ}
 use mathlib.Core.Path.{_≡_}

@@ -37,9 +37,7 @@ pub fn comma(
     ensures { λ x. ⌜ Met (now (kinds .entry)) (now (flags .entry)) (now (rows .entry)) (now (records .entry)) (now (notes .entry)) (now (rows .exit)) (now (records .exit)) (now (notes .exit)) (Job.expression at) made said x ⌝ }
 {
     let got = assign(kinds, flags, rows, records, notes, at, made, said);
-    let Step::Done(part) = got else {
-        return got;
-    };
+    let Step::Done(part) = got else { return got };
     let mark = part.at;
     if tokens::kind_at(kinds, mark) != kind::COMMA {
         return Step::Done(part);
@@ -53,9 +51,7 @@ pub fn comma(
         }
         let start = place + 1;
         let more = assign(kinds, flags, rows, records, notes, start, c.rows, c.records);
-        let Step::Done(d) = more else {
-            return more;
-        };
+        let Step::Done(d) = more else { return more };
         c = d;
         kids += 1;
     }
@@ -126,9 +122,7 @@ pub fn value(
         return body(kinds, flags, rows, records, notes, d.at, n, d.records, head);
     }
     let got = binary(kinds, flags, rows, records, notes, at, made, said, 0);
-    let Step::Done(d) = got else {
-        return got;
-    };
+    let Step::Done(d) = got else { return got };
     let next = tokens::kind_at(kinds, d.at);
     if next == kind::ARROW {
         if rows::row_word(rows, d.rows - 1, 0) == row::IDENTIFIER {
@@ -187,9 +181,7 @@ pub fn assigned(
                 made,
                 said + count,
             );
-            let Step::Done(d) = got else {
-                return got;
-            };
+            let Step::Done(d) = got else { return got };
             let kind = if plain {
                 row::ASSIGN
             } else {
@@ -218,18 +210,14 @@ pub fn choice(
     ensures { λ x. ⌜ MetOver (now (kinds .entry)) (now (flags .entry)) (now (rows .entry)) (now (records .entry)) (now (notes .entry)) (now (rows .exit)) (now (records .exit)) (now (notes .exit)) (Job.conditional first at) from made said x ⌝ }
 {
     let got = assign(kinds, flags, rows, records, notes, at + 1, made, said);
-    let Step::Done(d) = got else {
-        return got;
-    };
+    let Step::Done(d) = got else { return got };
     let colon = d.at;
     if tokens::kind_at(kinds, colon) != kind::COLON {
         return Step::Fail(Cause::Unexpected(colon));
     }
     let start = colon + 1;
     let more = assign(kinds, flags, rows, records, notes, start, d.rows, d.records);
-    let Step::Done(e) = more else {
-        return more;
-    };
+    let Step::Done(e) = more else { return more };
     Step::Done(over(rows, e, row::CONDITIONAL, at, first, e.at, 3, from))
 }
 
@@ -259,7 +247,7 @@ pub fn head(
     }
     let got = params(kinds, flags, rows, records, notes, open + 1, made, said);
     let Listed::Done(d, kids) = got else {
-        return got;
+        return got
     };
     let end = d.at;
     if tokens::kind_at(kinds, end) != kind::ARROW {
@@ -353,9 +341,7 @@ pub fn body(
         c = say(records, c, 1, at);
     }
     let got = assign(kinds, flags, rows, records, notes, c.at, c.rows, c.records);
-    let Step::Done(d) = got else {
-        return got;
-    };
+    let Step::Done(d) = got else { return got };
     Step::Done(over(
         rows,
         d,
@@ -384,9 +370,7 @@ pub fn binary(
     ensures { λ x. ⌜ Met (now (kinds .entry)) (now (flags .entry)) (now (rows .entry)) (now (records .entry)) (now (notes .entry)) (now (rows .exit)) (now (records .exit)) (now (notes .exit)) (Job.binary floor at) made said x ⌝ }
 {
     let got = unary(kinds, flags, rows, records, notes, at, made, said);
-    let Step::Done(operand) = got else {
-        return got;
-    };
+    let Step::Done(operand) = got else { return got };
     let mut c = operand;
     let mut mark = operand.at;
     let mut operator = tokens::kind_at(kinds, mark);
@@ -403,9 +387,7 @@ pub fn binary(
             c.records,
             operation::right_floor(operator),
         );
-        let Step::Done(d) = more else {
-            return more;
-        };
+        let Step::Done(d) = more else { return more };
         c = operation::finish(kinds, rows, records, d, mark, at, left, made);
         mark = d.at;
         operator = tokens::kind_at(kinds, mark);
@@ -436,12 +418,10 @@ pub fn unary(
         start += 1;
     }
     let got = left(kinds, flags, rows, records, notes, start, made, said);
-    let Step::Done(d) = got else {
-        return got;
-    };
+    let Step::Done(d) = got else { return got };
     let operand = operation::postfix(kinds, flags, rows, records, d, start, made);
     let Step::Done(e) = operand else {
-        return operand;
+        return operand
     };
     operation::prefixes(kinds, rows, records, e, at, start, made)
 }
@@ -461,9 +441,7 @@ pub fn left(
     ensures { λ x. ⌜ Met (now (kinds .entry)) (now (flags .entry)) (now (rows .entry)) (now (records .entry)) (now (notes .entry)) (now (rows .exit)) (now (records .exit)) (now (notes .exit)) (Job.left-hand-side at) made said x ⌝ }
 {
     let got = primary(kinds, flags, rows, records, notes, at, made, said);
-    let Step::Done(base) = got else {
-        return got;
-    };
+    let Step::Done(base) = got else { return got };
     let mut c = base;
     loop {
         let place = c.at;
@@ -479,16 +457,12 @@ pub fn left(
             kind::L_BRACK => {
                 let close = kind::R_BRACK;
                 let inner = inside(kinds, flags, rows, records, notes, place, n, used, close);
-                let Step::Done(d) = inner else {
-                    return inner;
-                };
+                let Step::Done(d) = inner else { return inner };
                 c = over(rows, d, row::INDEX, at, at, d.at, 2, made);
             }
             kind::L_PAREN => {
                 let call = args(kinds, flags, rows, records, notes, place, n, used, at, made);
-                let Step::Done(d) = call else {
-                    return call;
-                };
+                let Step::Done(d) = call else { return call };
                 c = d;
             }
             _ => {
@@ -527,9 +501,7 @@ pub fn args(
             break over(rows, c, row::CALL, first, first, place + 1, kids, from);
         }
         let got = item(kinds, flags, rows, records, notes, c.at, c.rows, c.records);
-        let Step::Done(d) = got else {
-            return got;
-        };
+        let Step::Done(d) = got else { return got };
         kids += 1;
         let close = d.at;
         let next = tokens::kind_at(kinds, close);
@@ -565,9 +537,7 @@ pub fn inside(
     ensures { λ x. ⌜ MetClosed (now (kinds .entry)) (now (flags .entry)) (now (rows .entry)) (now (records .entry)) (now (notes .entry)) (now (rows .exit)) (now (records .exit)) (now (notes .exit)) (Job.expression (at + 1)) close Cause.Unexpected made said x ⌝ }
 {
     let got = comma(kinds, flags, rows, records, notes, at + 1, made, said);
-    let Step::Done(d) = got else {
-        return got;
-    };
+    let Step::Done(d) = got else { return got };
     let end = d.at;
     if tokens::kind_at(kinds, end) != close {
         return Step::Fail(Cause::Unexpected(end));
@@ -602,9 +572,7 @@ pub fn primary(
         kind::L_PAREN => {
             let close = kind::R_PAREN;
             let got = inside(kinds, flags, rows, records, notes, at, made, said, close);
-            let Step::Done(d) = got else {
-                return got;
-            };
+            let Step::Done(d) = got else { return got };
             Step::Done(over(rows, d, row::PAREN, at, at, d.at, 1, made))
         }
         kind::L_BRACK => array(kinds, flags, rows, records, notes, at, made, said),
@@ -653,9 +621,7 @@ pub fn spread(
     ensures { λ x. ⌜ Met (now (kinds .entry)) (now (flags .entry)) (now (rows .entry)) (now (records .entry)) (now (notes .entry)) (now (rows .exit)) (now (records .exit)) (now (notes .exit)) (Job.spread at) made said x ⌝ }
 {
     let got = assign(kinds, flags, rows, records, notes, at + 1, made, said);
-    let Step::Done(d) = got else {
-        return got;
-    };
+    let Step::Done(d) = got else { return got };
     Step::Done(over(rows, d, row::SPREAD, at, at, d.at, 1, made))
 }
 
@@ -694,9 +660,7 @@ pub fn array(
             continue;
         }
         let got = item(kinds, flags, rows, records, notes, c.at, c.rows, c.records);
-        let Step::Done(d) = got else {
-            return got;
-        };
+        let Step::Done(d) = got else { return got };
         let close = d.at;
         let next = tokens::kind_at(kinds, close);
         if next == kind::R_BRACK {
@@ -745,9 +709,7 @@ pub fn object(
         kind = row::OBJECT;
         kids += 1;
         let got = part(kinds, flags, rows, records, notes, c.at, c.rows, c.records);
-        let Step::Done(d) = got else {
-            return got;
-        };
+        let Step::Done(d) = got else { return got };
         let close = d.at;
         let next = tokens::kind_at(kinds, close);
         if next == kind::R_CURLY {
@@ -820,18 +782,14 @@ pub fn property(
         );
     }
     let got = key(kinds, flags, rows, records, notes, at, made, said);
-    let Step::Done(d) = got else {
-        return got;
-    };
+    let Step::Done(d) = got else { return got };
     let colon = d.at;
     if tokens::kind_at(kinds, colon) != kind::COLON {
         return Step::Fail(Cause::Unexpected(colon));
     }
     let start = colon + 1;
     let more = assign(kinds, flags, rows, records, notes, start, d.rows, d.records);
-    let Step::Done(e) = more else {
-        return more;
-    };
+    let Step::Done(e) = more else { return more };
     Step::Done(over(rows, e, row::PROPERTY, at, at, e.at, 2, made))
 }
 
@@ -853,9 +811,7 @@ pub fn init(
     ensures { λ x. ⌜ MetInit (now (kinds .entry)) (now (flags .entry)) (now (rows .entry)) (now (records .entry)) (now (notes .entry)) (now (rows .exit)) (now (records .exit)) (now (notes .exit)) at kind from made said x ⌝ }
 {
     let got = assign(kinds, flags, rows, records, notes, at + 1, made, said);
-    let Step::Done(d) = got else {
-        return got;
-    };
+    let Step::Done(d) = got else { return got };
     Step::Done(over(rows, d, kind, at, at - 1, d.at, 2, from))
 }
 
@@ -881,9 +837,7 @@ pub fn key(
         return Step::Fail(Cause::Unexpected(at));
     }
     let got = assign(kinds, flags, rows, records, notes, at + 1, made, said);
-    let Step::Done(d) = got else {
-        return got;
-    };
+    let Step::Done(d) = got else { return got };
     let end = d.at;
     if tokens::kind_at(kinds, end) != kind::R_BRACK {
         return Step::Fail(Cause::Unexpected(end));
@@ -931,18 +885,14 @@ pub fn element(
     ensures { λ x. ⌜ Met (now (kinds .entry)) (now (flags .entry)) (now (rows .entry)) (now (records .entry)) (now (notes .entry)) (now (rows .exit)) (now (records .exit)) (now (notes .exit)) (Job.binding-element at) made said x ⌝ }
 {
     let got = binding(kinds, flags, rows, records, notes, at, made, said);
-    let Step::Done(d) = got else {
-        return got;
-    };
+    let Step::Done(d) = got else { return got };
     let mark = d.at;
     if tokens::kind_at(kinds, mark) != kind::EQ {
         return got;
     }
     let start = mark + 1;
     let more = assign(kinds, flags, rows, records, notes, start, d.rows, d.records);
-    let Step::Done(e) = more else {
-        return more;
-    };
+    let Step::Done(e) = more else { return more };
     Step::Done(over(rows, e, row::BINDING_DEFAULT, mark, at, e.at, 2, made))
 }
 
@@ -962,9 +912,7 @@ pub fn rest(
     ensures { λ x. ⌜ Met (now (kinds .entry)) (now (flags .entry)) (now (rows .entry)) (now (records .entry)) (now (notes .entry)) (now (rows .exit)) (now (records .exit)) (now (notes .exit)) (Job.binding-rest at) made said x ⌝ }
 {
     let got = element(kinds, flags, rows, records, notes, at + 1, made, said);
-    let Step::Done(d) = got else {
-        return got;
-    };
+    let Step::Done(d) = got else { return got };
     let root = d.rows - 1;
     if rows::row_word(rows, root, 0) != row::BINDING_DEFAULT {
         return Step::Done(over(rows, d, row::BINDING_REST, at, at, d.at, 1, made));
@@ -991,9 +939,7 @@ pub fn last(
     ensures { λ x. ⌜ MetClosed (now (kinds .entry)) (now (flags .entry)) (now (rows .entry)) (now (records .entry)) (now (notes .entry)) (now (rows .exit)) (now (records .exit)) (now (notes .exit)) (Job.binding-rest at) close Cause.RestLast made said x ⌝ }
 {
     let got = rest(kinds, flags, rows, records, notes, at, made, said);
-    let Step::Done(d) = got else {
-        return got;
-    };
+    let Step::Done(d) = got else { return got };
     let end = d.at;
     if tokens::kind_at(kinds, end) != close {
         return Step::Fail(Cause::RestLast(end));
@@ -1042,15 +988,11 @@ pub fn barray(
             let used = c.records;
             let close = kind::R_BRACK;
             let got = last(kinds, flags, rows, records, notes, place, n, used, close);
-            let Step::Done(d) = got else {
-                return got;
-            };
+            let Step::Done(d) = got else { return got };
             break over(rows, d, row::BINDING_ARRAY, at, at, d.at, kids, made);
         }
         let got = element(kinds, flags, rows, records, notes, c.at, c.rows, c.records);
-        let Step::Done(d) = got else {
-            return got;
-        };
+        let Step::Done(d) = got else { return got };
         let close = d.at;
         let next = tokens::kind_at(kinds, close);
         if next == kind::R_BRACK {
@@ -1098,18 +1040,14 @@ pub fn bobject(
             let used = c.records;
             let close = kind::R_CURLY;
             let got = last(kinds, flags, rows, records, notes, place, n, used, close);
-            let Step::Done(d) = got else {
-                return got;
-            };
+            let Step::Done(d) = got else { return got };
             if rows::row_word(rows, d.rows - 2, 0) != row::BINDING_NAME {
                 return Step::Fail(Cause::RestName(place + 1));
             }
             break over(rows, d, row::BINDING_OBJECT, at, at, d.at, kids, made);
         }
         let got = bproperty(kinds, flags, rows, records, notes, c.at, c.rows, c.records);
-        let Step::Done(d) = got else {
-            return got;
-        };
+        let Step::Done(d) = got else { return got };
         let close = d.at;
         let next = tokens::kind_at(kinds, close);
         if next == kind::R_CURLY {
@@ -1158,17 +1096,13 @@ pub fn bproperty(
         );
     }
     let got = key(kinds, flags, rows, records, notes, at, made, said);
-    let Step::Done(d) = got else {
-        return got;
-    };
+    let Step::Done(d) = got else { return got };
     let colon = d.at;
     if tokens::kind_at(kinds, colon) != kind::COLON {
         return Step::Fail(Cause::Unexpected(colon));
     }
     let start = colon + 1;
     let more = element(kinds, flags, rows, records, notes, start, d.rows, d.records);
-    let Step::Done(e) = more else {
-        return more;
-    };
+    let Step::Done(e) = more else { return more };
     Step::Done(over(rows, e, row::PROPERTY, at, at, e.at, 2, made))
 }
