@@ -1,7 +1,6 @@
 -- Demand 3: the box's reader and the plain one agree. The box's reader asks the three-way answer and notes the heads that failed; the plain one tries a head wherever
 -- one could open and remembers nothing: `box-reading`, `plain-reading` (grammar, Reading). `NoEarly sheet` (Terms) says that nowhere stand Async, `(` with no line break
 -- before it, `...` and kind 1. Nothing else is asked of a list, not even the checks. Assumes nothing.
-use Prim.Native.Nat.{ℕ}
 use mathlib.Core.Logic.{_↔_}
 use mathlib.Core.List.{List}
 use native.Mathlib.Omega.{arith}

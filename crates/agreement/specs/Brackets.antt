@@ -2,17 +2,16 @@
 -- function's parameters and as a group or as arguments end at the same place.
 -- The statements: `partner`, and at the end `balanced`. Assumes nothing.
 use Prim.Native.Nat.{ℕ, _+_}
-use mathlib.Core.Path.{_≡_, refl, sym, ap, _∙_, subst}
+use mathlib.Core.Path.{_≡_, refl, _∙_, subst}
 use mathlib.Core.Bool.{Bool, true, false, not}
 use mathlib.Core.List.{List}
 use native.Mathlib.Omega.{arith}
 use lib.Dec.{ltb}
-use borrow.Author.Tests.{ne-eqb, ltb-true, lt-ltb}
 use Rattle.tokens.specs.Bool.{_or_, _and_, _is_, if_then_else_}
-use Rattle.tokens.specs.Kind.{Async, Str, Number, LParen, RParen, LBrack, RBrack, LCurly, RCurly, Colon, Dot3, Arrow, Eq}
+use Rattle.tokens.specs.Kind.{Async, Str, Number, LParen, LCurly, Colon, Dot3, Arrow, Eq}
 use Rattle.tokens.specs.Token.{is-name, is-word, is-literal}
 use Rattle.tokens.specs.declared.cause.Cause.{Cause}
-use Rattle.operators.specs.Precedence.{level, expression-level}
+use Rattle.operators.specs.Precedence.{expression-level}
 use Rattle.rows.specs.Row as Row
 use Rattle.rows.specs.Tree.{Tree, Forest, node, nil, cons, one, join, kind-of}
 use Rattle.rows.specs.Record.{Record}
@@ -28,21 +27,9 @@ use Rattle.grammar.specs.Primary.{parenthesized-of, primary-of, spread-of, elem
 use Rattle.grammar.specs.Binding.{binding-of, binding-element-of, binding-rest-of, binding-elements-of, argument-of, binding-properties-of, binding-shorthand-of, binding-property-of}
 use Rattle.grammar.specs.Arrow.{Policy, arrow-of, assignment-of, parenthesized-head-of, head-of, parameters-of, body-of}
 use Rattle.grammar.specs.Step.{step, read}
+use Rattle.brackets.specs.Balanced as Balance
+use Rattle.brackets.specs.Balanced.{side-of, Side, Balanced, none, skip, nest, partner, joined, flat, name-flat, word-flat, literal-flat, operator-flat}
 use Rattle.laws.specs.Good.{Meaning, Stands, Reads, Answers, Preserved, good, good-done, yields, refuses, says, follows, tries, test, token-test, chooses, notes, converts, so, and-left, and-right}
-
--- which way a token goes: 1 it opens a bracket, 2 it closes one, 0 neither
-unfoldable pub side-of : ℕ → ℕ
-side-of k = if k is LParen or k is LBrack or k is LCurly then 1 else if k is RParen or k is RBrack or k is RCurly then 2 else 0
-
--- the way that the token at a place goes
-pub record Side (sheet : Sheet) (at way : ℕ) : Type 0 where
-  pub goes : side-of (token sheet at) ≡ way
-
--- the tokens from a place up to another are balanced
-pub data Balanced (sheet : Sheet) : ℕ → ℕ → Type 0 where
-  none : {i : ℕ} → Balanced sheet i i
-  skip : {i j : ℕ} → Side sheet i 0 → Balanced sheet (i + 1) j → Balanced sheet i j
-  nest : {i k j : ℕ} → Side sheet i 1 → Balanced sheet (i + 1) k → Side sheet k 2 → Balanced sheet (k + 1) j → Balanced sheet i j
 
 -- balanced up to a closing bracket, and past it
 pub record Closes (sheet : Sheet) (at end : ℕ) : Type 0 where
@@ -64,60 +51,18 @@ pub record Headed (sheet : Sheet) (at end : ℕ) : Type 0 where
   pub list : Closes sheet (starts + 1) end
   pub arrow : token sheet end ≡ Arrow
 
-apart : {sheet : Sheet} {p s t : ℕ} → Side sheet p s → Side sheet p t → s ≡ t
-apart a b = omega arith
-
--- an opening bracket has one partner
-pub partner : {sheet : Sheet} {i j k : ℕ} → Balanced sheet i j → Balanced sheet i k → Side sheet j 2 → Side sheet k 2 → j ≡ k
-partner none none s t = refl
-partner none (skip a b) s t = absurd (omega (arith, apart a s))
-partner none (nest a b c d) s t = absurd (omega (arith, apart a s))
-partner (skip a b) none s t = absurd (omega (arith, apart a t))
-partner (skip a b) (skip a′ b′) s t = partner b b′ s t
-partner (skip a b) (nest a′ b′ c′ d′) s t = absurd (omega (arith, apart a a′))
-partner (nest a b c d) none s t = absurd (omega (arith, apart a t))
-partner (nest a b c d) (skip a′ b′) s t = absurd (omega (arith, apart a a′))
-partner {sheet} {k = z} (nest a b c d) (nest a′ b′ c′ d′) s t = partner d (subst (λ x. Balanced sheet (x + 1) z) (sym (partner b b′ c c′)) d′) s t
-
 -- what is closed is closed at one place
 pub one-close : {sheet : Sheet} {at end end′ : ℕ} → Closes sheet at end → Closes sheet at end′ → end ≡ end′
 one-close c c′ = omega (arith, c .past, c′ .past, partner (c .inner) (c′ .inner) (c .closer) (c′ .closer))
 
-pub joined : {sheet : Sheet} {i j k : ℕ} → Balanced sheet i j → Balanced sheet j k → Balanced sheet i k
-joined none b = b
-joined (skip s a) b = skip s (joined a b)
-joined (nest s a t c) b = nest s a t (joined c b)
-
 pub side : {sheet : Sheet} {at k : ℕ} → Stands sheet at k → Side sheet at (side-of k)
-side t = record { goes = ap side-of (t .kind-is) }
+side t = Balance.side (t .kind-is)
 
 pub two : {sheet : Sheet} (i : ℕ) {j : ℕ} → Balanced sheet (i + 2) j → Balanced sheet (i + 1 + 1) j
 two {sheet} i {j} b = let e : i + 2 ≡ i + 1 + 1 = omega arith in subst (λ x. Balanced sheet x j) e b
 
 pub nested : {sheet : Sheet} {i j : ℕ} → Side sheet i 1 → Closes sheet (i + 1) j → Balanced sheet i j
 nested s c = rw (c .past) (nest s (c .inner) (c .closer) none)
-
--- a kind that passes a test which no bracket passes
-pub flat : (holds : ℕ → Bool) → holds LParen ≡ false → holds LBrack ≡ false → holds LCurly ≡ false → holds RParen ≡ false → holds RBrack ≡ false → holds RCurly ≡ false
-    → {sheet : Sheet} {at : ℕ} → holds (token sheet at) ≡ true → Side sheet at 0
-unfolding side-of
-flat holds a b c d e f {sheet} {at} t =
-    record { goes = rw (no LParen a, no LBrack b, no LCurly c, no RParen d, no RBrack e, no RCurly f) }
-  where
-    no : (k : ℕ) → holds k ≡ false → token sheet at is k ≡ false
-    no k z = ne-eqb _ _ (λ q. let y : true ≡ false = sym t ∙ ap holds q ∙ z in let x : _≡_ {A = ℕ} 0 1 = cc in omega arith)
-
-pub name-flat : {sheet : Sheet} {at : ℕ} → is-name (token sheet at) ≡ true → Side sheet at 0
-unfolding is-name
-name-flat t = flat is-name refl refl refl refl refl refl t
-
-pub word-flat : {sheet : Sheet} {at : ℕ} → is-word (token sheet at) ≡ true → Side sheet at 0
-unfolding is-word
-word-flat t = flat is-word refl refl refl refl refl refl t
-
-literal-flat : {sheet : Sheet} {at : ℕ} → is-literal (token sheet at) ≡ true → Side sheet at 0
-unfolding is-literal
-literal-flat t = flat is-literal refl refl refl refl refl refl t
 
 key-flat : {sheet : Sheet} {at : ℕ} → (is-word (token sheet at) or token sheet at is Str or token sheet at is Number) ≡ true → Side sheet at 0
 unfolding is-word
@@ -134,11 +79,6 @@ update-flat t = flat is-update-operator refl refl refl refl refl refl t
 pub assignment-flat : {sheet : Sheet} {at : ℕ} → is-assignment-operator (token sheet at) ≡ true → Side sheet at 0
 unfolding is-assignment-operator
 assignment-flat t = flat is-assignment-operator refl refl refl refl refl refl t
-
-pub operator-flat : {sheet : Sheet} {at : ℕ} (floor : ℕ) → ltb floor (expression-level (token sheet at)) ≡ true → Side sheet at 0
-unfolding expression-level level
-operator-flat {sheet} {at} floor t =
-    flat (λ k. ltb 0 (expression-level k)) refl refl refl refl refl refl (lt-ltb 0 (expression-level (token sheet at)) (omega (arith, ltb-true floor (expression-level (token sheet at)) t)))
 
 -- What a nonterminal that is done has read. Five start at a token that whoever asks has looked at: of them it is said from the token after.
 abbrev pub Shape : Sheet → Job → ℕ → Type 0

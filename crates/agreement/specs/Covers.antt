@@ -29,7 +29,8 @@ use Rattle.laws.specs.Settles.{μ}
 use Rattle.laws.specs.Good.{Meaning, Ends, ends-done, ends-fail, ends-stuck, Reads, Answers, good-given, good-done, yields, refuses, follows, test, token-test, both}
 use Rattle.laws.specs.Steady.{never-stuck}
 use Rattle.agreement.specs.Leads.{arrow, Halt, halt-fail, halt-dead}
-use Rattle.agreement.specs.Brackets.{side-of, Closes, Opening, bare, after-async, Headed, one-close, Shaped, all-balanced}
+use Rattle.brackets.specs.Balanced.{side-of}
+use Rattle.agreement.specs.Brackets.{Closes, Opening, bare, after-async, Headed, one-close, Shaped, all-balanced}
 
 -- nothing is said of a reading
 pub nothing-said : {N : Type 0} (reading : Reading N) → Reads (λ end trees records. Unit {0}) (λ cause. Unit {0}) reading

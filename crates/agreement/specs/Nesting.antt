@@ -15,7 +15,7 @@ use Rattle.tokens.specs.Check.{depth-after, nesting, check-nesting}
 use Rattle.tokens.specs.declared.cause.Cause.{Cause}
 use Rattle.tokens.specs.declared.check.Checked.{Checked}
 use Rattle.grammar.specs.Sheet.{Sheet, token}
-use Rattle.agreement.specs.Brackets.{side-of, Side}
+use Rattle.brackets.specs.Balanced.{side-of, Side}
 use Rattle.agreement.specs.Scope.{closing, scope, closes-from, closing-flat, closing-open, closing-close, closing-here, closing-later}
 
 -- the most brackets that are open at once, from a place with so many tokens after it and so many brackets open before it

@@ -8,7 +8,7 @@ use lib.ListN.{length}
 use Rattle.tokens.specs.Bool.{_is_, if_then_else_}
 use Rattle.tokens.specs.Kind.{Async, LParen}
 use Rattle.grammar.specs.Sheet.{Sheet, token}
-use Rattle.agreement.specs.Brackets.{side-of, Side, Balanced, none, skip, nest}
+use Rattle.brackets.specs.Balanced.{side-of, Side, Balanced, none, skip, nest}
 
 -- from a place with so many tokens after it: the place of the bracket that closes what is open there, `deep` brackets further out; the end where nothing closes it
 unfoldable pub closes-from : Sheet → ℕ → ℕ → ℕ → ℕ

@@ -27,7 +27,7 @@ use Rattle.laws.specs.Good.{Came, came}
 use Rattle.laws.specs.Bounds.{limits, Bound}
 use Rattle.laws.specs.Rel.{looked-at, Rel, both-done, both-fail}
 use Rattle.laws.specs.Abandoned.{Log, logging, times, Once, Alike, together}
-use Rattle.agreement.specs.Brackets.{side-of}
+use Rattle.brackets.specs.Balanced.{side-of}
 use Rattle.agreement.specs.Scope.{scope, head-start, reach, closing-later, closing-inside, scope-outside}
 use Rattle.agreement.specs.Count.{Counted, fresh, count, counts-beside, Same, counts-the-same}
 use Rattle.agreement.specs.Nesting.{deepest, span, spans, spans-bounded, nesting-64}

@@ -34,7 +34,8 @@ use Rattle.laws.specs.Settles.{place-of, rank}
 use Rattle.laws.specs.Good.{Stands, Ends, ends-done, ends-fail, ends-stuck, Answers, inside, and-left, and-right}
 use Rattle.laws.specs.Bounds.{limits, Bound, step-bound}
 use Rattle.laws.specs.Rel.{looked-at, operator-inside, async-inside}
-use Rattle.agreement.specs.Brackets.{side-of, Side, Balanced, none, skip, Closes, side, two, name-flat, word-flat, unary-flat, update-flat, assignment-flat, operator-flat, around, around-list, whole-head, Shape, Shaped, step-shape, flat}
+use Rattle.brackets.specs.Balanced.{side-of, Side, Balanced, none, skip, name-flat, word-flat, operator-flat, flat}
+use Rattle.agreement.specs.Brackets.{Closes, side, two, unary-flat, update-flat, assignment-flat, around, around-list, whole-head, Shape, Shaped, step-shape}
 use Rattle.agreement.specs.Count.{Counted, tick, counting, count}
 use Rattle.agreement.specs.Scope.{scope, head-start, reach, closing-flat, closing-here, closing-later, closing-balanced, scope-in}
 

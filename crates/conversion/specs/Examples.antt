@@ -2,12 +2,12 @@
 -- Assumes nothing.
 use Prim.Native.Nat.{ℕ, _+_}
 use mathlib.Core.Path.{_≡_, refl}
-use mathlib.Core.List.{List, [], _∷_, _++_}
+use mathlib.Core.List.{[], _∷_}
 use Rattle.tokens.specs.declared.cause.Cause.the-variants.{Target as NoTarget, Spread as SpreadNotLast}
 use Rattle.rows.specs.Row as row
 use Rattle.rows.specs.Tree.{Tree, Forest, node, nil, cons, one, count, kind-of, first-of}
-use Rattle.rows.specs.Record.{Record, says}
-use Rattle.conversion.specs.Conversion.{simple, Outcome, turned, refused, change, roles, over, both, inner-kind, inner-kinds, seen, as-any, as-simple, as-value, as-element, as-last-element, as-property, as-last-property, as-name, convert-as, convert-kids, convert}
+use Rattle.rows.specs.Record.{says}
+use Rattle.conversion.specs.Conversion.{simple, turned, refused, change, roles, over, both, inner-kind, inner-kinds, seen, as-any, as-simple, as-value, as-element, as-last-element, as-property, as-last-property, as-name, convert-as, convert-kids, convert}
 
 -- a row whose mark is its first token
 abbrev plain : ℕ → ℕ → ℕ → Forest → Tree

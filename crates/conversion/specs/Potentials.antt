@@ -2,7 +2,7 @@
 -- than what could be recorded of the tree, and of a comma that is handed down to the last kid.
 -- Assumes nothing.
 use Prim.Native.Nat.{ℕ, _+_, _≤_}
-use mathlib.Core.Path.{_≡_, refl, sym, ap, _∙_}
+use mathlib.Core.Path.{_≡_, refl, sym}
 use mathlib.Core.Bool.{Bool, true, false, not}
 use mathlib.Core.List.{List, [], _∷_, _++_}
 use native.Mathlib.Omega.{arith}
@@ -12,9 +12,9 @@ use borrow.Author.Tests.{eqb-true}
 use Rattle.tokens.specs.Bool.{if_then_else_, _and_, _or_}
 use Rattle.tokens.specs.declared.cause.Cause.{Cause}
 use Rattle.rows.specs.Row as row
-use Rattle.rows.specs.Tree.{Tree, Forest, node, nil, cons, one, count, kind-of, first-of, kids-of, size, sizes}
+use Rattle.rows.specs.Tree.{Tree, Forest, node, nil, cons, count, first-of, size, sizes}
 use Rattle.rows.specs.Record.{Record, rest-argument, rest-comma, compound-default}
-use Rattle.conversion.specs.Conversion.{Outcome, turned, refused, Role, Change, refuse, keep, turn, only, is-with, is-closed, is-array-or-object, is-reference, last-of, inner-kind, array-argument, object-argument, Seen, seen, as-simple, as-any, as-value, as-element, as-last-element, as-property, as-last-property, as-name, change, roles, over, both, convert-as, convert-kids}
+use Rattle.conversion.specs.Conversion.{Outcome, turned, refused, Role, Change, refuse, keep, turn, only, is-with, is-closed, is-array-or-object, is-reference, last-of, inner-kind, Seen, seen, as-simple, as-any, as-value, as-element, as-last-element, as-property, as-last-property, as-name, change, roles, over, both, convert-as, convert-kids}
 use Rattle.conversion.specs.KidRoles.{elements, properties, key-and-value, name-and-initializer}
 use Rattle.conversion.specs.Potential.{may-record, potential, potentials}
 use Rattle.conversion.specs.RuleHolds.{both-true, refused-turned, follows}

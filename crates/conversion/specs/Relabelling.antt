@@ -1,9 +1,9 @@
 -- A conversion that is accepted changes kind words of target rows, and no other word.
 -- Assumes nothing.
-use Prim.Native.Nat.{ℕ, _≤_}
-use mathlib.Core.Path.{_≡_, refl, sym, ap, _∙_}
+use Prim.Native.Nat.{ℕ}
+use mathlib.Core.Path.{_≡_, refl, sym}
 use mathlib.Core.Bool.{Bool, true, false, not}
-use mathlib.Core.List.{List, [], _∷_, _++_}
+use mathlib.Core.List.{List}
 use native.Mathlib.Omega.{arith}
 use borrow.Author.Tests.{eqb-true}
 use lib.Dec.{eqb}
@@ -12,11 +12,11 @@ use Rattle.tokens.specs.declared.cause.Cause.{Cause}
 use Rattle.rows.specs.Row as row
 use Rattle.rows.specs.Tree.{Tree, Forest, node, nil, cons, count}
 use Rattle.rows.specs.Record.{Record}
-use Rattle.conversion.specs.Conversion.{Outcome, turned, refused, Role, Change, refuse, keep, turn, is-with, is-closed, is-array-or-object, Seen, seen, as-simple, as-any, as-value, as-element, as-last-element, as-property, as-last-property, as-name, change, roles, over, both, convert-as, convert-kids}
+use Rattle.conversion.specs.Conversion.{Outcome, turned, refused, Role, Change, refuse, keep, turn, is-with, is-closed, is-array-or-object, Seen, seen, as-simple, as-any, as-value, as-element, as-last-element, as-property, as-last-property, as-name, change, roles, over, convert-as, convert-kids}
 use Rattle.conversion.specs.Relabelled.{Relabel, kept, target, Relabelled, relabelled, AllRelabelled, no-more, one-more}
 use Rattle.conversion.specs.RuleHolds.{refused-turned}
 use Rattle.conversion.specs.Potentials.{turned-is}
-use Rattle.conversion.specs.Shapes.{Both, cons-parts}
+use Rattle.conversion.specs.Shapes.{cons-parts}
 
 -- a change that relabels a row of this kind
 data Labels (kind : ℕ) : Change → Type 0 where

@@ -1,19 +1,19 @@
 -- Conversion and the target rule agree on every tree: a row converts with neither refusal nor record exactly if the rule holds.
 -- Assumes nothing.
-use Prim.Native.Nat.{ℕ, zero, suc, _+_}
-use mathlib.Core.Path.{_≡_, refl, sym, ap, _∙_}
+use Prim.Native.Nat.{ℕ, _+_}
+use mathlib.Core.Path.{_≡_, refl, ap, _∙_}
 use mathlib.Core.Logic.{_↔_}
 use mathlib.Core.Bool.{Bool, true, false, not}
 use mathlib.Core.List.{List, [], _∷_, _++_}
 use native.Mathlib.Omega.{arith}
 use lib.Dec.{eqb}
 use borrow.Author.Tests.{eqb-true, ne-eqb}
-use Rattle.tokens.specs.Bool.{if_then_else_, _and_, _or_, between}
+use Rattle.tokens.specs.Bool.{if_then_else_, _and_, _or_}
 use Rattle.tokens.specs.declared.cause.Cause.{Cause}
 use Rattle.rows.specs.Row as row
-use Rattle.rows.specs.Tree.{Tree, Forest, node, nil, cons, one, count, kind-of, first-of}
+use Rattle.rows.specs.Tree.{Tree, Forest, node, nil, cons, one, count, kind-of}
 use Rattle.rows.specs.Record.{Record}
-use Rattle.conversion.specs.Conversion.{Outcome, turned, refused, Role, Change, refuse, keep, turn, only, is-array-or-object, is-reference, last-or, last-of, inner-kind, inner-kinds, array-argument, object-argument, Seen, seen, as-simple, as-any, as-value, as-element, as-last-element, as-property, as-last-property, as-name, change, roles, over, both, convert-as, convert-kids, convert}
+use Rattle.conversion.specs.Conversion.{Outcome, turned, refused, Role, Change, refuse, keep, turn, only, is-array-or-object, is-reference, last-of, inner-kind, inner-kinds, array-argument, object-argument, seen, as-simple, as-any, as-value, as-element, as-last-element, as-property, as-last-property, as-name, change, roles, over, both, convert-as, convert-kids, convert}
 use Rattle.conversion.specs.KidRoles.{elements, properties, key-and-value, name-and-initializer}
 use Rattle.conversion.specs.TargetRule.{Simple, identifier, member, index, parenthesized, Target, simple, array, object, Elements, no-elements, elision, next-element, rest-element, Element, bare, initialized, Properties, no-properties, next-property, rest-property, Property, reference, reference-initialized, pair}
 

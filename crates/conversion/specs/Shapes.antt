@@ -2,10 +2,8 @@
 -- Assumes nothing.
 use Prim.Native.Nat.{ℕ, _+_}
 use mathlib.Core.Path.{_≡_, refl, sym, ap, _∙_}
-use mathlib.Core.List.{List, [], _∷_, _++_}
-use native.Mathlib.Omega.{arith}
-use Rattle.tokens.specs.declared.cause.Cause.{Cause}
-use Rattle.rows.specs.Tree.{Tree, Forest, node, nil, cons, count, size, sizes, kids-of}
+use mathlib.Core.List.{List, [], _++_}
+use Rattle.rows.specs.Tree.{Tree, Forest, node, nil, cons, count, size, sizes}
 use Rattle.rows.specs.Record.{Record}
 use Rattle.conversion.specs.Conversion.{Outcome, turned, refused, Role, Change, refuse, keep, turn, seen, change, roles, over, both, convert-as, convert-kids}
 use Rattle.conversion.specs.RuleHolds.{refused-turned}

@@ -6,7 +6,7 @@ use mathlib.Core.List.{List, [], _∷_, _++_, append-nil, append-assoc}
 use native.Mathlib.Omega.{arith}
 use native.Mathlib.Numerals.{add-one}
 use native.Mathlib.Nat.{zero-add}
-use lib.ListN.{length, getD, drop, length-append, drop-of-length-le, take-append-drop}
+use lib.ListN.{length, getD, drop, length-append, take-append-drop}
 use lib.Seq.{drop-cons, getD-append-add}
 use borrow.Author.Tests.{ne-eqb}
 use Rattle.tokens.specs.Bool.{_is_, if_then_else_}

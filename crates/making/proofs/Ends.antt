@@ -1,22 +1,19 @@
 -- A contract's two cases: what is shown of a step that is done, or fails, is all that is asked of it. And how far a nonterminal moves the cursor.
 -- Assumes nothing.
-use Prim.Native.Nat.{ℕ, _+_, _*_, _≤_, _<_}
-use mathlib.Core.Path.{_≡_, refl, sym, subst, _∙_}
+use Prim.Native.Nat.{ℕ, _+_, _≤_, _<_}
+use mathlib.Core.Path.{_≡_, sym, subst, _∙_}
 use mathlib.Core.List.{List}
 use native.Mathlib.Omega.{arith}
 use lib.ListN.{length}
 use Rattle.tokens.specs.declared.cause.Cause.{Cause}
-use Rattle.rows.specs.Tree.{Tree, Forest, one, sizes}
-use Rattle.rows.specs.Record.{Record}
-use Rattle.rows.specs.Post.{Grown, Kept, GrownRecords, KeptRecords}
-use Rattle.grammar.specs.Sheet.{sheet-of, Out, done, fail, first-tree, after-records}
+use Rattle.rows.specs.Tree.{one}
+use Rattle.grammar.specs.Sheet.{sheet-of, first-tree}
 use Rattle.grammar.specs.Job.{Job}
 use Rattle.laws.specs.Bounds.{Limits, Bound, bounded, limits, reads}
 use Rattle.laws.specs.Owed.{oweds}
-use Rattle.making.specs.Post.{Comes, Made, Unmade, ReadTo, Refused, Met, ListTo, MetList, ClosedTo, NotClosedAt, MetClosed}
+use Rattle.making.specs.Post.{ReadTo, Refused, Met}
 use Rattle.making.specs.declared.cursor.Cursor.{Cursor}
 use Rattle.making.specs.declared.cursor.Step.{Step}
-use Rattle.making.specs.declared.cursor.Listed.{Listed}
 
 same-done : (c d : Cursor) → Step.Done c ≡ Step.Done d → c ≡ d
 same-done c d e = cc

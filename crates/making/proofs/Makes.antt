@@ -1,16 +1,15 @@
 -- What is added, one part after another: trees and records, rows over them, records after them; and what is given up again.
 -- Assumes nothing.
-use Prim.Native.Nat.{ℕ, _+_, _-_, _*_, _≤_, _<_}
+use Prim.Native.Nat.{ℕ, _+_, _-_, _*_, _≤_}
 use mathlib.Core.Path.{_≡_, refl, sym, ap, subst, _∙_}
-use mathlib.Core.List.{List, [], _∷_, _++_, append-nil}
-use native.Mathlib.Omega.{arith}
-use lib.ListN.{length, take}
-use Rattle.rows.specs.Tree.{Tree, Forest, node, nil, cons, one, join, count, sizes, size, flats}
+use mathlib.Core.List.{List, [], _∷_, _++_}
+use lib.ListN.{length}
+use Rattle.rows.specs.Tree.{Tree, Forest, node, nil, one, join, count, flats}
 use Rattle.rows.specs.Record.{Record, says}
-use Rattle.rows.specs.Post.{Pushed, Grown, Kept, GrownRecords, KeptRecords}
-use Rattle.rows.proofs.Rows.{sizes-join, grown-none, grown-join, grown-row, grown-leaf, grown-kept, kept-none, kept-kept, kept-grown, kept-past}
+use Rattle.rows.specs.Post.{Grown, GrownRecords}
+use Rattle.rows.proofs.Rows.{grown-none, grown-join, grown-row, grown-leaf, grown-kept, kept-none, kept-kept, kept-grown, kept-past}
 use Rattle.rows.proofs.Records.{grown-records-none, grown-records-join, grown-record, grown-records-kept, kept-records-none, kept-records-kept, kept-records-grown, kept-records-past}
-use Rattle.grammar.specs.Sheet.{Out, done, leaf}
+use Rattle.grammar.specs.Sheet.{done, leaf}
 use Rattle.grammar.specs.Job.{Job}
 use Rattle.making.specs.Post.{cursor, Comes, Met, Made, Unmade, Leafed, Topped, Said}
 use Rattle.making.specs.declared.cursor.Cursor.{Cursor}

@@ -2,7 +2,7 @@
 -- Nothing but this file looks at the bound on the steps.
 -- Assumes nothing.
 use Prim.Native.Nat.{ℕ, zero, suc, _+_, _-_, _*_, _≤_, _<_}
-use mathlib.Core.Path.{_≡_, refl, sym, ap, _∙_}
+use mathlib.Core.Path.{_≡_}
 use mathlib.Core.Bool.{Bool, true, false, not}
 use mathlib.Core.List.{List, [], _∷_, _++_, append-nil}
 use native.Mathlib.Omega.{arith}
@@ -19,7 +19,7 @@ use Rattle.rows.specs.Tree.{Tree, Forest, node, nil, cons, one, join, kind-of, 
 use Rattle.rows.specs.Record.{Record, break-before-arrow, rest-initializer}
 use Rattle.rows.specs.Row as Row
 use Rattle.conversion.specs.Conversion.{any, simple, turned, refused, convert-as}
-use Rattle.grammar.specs.Sheet.{Sheet, sheet-of, Out, done, fail, stuck, first-tree, leaf, after-records, and-then, _>>=_, yield, refuse, say}
+use Rattle.grammar.specs.Sheet.{sheet-of, Out, done, fail, first-tree, leaf, after-records, and-then, _>>=_, yield, refuse, say}
 use Rattle.grammar.specs.Job.{Job, expression, sequence, assignment, value, assign, conditional, binary, operators, unary, postfix, left-hand-side, links, arguments, primary, elements, properties, property, key, spread, binding, binding-element, binding-elements, binding-properties, binding-property, binding-rest, head, parameters, body}
 use Rattle.grammar.specs.Comma.{expression-of, sequence-of}
 use Rattle.grammar.specs.Assignment.{is-assignment-operator, assign-of, conditional-of, after-binary, is-async-name, value-of}
@@ -30,7 +30,7 @@ use Rattle.grammar.specs.Primary.{parenthesized-of, primary-of, spread-of, elem
 use Rattle.grammar.specs.Binding.{binding-of, binding-element-of, binding-rest-of, binding-elements-of, binding-properties-of, binding-shorthand-of, binding-property-of}
 use Rattle.grammar.specs.Arrow.{head-of, parenthesized-head-of, parameters-of, body-of}
 use Rattle.grammar.specs.Step.{step, read}
-use Rattle.laws.specs.Settles.{μ, rank, Settles}
+use Rattle.laws.specs.Settles.{μ, rank}
 use Rattle.grammar.specs.Reading.{box}
 use Rattle.laws.specs.Bounds.{bounded}
 use Rattle.making.specs.Post.{Comes}

@@ -1,16 +1,14 @@
 -- The rules of the assignment level, by the way that the box takes at a place.
 -- Assumes nothing.
-use Prim.Native.Nat.{ℕ, _+_, _<_}
-use mathlib.Core.Path.{_≡_, refl, sym, _∙_}
+use Prim.Native.Nat.{ℕ}
+use mathlib.Core.Path.{_≡_, refl}
 use mathlib.Core.Bool.{Bool, true, false, not}
 use mathlib.Core.List.{List}
 use native.Mathlib.Omega.{arith}
-use lib.ListN.{length, getD, set}
+use lib.ListN.{getD, set}
 use Rattle.tokens.specs.Bool.{_is_, if_then_else_}
 use Rattle.tokens.specs.declared.cause.Cause.{Cause}
-use Rattle.tokens.proofs.Stands.{stands-not}
 use Rattle.lookahead.specs.ThreeWay.{three-way}
-use Rattle.lookahead.specs.declared.Tristate.{Tristate}
 use Rattle.rows.specs.Tree.{Forest}
 use Rattle.rows.specs.Record.{Record}
 use Rattle.grammar.specs.Sheet.{Out, done, fail, after-records, and-then, or-else, _>>=_, try}

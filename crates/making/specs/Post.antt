@@ -9,7 +9,7 @@ use Rattle.tokens.specs.declared.cause.Cause.{Cause}
 use Rattle.rows.specs.Tree.{Tree, Forest, one, count}
 use Rattle.rows.specs.Record.{Record}
 use Rattle.rows.specs.Post.{Pushed, PushedRecord, Grown, Kept, GrownRecords, KeptRecords}
-use Rattle.grammar.specs.Sheet.{Sheet, sheet-of, Out, done, fail}
+use Rattle.grammar.specs.Sheet.{sheet-of, Out, done, fail}
 use Rattle.grammar.specs.Job.{Job, assignment}
 use Rattle.laws.specs.Settles.{Settles}
 use Rattle.grammar.specs.Reading.{box}

@@ -1,15 +1,15 @@
 -- Conversion of the tree that was read last: its rows stand from `from` up to n.
 -- Assumes nothing.
-use Prim.Native.Nat.{ℕ, _+_, _-_, _*_, _≤_, _<_}
-use mathlib.Core.Path.{_≡_, refl, sym, ap, subst, _∙_}
-use mathlib.Core.List.{List, [], _∷_, _++_, append-nil, append-assoc}
+use Prim.Native.Nat.{ℕ, _+_, _-_, _*_, _≤_}
+use mathlib.Core.Path.{_≡_, refl, sym, ap, _∙_}
+use mathlib.Core.List.{List, _++_, append-nil, append-assoc}
 use native.Mathlib.Omega.{arith}
-use lib.ListN.{length, getD, take, drop, take-append-drop, length-append}
-use lib.Seq.{length-take-le, take-append-le, take-at, getD-at, getD-take, getD-append-add}
+use lib.ListN.{length, take, drop, take-append-drop, length-append}
+use lib.Seq.{length-take-le, take-at}
 use Rattle.tokens.specs.declared.cause.Cause.{Cause}
-use Rattle.rows.specs.Tree.{Tree, Forest, node, nil, cons, one, row, size, sizes, flat, flats, kind-of, mark-of}
+use Rattle.rows.specs.Tree.{Tree, one, size, sizes, flat, flats}
 use Rattle.rows.specs.Record.{Record, record-words}
-use Rattle.rows.specs.Post.{Grown, GrownRecords}
+use Rattle.rows.specs.Post.{Grown}
 use Rattle.rows.proofs.Flat.{length-flat}
 use Rattle.rows.proofs.Records.{length-record-words}
 use Rattle.conversion.specs.Conversion.{Role, simple, Outcome, turned, refused, convert-as}
@@ -18,7 +18,6 @@ use Rattle.targets.specs.Post as Targets
 use Rattle.targets.specs.declared.Conversion.{Conversion}
 use Rattle.laws.specs.Owed.{same-size, pays}
 use Rattle.making.specs.Post.{cursor, Made}
-use Rattle.making.specs.declared.cursor.Cursor.{Cursor}
 
 pub flats-one : (t : Tree) → flats (one t) ≡ flat t
 unfolding flats

@@ -1,7 +1,7 @@
 -- The precedence of binary operators, from the tiers of ECMA-262 13.6 to 13.13: a tier further down binds tighter.
 -- Assumes nothing: these are definitions.
 use Prim.Native.Nat.{ℕ, suc}
-use mathlib.Core.Bool.{Bool, true, false}
+use mathlib.Core.Bool.{Bool, false}
 use mathlib.Core.List.{List, [], _∷_}
 use Rattle.tokens.specs.Bool.{_or_, _is_, if_then_else_}
 use Rattle.tokens.specs.Kind.{Question2, Pipe2, Amp2, Pipe, Caret, Amp, Eq2, Eq3, Neq, Neq2, LAngle, RAngle, LtEq, GtEq, Instanceof, In, As, Satisfies, ShiftLeft, ShiftRight, ShiftRight3, Plus, Minus, Star, Slash, Percent, Star2}

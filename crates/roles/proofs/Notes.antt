@@ -1,6 +1,6 @@
 -- A note is at most one record.
 -- Assumes nothing.
-use Prim.Native.Nat.{ℕ, _≤_}
+use Prim.Native.Nat.{_≤_}
 use lib.ListN.{length}
 use native.Mathlib.Omega.{arith}
 use Rattle.roles.specs.Meaning.{note}

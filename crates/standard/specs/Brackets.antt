@@ -7,51 +7,32 @@ use mathlib.Core.Bool.{Bool, true, false}
 use native.Mathlib.Omega.{arith}
 use native.Mathlib.Decide.{ℕ-discrete}
 use lib.Dec.{leb}
-use borrow.Author.Tests.{ne-eqb, eq-eqb, le-leb}
-use Rattle.tokens.specs.Bool.{_is_, if_then_else_}
-use Rattle.tokens.specs.Kind.{Async, LParen, RParen, LBrack, RBrack, LCurly, RCurly, Arrow}
+use borrow.Author.Tests.{eq-eqb, le-leb, lt-ltb}
+use Rattle.tokens.specs.Bool.{_is_}
+use Rattle.tokens.specs.Kind.{Async, LParen, Arrow}
 use Rattle.tokens.specs.Token.{is-name, is-word, is-literal}
 use Rattle.operators.specs.Precedence.{level, expression-level}
 use Rattle.rows.specs.Tree.{Forest}
 use Rattle.grammar.specs.Sheet.{Sheet, token}
+use Rattle.brackets.specs.Balanced as Balance
+use Rattle.brackets.specs.Balanced.{side-of, Side, Balanced, none, skip, nest, partner, joined, flat, name-flat, word-flat, literal-flat, operator-flat}
 use Rattle.standard.specs.Derives as D
 use Rattle.standard.specs.Derives.{Tok, Of, Operator, is-key, is-prefix, is-update, is-compound, Chain, Nonterminal, PrimaryExpression, ChainExpression, Arguments, UpdateExpression, UnaryExpression, TierExpression, CoalesceExpression, ShortCircuitExpression, SimpleTarget, AssignmentPattern, DestructuringAssignmentTarget, ArrowFormalParameters, Width, Derives}
 use Rattle.standard.specs.Roots.{not-both}
 use Rattle.standard.specs.Sound.{Head, plain-head, async-head}
 
--- 1 opens, 2 closes, 0 neither
-unfoldable pub side-of : ℕ → ℕ
-side-of k =
-    if k is LParen then 1 else if k is LBrack then 1 else if k is LCurly then 1
-    else if k is RParen then 2 else if k is RBrack then 2 else if k is RCurly then 2 else 0
-
-pub record Side (s : Sheet) (at n : ℕ) : Type 0 where
-  pub side-is : side-of (token s at) ≡ n
-
 pub side : {s : Sheet} {at k : ℕ} → Tok s at k → Side s at (side-of k)
-side t = record { side-is = ap side-of (t .kind-is) }
-
--- a token for which a test holds that holds of no bracket
-flat : {s : Sheet} {at : ℕ} (test : ℕ → Bool) → test LParen ≡ false → test RParen ≡ false → test LBrack ≡ false → test RBrack ≡ false → test LCurly ≡ false → test RCurly ≡ false
-    → test (token s at) ≡ true → Side s at 0
-unfolding side-of
-flat {s} {at} test a b c d e f t = record { side-is = rw (differs LParen a, differs RParen b, differs LBrack c, differs RBrack d, differs LCurly e, differs RCurly f) }
-  where
-    differs : (k : ℕ) → test k ≡ false → token s at is k ≡ false
-    differs k h = ne-eqb (token s at) k (λ q. not-both (ap test (sym q) ∙ t) h)
+side t = Balance.side (t .kind-is)
 
 module _ {s : Sheet} {at : ℕ} where
   name-side : Of is-name s at → Side s at 0
-  unfolding is-name
-  name-side t = flat is-name refl refl refl refl refl refl (t .holds)
+  name-side t = name-flat (t .holds)
 
   word-side : Of is-word s at → Side s at 0
-  unfolding is-word
-  word-side t = flat is-word refl refl refl refl refl refl (t .holds)
+  word-side t = word-flat (t .holds)
 
   literal-side : Of is-literal s at → Side s at 0
-  unfolding is-literal
-  literal-side t = flat is-literal refl refl refl refl refl refl (t .holds)
+  literal-side t = literal-flat (t .holds)
 
   key-side : Of is-key s at → Side s at 0
   unfolding is-key is-word
@@ -70,55 +51,27 @@ module _ {s : Sheet} {at : ℕ} where
   compound-side t = flat is-compound refl refl refl refl refl refl (t .holds)
 
   operator-side : {tier : ℕ} → 2 ≤ tier → Operator s at tier → Side s at 0
-  unfolding expression-level level
-  operator-side {tier} h t = flat (λ k. leb 1 (expression-level k)) refl refl refl refl refl refl (by (expression-level (token s at)) (t .level-is))
-    where
-      by : (l : ℕ) → l ≡ tier → leb 1 l ≡ true
-      by zero e = absurd (omega arith)
-      by (suc l) e = rw (le-leb 1 (suc l) (omega arith))
-
--- brackets in pairs from i to j
-pub data Bal (s : Sheet) : ℕ → ℕ → Type 0 where
-  stop : {i : ℕ} → Bal s i i
-  skip : {i j : ℕ} → Side s i 0 → Bal s (i + 1) j → Bal s i j
-  nest : {i k j : ℕ} → Side s i 1 → Bal s (i + 1) k → Side s k 2 → Bal s (k + 1) j → Bal s i j
-
-pub join-bal : {s : Sheet} {i j k : ℕ} → Bal s i j → Bal s j k → Bal s i k
-join-bal stop b = b
-join-bal (skip t a) b = skip t (join-bal a b)
-join-bal (nest t a u c) b = nest t a u (join-bal c b)
-
--- a bracket has one partner
-pub partner : {s : Sheet} {i j k : ℕ} → Bal s i j → Bal s i k → Side s j 2 → Side s k 2 → j ≡ k
-partner stop stop t u = refl
-partner stop (skip a b) t u = absurd (omega (arith, a .side-is, t .side-is))
-partner stop (nest a b c d) t u = absurd (omega (arith, a .side-is, t .side-is))
-partner (skip a b) stop t u = absurd (omega (arith, a .side-is, u .side-is))
-partner (skip a b) (skip a′ b′) t u = partner b b′ t u
-partner (skip a b) (nest a′ b′ c′ d′) t u = absurd (omega (arith, a .side-is, a′ .side-is))
-partner (nest a b c d) stop t u = absurd (omega (arith, a .side-is, u .side-is))
-partner (nest a b c d) (skip a′ b′) t u = absurd (omega (arith, a .side-is, a′ .side-is))
-partner {s} {k = z} (nest a b c d) (nest a′ b′ c′ d′) t u = partner d (subst (λ (x : ℕ). Bal s (x + 1) z) (sym (partner b b′ c c′)) d′) t u
+  operator-side h t = operator-flat 0 (lt-ltb 0 (expression-level (token s at)) (omega (arith, t .level-is)))
 
 module _ {s : Sheet} where
-  one-token : {i : ℕ} → Side s i 0 → Bal s i (i + 1)
-  one-token t = skip t stop
+  one-token : {i : ℕ} → Side s i 0 → Balanced s i (i + 1)
+  one-token t = skip t none
 
-  token-two : (i : ℕ) → Side s (i + 1) 0 → Bal s (i + 1) (i + 2)
-  token-two i t = let e : i + 1 + 1 ≡ i + 2 = omega arith in subst (Bal s (i + 1)) e (one-token t)
+  token-two : (i : ℕ) → Side s (i + 1) 0 → Balanced s (i + 1) (i + 2)
+  token-two i t = let e : i + 1 + 1 ≡ i + 2 = omega arith in subst (Balanced s (i + 1)) e (one-token t)
 
-  pair : {i p : ℕ} → Side s i 1 → Bal s (i + 1) p → Side s p 2 → Bal s i (p + 1)
-  pair t a u = nest t a u stop
+  pair : {i p : ℕ} → Side s i 1 → Balanced s (i + 1) p → Side s p 2 → Balanced s i (p + 1)
+  pair t a u = nest t a u none
 
-  pair-two : {i : ℕ} (p : ℕ) → Side s i 1 → Bal s (i + 1) (p + 1) → Side s (p + 1) 2 → Bal s i (p + 2)
-  pair-two {i} p t a u = let e : p + 1 + 1 ≡ p + 2 = omega arith in subst (Bal s i) e (pair t a u)
+  pair-two : {i : ℕ} (p : ℕ) → Side s i 1 → Balanced s (i + 1) (p + 1) → Side s (p + 1) 2 → Balanced s i (p + 2)
+  pair-two {i} p t a u = let e : p + 1 + 1 ≡ p + 2 = omega arith in subst (Balanced s i) e (pair t a u)
 
 -- whatever is derived has its brackets in pairs
-pub balanced : {w : Width} {s : Sheet} {x : Nonterminal} {i j : ℕ} {ts : Forest} → Derives w s x i j ts → Bal s i j
+pub balanced : {w : Width} {s : Sheet} {x : Nonterminal} {i j : ℕ} {ts : Forest} → Derives w s x i j ts → Balanced s i j
 unfolding side-of
 balanced (D.first-of-list a) = balanced a
-balanced (D.next-of-list a b c) = join-bal (balanced a) (join-bal (one-token (side b)) (balanced c))
-balanced (D.elided a b) = join-bal (balanced a) (balanced b)
+balanced (D.next-of-list a b c) = joined (balanced a) (joined (one-token (side b)) (balanced c))
+balanced (D.elided a b) = joined (balanced a) (balanced b)
 balanced (D.this a) = one-token (side a)
 balanced (D.identifier a) = one-token (name-side a)
 balanced (D.literal a) = one-token (literal-side a)
@@ -127,118 +80,118 @@ balanced (D.object a) = balanced a
 balanced (D.parenthesized a b c) = pair (side a) (balanced b) (side c)
 balanced (D.array-empty a b c) = pair (side a) (balanced b) (side c)
 balanced (D.array-list a b c) = pair (side a) (balanced b) (side c)
-balanced (D.array-comma a b c d e) = pair (side a) (join-bal (balanced b) (join-bal (one-token (side c)) (balanced d))) (side e)
-balanced D.no-elision = stop
-balanced (D.elision a b) = join-bal (balanced a) (one-token (side b))
-balanced (D.spread a b) = join-bal (one-token (side a)) (balanced b)
+balanced (D.array-comma a b c d e) = pair (side a) (joined (balanced b) (joined (one-token (side c)) (balanced d))) (side e)
+balanced D.no-elision = none
+balanced (D.elision a b) = joined (balanced a) (one-token (side b))
+balanced (D.spread a b) = joined (one-token (side a)) (balanced b)
 balanced (D.plain-element a) = balanced a
 balanced (D.spread-element a) = balanced a
-balanced (D.object-empty {i = i} a b) = pair-two i (side a) stop (side b)
+balanced (D.object-empty {i = i} a b) = pair-two i (side a) none (side b)
 balanced (D.object-list a b c) = pair (side a) (balanced b) (side c)
-balanced (D.object-comma {p = p} a b c d) = pair-two p (side a) (join-bal (balanced b) (one-token (side c))) (side d)
+balanced (D.object-comma {p = p} a b c d) = pair-two p (side a) (joined (balanced b) (one-token (side c))) (side d)
 balanced (D.shorthand a) = one-token (name-side a)
-balanced (D.cover-initialized {i = i} a b c) = join-bal (one-token (name-side a)) (join-bal (token-two i (side b)) (balanced c))
-balanced (D.property a b c) = join-bal (balanced a) (join-bal (one-token (side b)) (balanced c))
+balanced (D.cover-initialized {i = i} a b c) = joined (one-token (name-side a)) (joined (token-two i (side b)) (balanced c))
+balanced (D.property a b c) = joined (balanced a) (joined (one-token (side b)) (balanced c))
 balanced (D.spread-property a) = balanced a
 balanced (D.literal-name a) = one-token (key-side a)
 balanced (D.computed-name a b c) = pair (side a) (balanced b) (side c)
 balanced (D.primary a) = balanced a
-balanced (D.index a b c d) = join-bal (balanced a) (pair (side b) (balanced c) (side d))
-balanced (D.member {p = p} a b c) = join-bal (balanced a) (join-bal (one-token (side b)) (token-two p (word-side c)))
-balanced (D.call a b) = join-bal (balanced a) (balanced b)
+balanced (D.index a b c d) = joined (balanced a) (pair (side b) (balanced c) (side d))
+balanced (D.member {p = p} a b c) = joined (balanced a) (joined (one-token (side b)) (token-two p (word-side c)))
+balanced (D.call a b) = joined (balanced a) (balanced b)
 balanced (D.chain a) = balanced a
-balanced (D.no-arguments {i = i} a b) = pair-two i (side a) stop (side b)
+balanced (D.no-arguments {i = i} a b) = pair-two i (side a) none (side b)
 balanced (D.arguments a b c) = pair (side a) (balanced b) (side c)
-balanced (D.arguments-comma {p = p} a b c d) = pair-two p (side a) (join-bal (balanced b) (one-token (side c))) (side d)
+balanced (D.arguments-comma {p = p} a b c d) = pair-two p (side a) (joined (balanced b) (one-token (side c))) (side d)
 balanced (D.left-hand-side a) = balanced a
-balanced (D.postfix a b _) = join-bal (balanced a) (one-token (update-side b))
-balanced (D.prefix a b) = join-bal (one-token (update-side a)) (balanced b)
+balanced (D.postfix a b _) = joined (balanced a) (one-token (update-side b))
+balanced (D.prefix a b) = joined (one-token (update-side a)) (balanced b)
 balanced (D.update a) = balanced a
-balanced (D.unary a b) = join-bal (one-token (prefix-side a)) (balanced b)
+balanced (D.unary a b) = joined (one-token (prefix-side a)) (balanced b)
 balanced (D.no-power a) = balanced a
-balanced (D.power a b c) = join-bal (balanced a) (join-bal (one-token (side b)) (balanced c))
-balanced (D.power-of-unary _ b c d) = join-bal (balanced b) (join-bal (one-token (side c)) (balanced d))
+balanced (D.power a b c) = joined (balanced a) (joined (one-token (side b)) (balanced c))
+balanced (D.power-of-unary _ b c d) = joined (balanced b) (joined (one-token (side c)) (balanced d))
 balanced (D.tier-up _ b) = balanced b
-balanced (D.operation a b c d) = join-bal (balanced b) (join-bal (one-token (operator-side a c)) (balanced d))
+balanced (D.operation a b c d) = joined (balanced b) (joined (one-token (operator-side a c)) (balanced d))
 balanced (D.head-coalesce a) = balanced a
 balanced (D.head-or a) = balanced a
-balanced (D.coalesce a b c) = join-bal (balanced a) (join-bal (one-token (side b)) (balanced c))
-balanced (D.coalesce-mixed _ b c d) = join-bal (balanced b) (join-bal (one-token (side c)) (balanced d))
+balanced (D.coalesce a b c) = joined (balanced a) (joined (one-token (side b)) (balanced c))
+balanced (D.coalesce-mixed _ b c d) = joined (balanced b) (joined (one-token (side c)) (balanced d))
 balanced (D.short-circuit-or a) = balanced a
 balanced (D.short-circuit-coalesce a) = balanced a
 balanced (D.short-circuit a) = balanced a
-balanced (D.conditional a b c d e) = join-bal (balanced a) (join-bal (one-token (side b)) (join-bal (balanced c) (join-bal (one-token (side d)) (balanced e))))
+balanced (D.conditional a b c d e) = joined (balanced a) (joined (one-token (side b)) (joined (balanced c) (joined (one-token (side d)) (balanced e))))
 balanced (D.no-assignment a) = balanced a
-balanced (D.arrow a b _ d) = join-bal (balanced a) (join-bal (one-token (side b)) (balanced d))
-balanced (D.async-arrow a b _ d) = join-bal (balanced a) (join-bal (one-token (side b)) (balanced d))
-balanced (D.arrow-broken _ b c d) = join-bal (balanced b) (join-bal (one-token (side c)) (balanced d))
-balanced (D.async-arrow-broken _ b c d) = join-bal (balanced b) (join-bal (one-token (side c)) (balanced d))
-balanced (D.assign a b c) = join-bal (balanced a) (join-bal (one-token (side b)) (balanced c))
-balanced (D.compound-assign a b c) = join-bal (balanced a) (join-bal (one-token (compound-side b)) (balanced c))
+balanced (D.arrow a b _ d) = joined (balanced a) (joined (one-token (side b)) (balanced d))
+balanced (D.async-arrow a b _ d) = joined (balanced a) (joined (one-token (side b)) (balanced d))
+balanced (D.arrow-broken _ b c d) = joined (balanced b) (joined (one-token (side c)) (balanced d))
+balanced (D.async-arrow-broken _ b c d) = joined (balanced b) (joined (one-token (side c)) (balanced d))
+balanced (D.assign a b c) = joined (balanced a) (joined (one-token (side b)) (balanced c))
+balanced (D.compound-assign a b c) = joined (balanced a) (joined (one-token (compound-side b)) (balanced c))
 balanced (D.target-name a) = one-token (name-side a)
-balanced (D.target-index a b c d) = join-bal (balanced a) (pair (side b) (balanced c) (side d))
-balanced (D.target-member {p = p} a b c) = join-bal (balanced a) (join-bal (one-token (side b)) (token-two p (word-side c)))
+balanced (D.target-index a b c d) = joined (balanced a) (pair (side b) (balanced c) (side d))
+balanced (D.target-member {p = p} a b c) = joined (balanced a) (joined (one-token (side b)) (token-two p (word-side c)))
 balanced (D.target-parenthesized a b c) = pair (side a) (balanced b) (side c)
 balanced (D.target-simple a) = balanced a
 balanced (D.target-pattern a) = balanced a
 balanced (D.target-array-empty a b c) = pair (side a) (balanced b) (side c)
 balanced (D.target-array-rest a b c) = pair (side a) (balanced b) (side c)
 balanced (D.target-array-list a b c) = pair (side a) (balanced b) (side c)
-balanced (D.target-array-comma a b c d e) = pair (side a) (join-bal (balanced b) (join-bal (one-token (side c)) (balanced d))) (side e)
-balanced (D.target-array-list-rest a b c d e) = pair (side a) (join-bal (balanced b) (join-bal (one-token (side c)) (balanced d))) (side e)
-balanced (D.target-array-rest-comma {p = p} _ b c d e) = pair-two p (side b) (join-bal (balanced c) (one-token (side d))) (side e)
-balanced (D.target-array-list-rest-comma {q = q} _ b c d e f g) = pair-two q (side b) (join-bal (balanced c) (join-bal (one-token (side d)) (join-bal (balanced e) (one-token (side f))))) (side g)
-balanced (D.target-object-empty {i = i} a b) = pair-two i (side a) stop (side b)
+balanced (D.target-array-comma a b c d e) = pair (side a) (joined (balanced b) (joined (one-token (side c)) (balanced d))) (side e)
+balanced (D.target-array-list-rest a b c d e) = pair (side a) (joined (balanced b) (joined (one-token (side c)) (balanced d))) (side e)
+balanced (D.target-array-rest-comma {p = p} _ b c d e) = pair-two p (side b) (joined (balanced c) (one-token (side d))) (side e)
+balanced (D.target-array-list-rest-comma {q = q} _ b c d e f g) = pair-two q (side b) (joined (balanced c) (joined (one-token (side d)) (joined (balanced e) (one-token (side f))))) (side g)
+balanced (D.target-object-empty {i = i} a b) = pair-two i (side a) none (side b)
 balanced (D.target-object-rest a b c) = pair (side a) (balanced b) (side c)
 balanced (D.target-object-list a b c) = pair (side a) (balanced b) (side c)
-balanced (D.target-object-comma {p = p} a b c d) = pair-two p (side a) (join-bal (balanced b) (one-token (side c))) (side d)
-balanced (D.target-object-list-rest a b c d e) = pair (side a) (join-bal (balanced b) (join-bal (one-token (side c)) (balanced d))) (side e)
-balanced (D.target-object-rest-comma {p = p} _ b c d e) = pair-two p (side b) (join-bal (balanced c) (one-token (side d))) (side e)
-balanced (D.target-object-list-rest-comma {q = q} _ b c d e f g) = pair-two q (side b) (join-bal (balanced c) (join-bal (one-token (side d)) (join-bal (balanced e) (one-token (side f))))) (side g)
+balanced (D.target-object-comma {p = p} a b c d) = pair-two p (side a) (joined (balanced b) (one-token (side c))) (side d)
+balanced (D.target-object-list-rest a b c d e) = pair (side a) (joined (balanced b) (joined (one-token (side c)) (balanced d))) (side e)
+balanced (D.target-object-rest-comma {p = p} _ b c d e) = pair-two p (side b) (joined (balanced c) (one-token (side d))) (side e)
+balanced (D.target-object-list-rest-comma {q = q} _ b c d e f g) = pair-two q (side b) (joined (balanced c) (joined (one-token (side d)) (joined (balanced e) (one-token (side f))))) (side g)
 balanced (D.target-element a) = balanced a
-balanced (D.target-default a b c) = join-bal (balanced a) (join-bal (one-token (side b)) (balanced c))
-balanced (D.target-compound _ b c d) = join-bal (balanced b) (join-bal (one-token (compound-side c)) (balanced d))
-balanced (D.target-rest a b) = join-bal (one-token (side a)) (balanced b)
+balanced (D.target-default a b c) = joined (balanced a) (joined (one-token (side b)) (balanced c))
+balanced (D.target-compound _ b c d) = joined (balanced b) (joined (one-token (compound-side c)) (balanced d))
+balanced (D.target-rest a b) = joined (one-token (side a)) (balanced b)
 balanced (D.target-shorthand a) = one-token (name-side a)
-balanced (D.target-shorthand-default {i = i} a b c) = join-bal (one-token (name-side a)) (join-bal (token-two i (side b)) (balanced c))
-balanced (D.target-property a b c) = join-bal (balanced a) (join-bal (one-token (side b)) (balanced c))
-balanced (D.target-rest-property a b) = join-bal (one-token (side a)) (balanced b)
-balanced (D.target-rest-pattern _ b c) = join-bal (one-token (side b)) (balanced c)
+balanced (D.target-shorthand-default {i = i} a b c) = joined (one-token (name-side a)) (joined (token-two i (side b)) (balanced c))
+balanced (D.target-property a b c) = joined (balanced a) (joined (one-token (side b)) (balanced c))
+balanced (D.target-rest-property a b) = joined (one-token (side a)) (balanced b)
+balanced (D.target-rest-pattern _ b c) = joined (one-token (side b)) (balanced c)
 balanced (D.no-comma a) = balanced a
 balanced (D.sequence a) = balanced a
-balanced (D.first-comma a b c) = join-bal (balanced a) (join-bal (one-token (side b)) (balanced c))
-balanced (D.next-comma a b c) = join-bal (balanced a) (join-bal (one-token (side b)) (balanced c))
+balanced (D.first-comma a b c) = joined (balanced a) (joined (one-token (side b)) (balanced c))
+balanced (D.next-comma a b c) = joined (balanced a) (joined (one-token (side b)) (balanced c))
 balanced (D.binding-name a) = one-token (name-side a)
 balanced (D.binding-pattern a) = balanced a
-balanced (D.binding-object-empty {i = i} a b) = pair-two i (side a) stop (side b)
+balanced (D.binding-object-empty {i = i} a b) = pair-two i (side a) none (side b)
 balanced (D.binding-object-rest a b c) = pair (side a) (balanced b) (side c)
 balanced (D.binding-object-list a b c) = pair (side a) (balanced b) (side c)
-balanced (D.binding-object-comma {p = p} a b c d) = pair-two p (side a) (join-bal (balanced b) (one-token (side c))) (side d)
-balanced (D.binding-object-list-rest a b c d e) = pair (side a) (join-bal (balanced b) (join-bal (one-token (side c)) (balanced d))) (side e)
+balanced (D.binding-object-comma {p = p} a b c d) = pair-two p (side a) (joined (balanced b) (one-token (side c))) (side d)
+balanced (D.binding-object-list-rest a b c d e) = pair (side a) (joined (balanced b) (joined (one-token (side c)) (balanced d))) (side e)
 balanced (D.binding-array-empty a b c) = pair (side a) (balanced b) (side c)
 balanced (D.binding-array-rest a b c) = pair (side a) (balanced b) (side c)
 balanced (D.binding-array-list a b c) = pair (side a) (balanced b) (side c)
-balanced (D.binding-array-comma a b c d e) = pair (side a) (join-bal (balanced b) (join-bal (one-token (side c)) (balanced d))) (side e)
-balanced (D.binding-array-list-rest a b c d e) = pair (side a) (join-bal (balanced b) (join-bal (one-token (side c)) (balanced d))) (side e)
+balanced (D.binding-array-comma a b c d e) = pair (side a) (joined (balanced b) (joined (one-token (side c)) (balanced d))) (side e)
+balanced (D.binding-array-list-rest a b c d e) = pair (side a) (joined (balanced b) (joined (one-token (side c)) (balanced d))) (side e)
 balanced (D.no-default a) = balanced a
-balanced (D.binding-default a b c) = join-bal (balanced a) (join-bal (one-token (side b)) (balanced c))
-balanced (D.binding-rest a b) = join-bal (one-token (side a)) (balanced b)
-balanced (D.binding-rest-default _ b c) = join-bal (one-token (side b)) (balanced c)
+balanced (D.binding-default a b c) = joined (balanced a) (joined (one-token (side b)) (balanced c))
+balanced (D.binding-rest a b) = joined (one-token (side a)) (balanced b)
+balanced (D.binding-rest-default _ b c) = joined (one-token (side b)) (balanced c)
 balanced (D.binding-shorthand a) = one-token (name-side a)
-balanced (D.binding-shorthand-default {i = i} a b c) = join-bal (one-token (name-side a)) (join-bal (token-two i (side b)) (balanced c))
-balanced (D.binding-property a b c) = join-bal (balanced a) (join-bal (one-token (side b)) (balanced c))
-balanced (D.binding-rest-property {i = i} a b) = join-bal (one-token (side a)) (token-two i (name-side b))
-balanced D.no-parameters = stop
+balanced (D.binding-shorthand-default {i = i} a b c) = joined (one-token (name-side a)) (joined (token-two i (side b)) (balanced c))
+balanced (D.binding-property a b c) = joined (balanced a) (joined (one-token (side b)) (balanced c))
+balanced (D.binding-rest-property {i = i} a b) = joined (one-token (side a)) (token-two i (name-side b))
+balanced D.no-parameters = none
 balanced (D.rest-parameter a) = balanced a
 balanced (D.parameters a) = balanced a
-balanced (D.parameters-comma a b) = join-bal (balanced a) (one-token (side b))
-balanced (D.parameters-rest a b c) = join-bal (balanced a) (join-bal (one-token (side b)) (balanced c))
+balanced (D.parameters-comma a b) = joined (balanced a) (one-token (side b))
+balanced (D.parameters-rest a b c) = joined (balanced a) (joined (one-token (side b)) (balanced c))
 balanced (D.arrow-formal-parameters a b c) = pair (side a) (balanced b) (side c)
 balanced (D.arrow-name a) = one-token (name-side a)
 balanced (D.arrow-parameters a) = balanced a
 balanced (D.concise-body _ b) = balanced b
-balanced (D.async-name {i = i} a b _) = join-bal (one-token (side a)) (token-two i (name-side b))
-balanced (D.async-parameters a _ c) = join-bal (one-token (side a)) (balanced c)
+balanced (D.async-name {i = i} a b _) = joined (one-token (side a)) (token-two i (name-side b))
+balanced (D.async-parameters a _ c) = joined (one-token (side a)) (balanced c)
 
 -- WHERE NO HEAD CAN BE
 -- a token is of one kind
@@ -252,7 +205,7 @@ of-kind test k f t u = not-both (ap test (sym (u .kind-is)) ∙ t) f
 -- `(` at a, and its partner at e
 pub record Group (s : Sheet) (a e : ℕ) : Type 0 where
   pub opens : Tok s a LParen
-  pub inside : Bal s (a + 1) e
+  pub inside : Balanced s (a + 1) e
   pub closes : Side s e 2
 
 -- neither `=>` nor `(` follows
@@ -327,9 +280,9 @@ other-test test a b t = other-opening (of-kind test LParen a t) (of-kind test As
 -- a call
 pub arguments-group : {w : Width} {s : Sheet} {i j : ℕ} {ts : Forest} → Derives w s Arguments i j ts → (e : ℕ) × Group s i e × (j ≡ e + 1)
 unfolding side-of
-arguments-group (D.no-arguments {i = i} o c) = (i + 1, record { opens = o; inside = stop; closes = side c }, omega arith)
+arguments-group (D.no-arguments {i = i} o c) = (i + 1, record { opens = o; inside = none; closes = side c }, omega arith)
 arguments-group (D.arguments {p = p} o d c) = (p, record { opens = o; inside = balanced d; closes = side c }, refl)
-arguments-group (D.arguments-comma {p = p} o d t c) = (p + 1, record { opens = o; inside = join-bal (balanced d) (one-token (side t)); closes = side c }, omega arith)
+arguments-group (D.arguments-comma {p = p} o d t c) = (p + 1, record { opens = o; inside = joined (balanced d) (one-token (side t)); closes = side c }, omega arith)
 
 called : {w : Width} {s : Sheet} {i p j : ℕ} {ts : Forest} → Prefix s i p → Derives w s Arguments p j ts → Prefix s i j
 called (settled o) d = settled o

@@ -8,7 +8,6 @@ use mathlib.Core.Logic.{_↔_}
 use lib.ListN.{length}
 use Rattle.rows.specs.Tree.{Tree, Forest, one}
 use Rattle.grammar.specs.Sheet.{Sheet, first-tree}
-use Rattle.grammar.specs.Job as J
 use Rattle.grammar.specs.Job.{Job}
 use Rattle.grammar.specs.Reading.{whole, plain, plain-reading, plain-pattern}
 use Rattle.laws.specs.Steady.{one-outcome}

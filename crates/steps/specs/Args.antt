@@ -1,15 +1,15 @@
 -- `args`, 13.3: its loop, and each way out of it. `start` is where the loop begins, past the bracket.
 -- Assumes nothing.
 use Prim.Native.Nat.{ℕ, _+_, _*_, _≤_, _<_}
-use mathlib.Core.Path.{_≡_, refl, sym, ap, subst, _∙_}
-use mathlib.Core.List.{List, [], _∷_, _++_}
+use mathlib.Core.Path.{_≡_, refl, sym, _∙_}
+use mathlib.Core.List.{List, [], _++_}
 use native.Mathlib.Omega.{arith}
 use lib.ListN.{length, getD}
 use Rattle.tokens.specs.Bool.{_is_, if_then_else_}
 use Rattle.tokens.specs.Kind.{RParen, Comma, Dot3}
 use Rattle.tokens.specs.declared.cause.Cause.{Cause}
 use Rattle.tokens.proofs.Stands.{stands}
-use Rattle.rows.specs.Tree.{Tree, Forest, node, nil, cons, one, join, count}
+use Rattle.rows.specs.Tree.{Tree, Forest, one, join, count}
 use Rattle.rows.specs.Record.{Record}
 use Rattle.rows.specs.Row as Row
 use Rattle.rows.specs.Post.{Grown}

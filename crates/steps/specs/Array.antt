@@ -1,8 +1,8 @@
 -- `array`, 13.2.4: its loop, and each way out of it.
 -- Assumes nothing.
-use Prim.Native.Nat.{ℕ, _+_, _*_, _≤_, _<_}
+use Prim.Native.Nat.{ℕ, _+_, _≤_, _<_}
 use mathlib.Core.Path.{_≡_, refl, sym, ap, subst, _∙_}
-use mathlib.Core.List.{List, [], _∷_, _++_}
+use mathlib.Core.List.{List, [], _++_}
 use native.Mathlib.Omega.{arith}
 use lib.ListN.{length, getD}
 use borrow.Author.Tests.{ne-eqb}
@@ -10,7 +10,7 @@ use Rattle.tokens.specs.Bool.{_is_, if_then_else_}
 use Rattle.tokens.specs.Kind.{RBrack, Comma, Dot3}
 use Rattle.tokens.specs.declared.cause.Cause.{Cause}
 use Rattle.tokens.proofs.Stands.{stands}
-use Rattle.rows.specs.Tree.{Tree, Forest, node, nil, cons, one, join, count}
+use Rattle.rows.specs.Tree.{Forest, nil, one, join, count}
 use Rattle.rows.specs.Record.{Record}
 use Rattle.rows.specs.Row as Row
 use Rattle.rows.proofs.Rows.{count-join, grown-none}

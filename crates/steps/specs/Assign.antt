@@ -1,16 +1,16 @@
 -- `assign`, 13.15 where a head may open: each way out of it.
 -- Assumes nothing.
-use Prim.Native.Nat.{ℕ, _+_, _*_, _≤_, _<_}
+use Prim.Native.Nat.{ℕ, _+_, _≤_, _<_}
 use mathlib.Core.Path.{_≡_, refl, sym, ap, subst, _∙_}
 use mathlib.Core.Bool.{Bool, true, false}
-use mathlib.Core.List.{List, [], _∷_, _++_}
+use mathlib.Core.List.{List, _++_}
 use native.Mathlib.Omega.{arith}
 use lib.ListN.{length, set, getD}
 use Rattle.tokens.specs.Bool.{if_then_else_}
 use Rattle.tokens.specs.declared.cause.Cause.{Cause}
 use Rattle.rows.specs.Tree.{Forest}
 use Rattle.rows.specs.Record.{Record}
-use Rattle.grammar.specs.Sheet.{sheet-of, Out, done, fail, after-records}
+use Rattle.grammar.specs.Sheet.{sheet-of, Out, done, after-records}
 use Rattle.grammar.specs.Job.{Job, assignment, value, head, body}
 use Rattle.grammar.specs.Arrow as Grammar
 use Rattle.trees.proofs.Walks.{some-rows}

@@ -1,16 +1,16 @@
 -- `assigned`, 13.15: each way out of it.
 -- Assumes nothing.
-use Prim.Native.Nat.{ℕ, _+_, _*_, _≤_, _<_}
+use Prim.Native.Nat.{ℕ, _+_, _*_, _≤_}
 use mathlib.Core.Path.{_≡_, refl, sym, ap, subst, _∙_}
 use mathlib.Core.Bool.{Bool, true, false, not}
-use mathlib.Core.List.{List, _++_}
+use mathlib.Core.List.{List}
 use native.Mathlib.Omega.{arith}
 use lib.ListN.{length, getD, take, drop}
 use lib.Seq.{drop-append-seam}
 use Rattle.tokens.specs.Bool.{_is_, if_then_else_}
 use Rattle.tokens.specs.Kind.{Eq}
 use Rattle.tokens.specs.declared.cause.Cause.{Cause}
-use Rattle.rows.specs.Tree.{Tree, Forest, one, join, count, flats}
+use Rattle.rows.specs.Tree.{Tree, one, count, flats}
 use Rattle.rows.specs.Row as Row
 use Rattle.rows.specs.Post.{Grown}
 use Rattle.rows.proofs.Flat.{flats-injective}
@@ -21,7 +21,7 @@ use Rattle.targets.specs.Post as Targets
 use Rattle.targets.specs.declared.Conversion.{Conversion}
 use Rattle.grammar.specs.Sheet.{first-tree}
 use Rattle.grammar.specs.Job.{assignment, assign}
-use Rattle.laws.specs.Owed.{owed, lent, pays}
+use Rattle.laws.specs.Owed.{pays}
 use Rattle.laws.specs.Bounds.{lent-either}
 use Rattle.making.specs.Post.{Room, Met, MetOver, Topped, Operand}
 use Rattle.making.specs.declared.cursor.Cursor.{Cursor}
@@ -29,7 +29,7 @@ use Rattle.making.specs.declared.cursor.Step.{Step}
 use Rattle.making.proofs.Rules.{assign-refused, assign-fails, assign-done}
 use Rattle.making.proofs.Ends.{is-fail, single}
 use Rattle.making.proofs.Makes.{made-then, unmade-none, unmade-after, is-topped, count-one}
-use Rattle.operation.proofs.Converts.{rooted, Turned, Unturned, is-turned, is-refused}
+use Rattle.operation.proofs.Converts.{rooted, Turned, is-turned, is-refused}
 
 -- one tree stands in rows
 pub stands-once : (r : List ℕ) (from n : ℕ) (t u : Tree) → Grown r from r n (one t) → Grown r from r n (one u) → t ≡ u

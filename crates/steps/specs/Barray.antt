@@ -1,17 +1,16 @@
 -- `barray`, 14.3.3: each way out of it, and each turn of its loop.
 -- Assumes nothing.
-use Prim.Native.Nat.{ℕ, _+_, _-_, _*_, _≤_, _<_}
-use mathlib.Core.Path.{_≡_, refl, sym, ap, subst, _∙_}
-use mathlib.Core.List.{List, [], _∷_, _++_}
+use Prim.Native.Nat.{ℕ, _+_, _-_, _<_}
+use mathlib.Core.Path.{_≡_, refl, sym, subst, _∙_}
+use mathlib.Core.List.{List, _++_}
 use native.Mathlib.Omega.{arith}
 use lib.ListN.{length, getD}
 use Rattle.tokens.specs.declared.cause.Cause.{Cause}
 use Rattle.tokens.proofs.Stands.{stands}
-use Rattle.rows.specs.Tree.{Forest, node, nil, one, join, count}
-use Rattle.rows.specs.Record.{Record}
+use Rattle.rows.specs.Tree.{node, nil, one, join}
 use Rattle.rows.specs.Row as Row
 use Rattle.rows.proofs.Rows.{count-join}
-use Rattle.grammar.specs.Sheet.{Out, done, fail}
+use Rattle.grammar.specs.Sheet.{done}
 use Rattle.grammar.specs.Job.{binding-elements, binding-element, binding-rest}
 use Rattle.making.specs.Post.{cursor, Comes, Room, Met, MetClosed, Leafed, Topped}
 use Rattle.making.specs.declared.cursor.Cursor.{Cursor}

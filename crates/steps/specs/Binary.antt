@@ -11,14 +11,14 @@ use borrow.Author.Tests.{lt-ltb, le-ltb}
 use Rattle.tokens.specs.declared.cause.Cause.{Cause}
 use Rattle.tokens.proofs.Stands.{stands-not}
 use Rattle.operators.specs.Precedence.{level, expression-level}
-use Rattle.rows.specs.Tree.{Tree, Forest, node, nil, cons, one, size, sizes}
+use Rattle.rows.specs.Tree.{Tree, Forest, node, nil, cons, one, size}
 use Rattle.rows.specs.Record.{Record}
 use Rattle.rows.specs.Post.{Grown}
 use Rattle.rows.proofs.Rows.{kept-past}
 use Rattle.grammar.specs.Sheet.{sheet-of, Out, done, fail, first-tree, after-records}
 use Rattle.grammar.specs.Job.{binary, operators, unary}
 use Rattle.grammar.specs.Binary.{operation-kind, right-floor, operation-records}
-use Rattle.laws.specs.Owed.{owed, oweds}
+use Rattle.laws.specs.Owed.{owed}
 use Rattle.laws.specs.Bounds.{alone, operation-one, operation-free, sizes-nil, sizes-cons, oweds-nil, oweds-cons, size-node, owed-node}
 use Rattle.making.specs.Post.{Room, Comes, Made, ReadTo, Met}
 use Rattle.operation.specs.Operation.{Finished}

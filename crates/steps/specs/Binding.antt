@@ -3,7 +3,7 @@
 use Prim.Native.Nat.{ℕ, _+_, _<_}
 use mathlib.Core.Path.{_≡_, refl, sym, ap, _∙_}
 use mathlib.Core.Bool.{Bool, true, false}
-use mathlib.Core.List.{List, []}
+use mathlib.Core.List.{List}
 use native.Mathlib.Omega.{arith}
 use lib.ListN.{length, getD}
 use Rattle.tokens.specs.Token.{is-name}
@@ -11,7 +11,7 @@ use Rattle.tokens.specs.declared.cause.Cause.{Cause}
 use Rattle.tokens.proofs.Stands.{stands-not}
 use Rattle.rows.specs.Tree.{nil}
 use Rattle.rows.specs.Row as Row
-use Rattle.grammar.specs.Sheet.{Out, done, fail}
+use Rattle.grammar.specs.Sheet.{Out}
 use Rattle.grammar.specs.Job.{Job, binding, binding-elements, binding-properties}
 use Rattle.making.specs.Post.{Comes, Met, Leafed}
 use Rattle.making.specs.declared.cursor.Cursor.{Cursor}

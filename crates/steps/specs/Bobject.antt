@@ -2,8 +2,8 @@
 -- Assumes nothing.
 use Prim.Native.Nat.{ℕ, _+_, _-_, _*_, _≤_, _<_}
 use mathlib.Core.Path.{_≡_, refl, sym, ap, subst, _∙_}
-use mathlib.Core.Bool.{Bool, true, false}
-use mathlib.Core.List.{List, [], _∷_, _++_}
+use mathlib.Core.Bool.{true}
+use mathlib.Core.List.{List, _++_}
 use native.Mathlib.Omega.{arith}
 use borrow.Author.Tests.{ne-eqb}
 use lib.ListN.{length, getD}
@@ -15,7 +15,7 @@ use Rattle.rows.specs.Record.{Record}
 use Rattle.rows.specs.Row as Row
 use Rattle.rows.specs.Post.{Word}
 use Rattle.rows.proofs.Rows.{count-join}
-use Rattle.grammar.specs.Sheet.{Out, done, fail, first-tree}
+use Rattle.grammar.specs.Sheet.{done, first-tree}
 use Rattle.grammar.specs.Job.{binding-properties, binding-property, binding-rest}
 use Rattle.making.specs.Post.{cursor, Comes, Room, Met, MetClosed, ClosedTo, Made, Topped}
 use Rattle.making.specs.declared.cursor.Cursor.{Cursor}

@@ -1,21 +1,20 @@
 -- `body`, 15.3 and 15.9: each way out of it.
 -- Assumes nothing.
-use Prim.Native.Nat.{ℕ, _+_, _-_, _*_, _≤_, _<_}
+use Prim.Native.Nat.{ℕ, _+_, _-_, _≤_}
 use mathlib.Core.Path.{_≡_, refl, sym, ap, subst, _∙_}
-use mathlib.Core.Bool.{Bool, true, false}
-use mathlib.Core.List.{List, [], _∷_, _++_}
+use mathlib.Core.List.{List, [], _∷_}
 use native.Mathlib.Omega.{arith}
 use borrow.Author.Tests.{ne-eqb}
 use lib.ListN.{length, getD}
 use Rattle.tokens.specs.Bool.{_is_, if_then_else_}
 use Rattle.tokens.specs.declared.cause.Cause.{Cause}
-use Rattle.rows.specs.Tree.{Forest, join, count}
+use Rattle.rows.specs.Tree.{Forest}
 use Rattle.rows.specs.Record.{Record, break-before-arrow}
 use Rattle.rows.specs.Post.{Grown, GrownRecords}
 use Rattle.rows.proofs.Rows.{count-join}
 use Rattle.rows.proofs.Records.{grown-records-none, grown-record}
 use Rattle.grammar.specs.Job.{assignment, body}
-use Rattle.making.specs.Post.{cursor, Comes, Room, Met, MetAfter, Made, HeadFits, Topped, Said}
+use Rattle.making.specs.Post.{cursor, Room, Met, MetAfter, Made, HeadFits, Topped, Said}
 use Rattle.making.specs.declared.cursor.Cursor.{Cursor}
 use Rattle.making.specs.declared.cursor.Step.{Step}
 use Rattle.heads.specs.declared.Head.{Head}

@@ -1,13 +1,12 @@
 -- `choice`, 13.14: each way out of it.
 -- Assumes nothing.
-use Prim.Native.Nat.{ℕ, _+_, _*_, _≤_, _<_}
-use mathlib.Core.Path.{_≡_, refl, sym, ap, subst, _∙_}
-use mathlib.Core.List.{List, [], _∷_, _++_}
+use Prim.Native.Nat.{ℕ, _+_}
+use mathlib.Core.Path.{_≡_, refl, sym, _∙_}
+use mathlib.Core.List.{List}
 use native.Mathlib.Omega.{arith}
-use lib.ListN.{length, getD}
+use lib.ListN.{getD}
 use Rattle.tokens.specs.declared.cause.Cause.{Cause}
-use Rattle.rows.specs.Tree.{Tree, Forest, node, nil, cons, one, join, count}
-use Rattle.rows.specs.Record.{Record}
+use Rattle.rows.specs.Tree.{join, count}
 use Rattle.rows.specs.Row as Row
 use Rattle.rows.proofs.Rows.{count-join}
 use Rattle.grammar.specs.Job.{assignment, conditional}

@@ -1,25 +1,25 @@
 -- `comma`, 13.16: its loop, and each way out of it. The loop begins at `part`, with r₁, s₁ and m₁.
 -- Assumes nothing.
-use Prim.Native.Nat.{ℕ, _+_, _*_, _≤_, _<_}
-use mathlib.Core.Path.{_≡_, refl, sym, ap, subst, _∙_}
-use mathlib.Core.List.{List, [], _∷_, _++_}
+use Prim.Native.Nat.{ℕ, _+_, _≤_, _<_}
+use mathlib.Core.Path.{_≡_, refl, sym, _∙_}
+use mathlib.Core.List.{List, _++_}
 use native.Mathlib.Omega.{arith}
 use lib.ListN.{length, getD}
 use Rattle.tokens.specs.Kind.{Comma}
 use Rattle.tokens.specs.declared.cause.Cause.{Cause}
 use Rattle.tokens.proofs.Stands.{stands}
-use Rattle.rows.specs.Tree.{Tree, Forest, node, nil, cons, one, join, count}
+use Rattle.rows.specs.Tree.{Forest, join, count}
 use Rattle.rows.specs.Record.{Record}
 use Rattle.rows.specs.Row as Row
 use Rattle.rows.proofs.Rows.{count-join}
 use Rattle.grammar.specs.Sheet.{Out, after-records}
 use Rattle.grammar.specs.Job.{expression, sequence, assignment}
-use Rattle.making.specs.Post.{cursor, Comes, Room, Made, Met, Topped}
+use Rattle.making.specs.Post.{Comes, Room, Made, Met, Topped}
 use Rattle.making.specs.declared.cursor.Cursor.{Cursor}
 use Rattle.making.specs.declared.cursor.Step.{Step}
 use Rattle.making.proofs.Rules.{expression-fails, expression-one, expression-more, sequence-ends, sequence-fails, sequence-more}
 use Rattle.making.proofs.Ends.{is-done, is-fail, moved, single}
-use Rattle.making.proofs.Makes.{made-then, unmade-past, unmade-after, count-one, is-topped}
+use Rattle.making.proofs.Makes.{made-then, unmade-after, count-one, is-topped}
 use Rattle.steps.specs.Shared.{after-done, said-then, comes-to}
 
 -- the parts so far stand, and the rest of the Sequence is what follows

@@ -1,17 +1,17 @@
 -- `head`, 15.3 and 15.9: each way out of it.
 -- Assumes nothing.
-use Prim.Native.Nat.{ℕ, _+_, _-_, _*_, _≤_, _<_}
-use mathlib.Core.Path.{_≡_, refl, sym, ap, subst, _∙_}
-use mathlib.Core.Bool.{Bool, true, false}
-use mathlib.Core.List.{List, [], _∷_, _++_}
+use Prim.Native.Nat.{ℕ, _+_, _-_, _≤_}
+use mathlib.Core.Path.{_≡_, refl, sym, subst, _∙_}
+use mathlib.Core.Bool.{true}
+use mathlib.Core.List.{List}
 use native.Mathlib.Omega.{arith}
 use borrow.Author.Tests.{ne-eqb}
-use lib.ListN.{length, getD}
+use lib.ListN.{getD}
 use Rattle.tokens.specs.Bool.{_is_}
 use Rattle.tokens.specs.declared.cause.Cause.{Cause}
 use Rattle.rows.specs.Tree.{Forest, nil}
 use Rattle.rows.specs.Record.{Record}
-use Rattle.grammar.specs.Sheet.{Out, done, fail}
+use Rattle.grammar.specs.Sheet.{done, fail}
 use Rattle.grammar.specs.Job.{Job, head, parameters}
 use Rattle.making.specs.Post.{Comes, Room, Refused, ListTo, MetList}
 use Rattle.making.specs.declared.cursor.Cursor.{Cursor}

@@ -2,12 +2,12 @@
 -- Assumes nothing.
 use Prim.Native.Nat.{ℕ, _+_, _-_, _*_, _≤_, _<_}
 use mathlib.Core.Path.{_≡_, refl, sym, ap, subst, _∙_}
-use mathlib.Core.List.{List, [], _∷_, _++_, append-nil}
+use mathlib.Core.List.{List, [], _++_, append-nil}
 use native.Mathlib.Omega.{arith}
 use lib.ListN.{length, getD}
 use Rattle.tokens.specs.declared.cause.Cause.{Cause}
 use Rattle.tokens.proofs.Stands.{stands-not}
-use Rattle.rows.specs.Tree.{Tree, Forest, nil, one, join, count}
+use Rattle.rows.specs.Tree.{Forest, nil, one, join, count}
 use Rattle.rows.specs.Record.{Record}
 use Rattle.rows.proofs.Rows.{count-join}
 use Rattle.grammar.specs.Sheet.{sheet-of, Out, done, fail, first-tree, leaf, after-records}

@@ -1,6 +1,6 @@
 -- `rest` and `last`, 14.3.3: each way out of them.
 -- Assumes nothing.
-use Prim.Native.Nat.{ℕ, _+_, _-_, _*_, _≤_, _<_}
+use Prim.Native.Nat.{ℕ, _+_, _-_, _<_}
 use mathlib.Core.Path.{_≡_, refl, sym, ap, subst, _∙_}
 use mathlib.Core.List.{List, [], _∷_, _++_, append-nil}
 use native.Mathlib.Omega.{arith}
@@ -11,11 +11,11 @@ use Rattle.tokens.specs.declared.cause.Cause.{Cause}
 use Rattle.rows.specs.Tree.{Tree, Forest, node, one, count, kind-of, mark-of}
 use Rattle.rows.specs.Record.{Record, says, rest-initializer}
 use Rattle.rows.specs.Row as Row
-use Rattle.rows.specs.Post.{Grown, Word}
-use Rattle.grammar.specs.Sheet.{sheet-of, Out, done, first-tree}
+use Rattle.rows.specs.Post.{Word}
+use Rattle.grammar.specs.Sheet.{sheet-of, done, first-tree}
 use Rattle.grammar.specs.Job.{Job, binding-element, binding-rest}
 use Rattle.laws.specs.Bounds.{limits, reads}
-use Rattle.making.specs.Post.{cursor, Comes, Room, Met, ReadTo, Made, MetClosed, ClosedTo, NotClosedAt, NotClosed, not-read, no-token, Topped, Said}
+use Rattle.making.specs.Post.{cursor, Comes, Room, Met, ReadTo, Made, MetClosed, ClosedTo, NotClosedAt, not-read, no-token, Topped, Said}
 use Rattle.making.specs.declared.cursor.Cursor.{Cursor}
 use Rattle.making.specs.declared.cursor.Step.{Step}
 use Rattle.making.proofs.Rules.{rest-fails, rest-done}

@@ -1,11 +1,11 @@
 -- The words of the rows that were written last: the root's row stands last, and the row of an only kid just before it.
 -- Assumes nothing.
 use Prim.Native.Nat.{ℕ, zero, suc, _+_, _-_, _*_, _≤_, _<_}
-use mathlib.Core.Path.{_≡_, refl, sym, ap, subst, _∙_}
+use mathlib.Core.Path.{_≡_, refl, sym, ap, _∙_}
 use mathlib.Core.List.{List, [], _∷_, _++_, append-nil, append-assoc}
 use native.Mathlib.Omega.{arith}
 use lib.ListN.{length, take, getD, length-append, length-take}
-use Rattle.rows.specs.Tree.{Tree, Forest, node, nil, cons, one, count, size, sizes, row, flat, flats, kind-of, mark-of, kids-of}
+use Rattle.rows.specs.Tree.{Tree, Forest, node, nil, cons, one, count, size, sizes, row, flat, flats, kind-of, mark-of}
 use Rattle.rows.specs.Post.{Grown, Word}
 
 -- a list whose beginning is known

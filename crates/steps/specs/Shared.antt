@@ -1,8 +1,8 @@
 -- What the laws of several functions share: records before records, and what a nonterminal comes to, by an equation.
 -- Assumes nothing.
 use Prim.Native.Nat.{ℕ}
-use mathlib.Core.Path.{_≡_, refl, sym, ap, subst, _∙_}
-use mathlib.Core.List.{List, [], _∷_, _++_, append-nil, append-assoc}
+use mathlib.Core.Path.{_≡_, refl, sym, ap, subst}
+use mathlib.Core.List.{List, [], _++_, append-nil, append-assoc}
 use Rattle.rows.specs.Tree.{Forest}
 use Rattle.rows.specs.Record.{Record}
 use Rattle.grammar.specs.Sheet.{Out, done, fail, stuck, after-records}

@@ -2,18 +2,18 @@
 -- Assumes nothing.
 use Prim.Native.Nat.{ℕ, _+_, _≤_, _<_}
 use mathlib.Core.Path.{_≡_, refl, sym, ap, subst, _∙_}
-use mathlib.Core.Bool.{Bool, true, false, not}
+use mathlib.Core.Bool.{Bool, true, false}
 use mathlib.Core.List.{List, []}
 use native.Mathlib.Omega.{arith}
 use native.Mathlib.Decide.{ℕ-discrete}
-use lib.Dec.{ltb, leb}
+use lib.Dec.{leb}
 use lib.ListN.{length, getD}
 use borrow.Author.Tests.{eqb-true, eqb-false, leb-true, leb-false, le-leb, lt-leb, ne-eqb}
 use Rattle.tokens.specs.Bool.{_or_, _and_, _is_, between, if_then_else_}
 use Rattle.tokens.specs.Kind.{Async, This, LParen, RParen, LBrack, RBrack, RCurly, Comma, Colon, Question, Dot, Arrow}
 use Rattle.tokens.specs.Token.{is-name, is-literal}
 use Rattle.operators.specs.Precedence.{level, expression-level}
-use Rattle.rows.specs.Tree.{Tree, one, kind-of}
+use Rattle.rows.specs.Tree.{one, kind-of}
 use Rattle.rows.specs.Row as Row
 use Rattle.grammar.specs.Sheet.{Out, done, leaf, after-records}
 use Rattle.grammar.specs.Job.{primary, unary, binary, value, assignment}
@@ -21,8 +21,8 @@ use Rattle.grammar.specs.Assignment.{is-assignment-operator, is-async-name}
 use Rattle.grammar.specs.Update.{is-unary-operator, is-update-operator}
 use Rattle.laws.specs.Good.{and-left, and-right}
 use Rattle.laws.specs.Bounds.{bounded}
-use Rattle.making.specs.Post.{cursor, Comes, Met, Leafed}
-use Rattle.heads.specs.Heads.{may-open, way-at}
+use Rattle.making.specs.Post.{Comes, Met, Leafed}
+use Rattle.heads.specs.Heads.{may-open}
 use Rattle.singles.specs.Singles.{single-row, goes-on, closes, single-operand, single-part}
 use Rattle.making.specs.declared.cursor.Cursor.{Cursor}
 use Rattle.making.specs.declared.cursor.Step.{Step}

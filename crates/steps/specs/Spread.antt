@@ -1,7 +1,7 @@
 -- `spread`, 13.2.4: each way out of it; and `item` and `part`, which choose between it and something else.
 -- Assumes nothing.
-use Prim.Native.Nat.{ℕ, _+_, _*_, _≤_, _<_}
-use mathlib.Core.Path.{_≡_, refl, sym, ap, subst, _∙_}
+use Prim.Native.Nat.{ℕ, _+_, _≤_, _<_}
+use mathlib.Core.Path.{_≡_, refl, sym, subst, _∙_}
 use mathlib.Core.Bool.{Bool, true, false}
 use mathlib.Core.List.{List}
 use native.Mathlib.Omega.{arith}
@@ -10,7 +10,7 @@ use borrow.Author.Tests.{ne-eqb}
 use Rattle.tokens.specs.Bool.{_is_, if_then_else_}
 use Rattle.tokens.specs.Kind.{Dot3}
 use Rattle.tokens.specs.declared.cause.Cause.{Cause}
-use Rattle.rows.specs.Tree.{Forest, one, count}
+use Rattle.rows.specs.Tree.{Forest, count}
 use Rattle.rows.specs.Row as Row
 use Rattle.grammar.specs.Job.{Job, assignment, spread, property}
 use Rattle.laws.specs.Bounds.{Limits, Bound, bounded, limits, reads}

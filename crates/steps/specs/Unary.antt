@@ -3,25 +3,24 @@
 use Prim.Native.Nat.{ℕ, _+_, _-_, _*_, _≤_, _<_}
 use mathlib.Core.Path.{_≡_, refl, sym, ap, subst, _∙_}
 use mathlib.Core.Bool.{Bool, true, false}
-use mathlib.Core.List.{List, [], _∷_, _++_}
+use mathlib.Core.List.{List, _++_}
 use native.Mathlib.Omega.{arith}
 use lib.ListN.{length, getD}
 use Rattle.tokens.specs.Bool.{_or_}
 use Rattle.tokens.specs.declared.cause.Cause.{Cause}
 use Rattle.rows.specs.Tree.{Tree, Forest, one}
-use Rattle.rows.specs.Record.{Record}
 use Rattle.rows.specs.Post.{Grown}
-use Rattle.conversion.specs.Potential.{potential, potentials}
-use Rattle.grammar.specs.Sheet.{done, fail, first-tree}
+use Rattle.conversion.specs.Potential.{potentials}
+use Rattle.grammar.specs.Sheet.{done, first-tree}
 use Rattle.grammar.specs.Job.{unary, postfix, left-hand-side}
 use Rattle.grammar.specs.Update.{is-unary-operator, is-update-operator}
 use Rattle.laws.specs.Owed.{owed, oweds}
-use Rattle.making.specs.Post.{cursor, Room, Comes, ReadTo, Met}
+use Rattle.making.specs.Post.{Room, Comes, ReadTo, Met}
 use Rattle.operation.specs.Operation.{is-prefix-operator, OperandFits, MetPostfix, PostfixTo, PrefixFits, Before, MetPrefixes}
 use Rattle.making.specs.declared.cursor.Cursor.{Cursor}
 use Rattle.making.specs.declared.cursor.Step.{Step}
 use Rattle.making.proofs.Rules.{postfix-fails, unary-none}
-use Rattle.making.proofs.Ends.{is-fail, Moved, moved, single}
+use Rattle.making.proofs.Ends.{is-fail, moved, single}
 use Rattle.making.proofs.Makes.{stands-now, made-over, unmade-past, unmade-over}
 use Rattle.operation.proofs.Steps.Prefixes.{prefix-stands, all-fail}
 use Rattle.steps.specs.Root.{some-row}

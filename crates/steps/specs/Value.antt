@@ -1,9 +1,9 @@
 -- `value`, 13.15 past a head: each way out of it.
 -- Assumes nothing.
-use Prim.Native.Nat.{ℕ, _+_, _-_, _*_, _≤_, _<_}
+use Prim.Native.Nat.{ℕ, _+_, _-_, _<_}
 use mathlib.Core.Path.{_≡_, refl, sym, ap, subst, _∙_}
 use mathlib.Core.Bool.{Bool, true, false, not}
-use mathlib.Core.List.{List, [], _∷_, _++_}
+use mathlib.Core.List.{List, [], _++_}
 use native.Mathlib.Omega.{arith}
 use lib.ListN.{length, getD}
 use borrow.Author.Tests.{eq-eqb, ne-eqb}
@@ -17,7 +17,7 @@ use Rattle.rows.specs.Record.{Record}
 use Rattle.rows.specs.Row as Row
 use Rattle.rows.specs.Post.{Grown, Word}
 use Rattle.rows.proofs.Rows.{grown-leaf, kept-grown, kept-past}
-use Rattle.grammar.specs.Sheet.{sheet-of, Out, done, fail, leaf, first-tree, break-before, after-records}
+use Rattle.grammar.specs.Sheet.{sheet-of, Out, done, leaf, first-tree, break-before, after-records}
 use Rattle.grammar.specs.Job.{Job, value, binary, assign, conditional, body}
 use Rattle.grammar.specs.Assignment.{is-assignment-operator, is-async-name}
 use Rattle.laws.specs.Good.{inside, and-right}

@@ -1,19 +1,17 @@
 -- A row is judged, and turned where it was judged fine.
 -- Assumes nothing.
-use Prim.Native.Nat.{ℕ, _+_, _*_, _≤_}
+use Prim.Native.Nat.{ℕ, _+_}
 use mathlib.Core.Path.{_≡_, refl, sym, ap, _∙_}
 use mathlib.Core.Bool.{Bool, true, false}
-use mathlib.Core.List.{List, [], _∷_, _++_}
+use mathlib.Core.List.{List}
 use native.Mathlib.Omega.{arith}
 use lib.ListN.{length}
 use Rattle.tokens.specs.declared.cause.Cause.{Cause}
 use Rattle.rows.specs.Tree.{Tree}
-use Rattle.rows.specs.Record.{Record}
-use Rattle.conversion.specs.Conversion.{Outcome, turned, refused, Role, convert-as}
+use Rattle.conversion.specs.Conversion.{Outcome, Role, convert-as}
 use Rattle.roles.specs.Meaning as means
 use Rattle.targets.specs.Outcome as outcome
-use Rattle.targets.specs.Post.{Subtree, Judged, Ready, Made, TurnedRow, Room, RowConverted}
-use Rattle.conversion.specs.Potential.{potential}
+use Rattle.targets.specs.Post.{Subtree, Judged, Ready, TurnedRow, Room, RowConverted}
 use Rattle.targets.specs.declared.Conversion.{Conversion}
 use Rattle.targets.specs.declared.Conversion.the-variants.{Turned, Refused}
 use Rattle.conversion.specs.Potentials.{comma-count, pays}

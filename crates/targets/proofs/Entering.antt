@@ -3,30 +3,27 @@
 use Prim.Native.Nat.{ℕ, _+_, _-_, _*_, _/_, _≤_, _<_}
 use mathlib.Core.Path.{_≡_, refl, sym, ap, _∙_}
 use mathlib.Core.Bool.{Bool, true, false}
-use mathlib.Core.List.{List, [], _∷_, _++_, append-assoc, append-nil}
+use mathlib.Core.List.{List, _++_, append-nil}
 use native.Mathlib.Omega.{arith}
-use lib.ListN.{length, take, drop, replicate, getD, length-append, take-append-drop}
+use lib.ListN.{length, take, drop, replicate, take-append-drop}
 use lib.Seq.{length-take-le, drop-append-add, take-append-seam}
-use borrow.Author.Tests.{not-true, not-false}
 use Rattle.tokens.specs.declared.cause.Cause.{Cause}
 use Rattle.tokens.specs.declared.cause.Cause.the-variants.{Length, RecordRoom, Tree as NoTree, Outside}
 use Rattle.tokens.specs.declared.cause.Answer.{Answer}
 use Rattle.tokens.specs.declared.cause.Answer.the-variants.{Read}
 use Rattle.tokens.specs.declared.cause.Answer.the-variants as answer
-use Rattle.rows.specs.Tree.{Tree, Forest, node, nil, cons, one, size, sizes, flat, flats}
+use Rattle.rows.specs.Tree.{Tree, one, size, sizes, flat, flats}
 use Rattle.rows.specs.Record.{Record, record-words}
 use Rattle.rows.specs.Words.{WellFormed}
-use Rattle.rows.specs.Part.{Part, Rooted, subtree}
+use Rattle.rows.specs.Part.{Rooted, subtree}
 use Rattle.rows.specs.Post.{Word, Cleared}
 use Rattle.rows.specs.Stands.{Decides}
 use Rattle.trees.proofs.Whole.{long, subtree-in}
-use Rattle.rows.proofs.Flat.{length-flat}
 use Rattle.rows.proofs.Records.{length-record-words}
 use Rattle.conversion.specs.Conversion as def
-use Rattle.conversion.specs.Conversion.{Outcome, turned, refused, convert-as, convert}
-use Rattle.targets.specs.Post.{Subtree, Filled, Made, Room, RowConverted}
-use Rattle.conversion.specs.Potential.{potential}
-use Rattle.targets.specs.Entry.{Result, Check, holds, fails, Sized, unchanged, done, Entry, Answered}
+use Rattle.conversion.specs.Conversion.{Outcome, turned, refused, convert}
+use Rattle.targets.specs.Post.{Subtree, Filled, Room, RowConverted}
+use Rattle.targets.specs.Entry.{Result, holds, fails, Sized, unchanged, done, Entry, Answered}
 use Rattle.targets.specs.declared.Conversion.{Conversion}
 use Rattle.targets.specs.declared.Conversion.the-variants.{Turned, Refused}
 use Rattle.conversion.specs.Potentials.{potential-size, pays}

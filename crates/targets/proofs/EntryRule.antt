@@ -1,16 +1,15 @@
 -- The entry gives no error exactly where the target rule holds: on a well-formed tree, a row of it, and record words enough, it
 -- answers Read with no record exactly if the subtree is an assignment target of the standard.
 -- Assumes nothing.
-use Prim.Native.Nat.{ℕ, _*_, _≤_, _<_}
+use Prim.Native.Nat.{ℕ, _*_, _≤_}
 use mathlib.Core.Path.{_≡_, refl, sym, ap, _∙_}
 use mathlib.Core.Logic.{_↔_}
 use mathlib.Core.List.{List, [], _∷_}
 use native.Mathlib.Omega.{arith}
 use lib.ListN.{length}
-use Rattle.tokens.specs.declared.cause.Cause.{Cause}
 use Rattle.tokens.specs.declared.cause.Answer.{Answer}
 use Rattle.tokens.specs.declared.cause.Counts.{Counts}
-use Rattle.tokens.specs.declared.cause.Answer.the-variants.{Read, Refused}
+use Rattle.tokens.specs.declared.cause.Answer.the-variants.{Read}
 use Rattle.rows.specs.Tree.{Tree, size}
 use Rattle.rows.specs.Record.{Record}
 use Rattle.rows.specs.Handed.{Inside, chosen}
@@ -19,7 +18,7 @@ use Rattle.rows.proofs.Flat.{some-row}
 use Rattle.conversion.specs.Conversion.{Outcome, turned, refused, convert}
 use Rattle.conversion.specs.TargetRule.{Target}
 use Rattle.conversion.specs.RuleHolds.{target-rule}
-use Rattle.targets.specs.Entry.{Result, Check, holds, fails, Sized, done, Entry, Answered}
+use Rattle.targets.specs.Entry.{Result, holds, Sized, done, Answered}
 use Rattle.targets.proofs.Once.{entry-once}
 
 abbrev clean : ℕ → Answer

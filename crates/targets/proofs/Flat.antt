@@ -2,13 +2,13 @@
 -- Assumes nothing.
 use Prim.Native.Nat.{ℕ, _+_, _-_, _*_, _≤_, _<_}
 use mathlib.Core.Path.{_≡_, refl, sym, ap, _∙_}
-use mathlib.Core.List.{List, [], _∷_, _++_, append-assoc, append-nil}
+use mathlib.Core.List.{List, _++_, append-assoc, append-nil}
 use native.Mathlib.Omega.{arith}
 use lib.ListN.{length, getD, length-append, List·getD-append}
 use lib.Seq.{getD-append-add}
-use Rattle.rows.specs.Tree.{Tree, Forest, node, nil, cons, one, join, count, size, sizes, row, flat, flats, kind-of, mark-of, first-of, end-of, kids-of}
+use Rattle.rows.specs.Tree.{Tree, Forest, node, nil, cons, one, join, count, size, sizes, row, flat, flats, kids-of}
 use Rattle.rows.proofs.Rows.{sizes-join, flats-join, count-join, join-assoc, join-nil}
-use Rattle.rows.proofs.Flat.{length-flat, length-flats, some-row}
+use Rattle.rows.proofs.Flat.{length-flats, some-row}
 use Rattle.targets.specs.Post.{Subtree}
 
 -- the words of a tree's root

@@ -3,13 +3,13 @@
 use Prim.Native.Nat.{ℕ, _+_, _-_, _*_, _≤_, _<_, _^_}
 use mathlib.Core.Path.{_≡_, refl, sym, ap, _∙_}
 use mathlib.Core.Bool.{Bool, true, false}
-use mathlib.Core.List.{List, [], _∷_, _++_}
+use mathlib.Core.List.{List, [], _++_}
 use native.Mathlib.Omega.{arith}
 use lib.Dec.{eqb}
 use lib.ListN.{length, getD, length-append}
 use Rattle.tokens.specs.Bool.{if_then_else_}
 use Rattle.tokens.specs.declared.cause.Cause.{Cause}
-use Rattle.rows.specs.Tree.{Tree, Forest, node, nil, cons, one, join, count, size, sizes, kids-of}
+use Rattle.rows.specs.Tree.{Tree, Forest, node, nil, cons, one, count, size, sizes, kids-of}
 use Rattle.rows.specs.Record.{Record}
 use Rattle.rows.specs.Post.{Word}
 use Rattle.rows.proofs.Rows.{sizes-join}
@@ -19,12 +19,10 @@ use Rattle.conversion.specs.Conversion.{Outcome, turned, refused, change, roles
 use Rattle.roles.specs.Meaning as means
 use Rattle.targets.specs.Outcome as outcome
 use Rattle.targets.specs.Post.{Subtree, near, Looked, Judged, Sums}
-use Rattle.conversion.specs.Potential.{potential, potentials}
 use Rattle.conversion.specs.RuleHolds.{refused-turned}
 use Rattle.targets.specs.declared.Conversion.{Conversion}
 use Rattle.targets.specs.declared.Conversion.the-variants.{Turned, Refused}
 use Rattle.roles.specs.declared.Note.{Note}
-use Rattle.roles.specs.declared.Note.the-variants.{Nothing, Says}
 use Rattle.roles.specs.declared.Role.{Role}
 use Rattle.roles.specs.declared.Role.the-variants.{Any, Simple, Element, LastElement, Property, LastProperty, Value, Name, Same}
 use Rattle.roles.specs.declared.Kids.{Kids}
@@ -35,8 +33,8 @@ use Rattle.roles.specs.declared.Plan.{Plan}
 use Rattle.roles.specs.declared.Plan.the-variants.{Refuse, Keep, Turn}
 use Rattle.roles.proofs.Notes.{note-short}
 use Rattle.targets.proofs.Near.{convert-near}
-use Rattle.conversion.specs.Potentials.{comma-count, pays, potential-size, turned-is, turned-records}
-use Rattle.targets.proofs.Flat.{Walk, Next, walk-start, walk-more, walk-below, walk-next, walk-done, whole-next, root-inside, kid-tree, kid-size, kid-text, size-root}
+use Rattle.conversion.specs.Potentials.{comma-count, pays, potential-size, turned-records}
+use Rattle.targets.proofs.Flat.{Walk, Next, walk-start, walk-more, walk-next, walk-done, whole-next, root-inside, kid-tree, kid-size, kid-text, size-root}
 use Rattle.targets.proofs.Looking.{reads-size}
 
 -- the plan is the change of the row

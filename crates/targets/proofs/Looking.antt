@@ -1,17 +1,17 @@
 -- What the code reads of a row and of its last kid is what the definition looks at.
 -- Assumes nothing.
-use Prim.Native.Nat.{ℕ, _+_, _-_, _*_, _≤_, _<_}
+use Prim.Native.Nat.{ℕ, _-_, _≤_, _<_}
 use mathlib.Core.Path.{_≡_, refl, sym, ap, _∙_}
-use mathlib.Core.List.{List, [], _∷_, _++_}
+use mathlib.Core.List.{List}
 use native.Mathlib.Omega.{arith}
 use lib.ListN.{getD}
-use Rattle.rows.specs.Tree.{Tree, Forest, node, nil, cons, one, join, count, size, row, kind-of, mark-of, first-of, kids-of}
+use Rattle.rows.specs.Tree.{Tree, Forest, node, nil, cons, one, join, count, size, kind-of, mark-of, first-of, kids-of}
 use Rattle.rows.specs.Post.{Word}
 use Rattle.conversion.specs.Conversion.{last-or, last-of}
 use Rattle.roles.specs.Meaning as means
 use Rattle.targets.specs.Post.{Subtree, near, Looked}
 use Rattle.roles.specs.declared.Seen.{Seen}
-use Rattle.targets.proofs.Flat.{root-words, root-word, Walk, Next, walk-start, walk-more, kid-tree, kid-size}
+use Rattle.targets.proofs.Flat.{root-words, root-word, walk-start, walk-more, kid-tree, kid-size}
 
 kind-word : (t : Tree) → getD (root-words t) 0 0 ≡ kind-of t
 unfolding root-words kind-of

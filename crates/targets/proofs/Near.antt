@@ -2,19 +2,18 @@
 -- the same. In an array no argument is then of a wrong kind, in an object only an Array or Object.
 -- Assumes nothing.
 use Prim.Native.Nat.{ℕ, _+_}
-use mathlib.Core.Path.{_≡_, refl, sym, ap, _∙_}
+use mathlib.Core.Path.{_≡_, refl, ap}
 use mathlib.Core.Bool.{Bool, true, false, not}
 use mathlib.Core.List.{List, [], _∷_, _++_}
 use native.Mathlib.Omega.{arith}
 use lib.Dec.{eqb, leb}
 use borrow.Author.Tests.{eqb-true, ne-eqb, leb-true}
-use Rattle.tokens.specs.Bool.{if_then_else_, _and_, _or_, between}
+use Rattle.tokens.specs.Bool.{if_then_else_, _and_, _or_}
 use Rattle.tokens.specs.declared.cause.Cause.{Cause}
 use Rattle.rows.specs.Row as row
 use Rattle.rows.specs.Tree.{Tree, Forest, node, nil, cons, one, count, kind-of, first-of, kids-of}
 use Rattle.rows.specs.Record.{Record, rest-argument}
-use Rattle.conversion.specs.Conversion.{Outcome, turned, refused, Role, Change, refuse, keep, turn, only, is-array-or-object, is-reference, last-of, inner-kind, inner-kinds, array-argument, object-argument, Seen, seen, as-simple, as-any, as-value, as-element, as-last-element, as-property, as-last-property, as-name, change, roles, over, both, convert-as, convert-kids}
-use Rattle.conversion.specs.KidRoles.{elements, properties}
+use Rattle.conversion.specs.Conversion.{Outcome, turned, refused, Role, Change, refuse, keep, turn, only, is-array-or-object, is-reference, last-of, inner-kind, inner-kinds, array-argument, object-argument, seen, as-simple, as-any, as-value, as-element, as-last-element, as-property, as-last-property, as-name, change, roles, over, both, convert-as, convert-kids}
 use Rattle.targets.specs.Post.{near}
 use Rattle.conversion.specs.RuleHolds.{by-test, both-true, one-kid, refused-turned}
 

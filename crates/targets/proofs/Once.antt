@@ -1,20 +1,15 @@
 -- One answer for each input: any two results that a contract allows coincide. One law for each public function.
 -- Assumes nothing.
-use Prim.Native.Nat.{ℕ, _+_, _*_, _≤_, _<_}
+use Prim.Native.Nat.{ℕ}
 use mathlib.Core.Path.{_≡_, refl, sym, ap, _∙_}
-use mathlib.Core.List.{List, _++_}
-use native.Mathlib.Omega.{arith}
-use lib.ListN.{length}
-use Rattle.tokens.specs.declared.cause.Cause.{Cause}
+use mathlib.Core.List.{List}
 use Rattle.tokens.specs.declared.cause.Answer.{Answer}
-use Rattle.rows.specs.Tree.{Tree, size, flat}
-use Rattle.rows.specs.Record.{Record, record-words}
-use Rattle.rows.specs.Words.{WellFormed}
-use Rattle.rows.specs.Part.{subtree}
+use Rattle.rows.specs.Tree.{Tree}
+use Rattle.rows.specs.Record.{Record}
 use Rattle.rows.proofs.Flat.{well-formed-once}
-use Rattle.conversion.specs.Conversion.{Outcome, turned, refused, Role, convert-as, convert}
-use Rattle.targets.specs.Post.{Subtree, Filled, Made, RowConverted}
-use Rattle.targets.specs.Entry.{Result, Check, holds, fails, Sized, unchanged, done, Within, Entry, Answered}
+use Rattle.conversion.specs.Conversion.{Outcome, turned, refused, Role, convert-as}
+use Rattle.targets.specs.Post.{Subtree, Made, RowConverted}
+use Rattle.targets.specs.Entry.{Result, Check, holds, fails, done, Within, Entry, Answered}
 use Rattle.targets.specs.declared.Conversion.{Conversion}
 
 -- whatever two facts the checks are passed with, the rest allows one result

@@ -1,14 +1,14 @@
 -- What a reader needs of the conversion of the row that it read last: from the rows that were added to the subtree, and from the
 -- converted subtree back to the rows that were added.
 -- Assumes nothing.
-use Prim.Native.Nat.{ℕ, _+_, _-_, _*_, _≤_, _<_}
+use Prim.Native.Nat.{ℕ, _+_, _-_, _*_, _≤_}
 use mathlib.Core.Path.{_≡_, refl, sym, ap, _∙_}
-use mathlib.Core.List.{List, [], _∷_, _++_, append-assoc, append-nil}
+use mathlib.Core.List.{List, _++_, append-assoc, append-nil}
 use native.Mathlib.Omega.{arith}
 use lib.ListN.{length, take, drop, length-append, take-append-drop}
 use lib.Seq.{length-take-le, take-append-seam}
 use Rattle.tokens.specs.declared.cause.Cause.{Cause}
-use Rattle.rows.specs.Tree.{Tree, Forest, node, nil, cons, one, size, sizes, flat, flats}
+use Rattle.rows.specs.Tree.{Tree, one, size, sizes, flat, flats}
 use Rattle.rows.specs.Record.{Record, record-words}
 use Rattle.rows.specs.Post.{Grown, GrownRecords}
 use Rattle.rows.proofs.Flat.{length-flat, some-row}

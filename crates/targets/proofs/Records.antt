@@ -8,7 +8,6 @@ use lib.ListN.{length, take, drop, set, length-append, length-set, take-append-d
 use lib.Seq.{length-take-le, drop-append-seam, take-append-le, set-split, take-suc-set, drop-set-lt}
 use Rattle.rows.specs.Record.{Record, says, record-words}
 use Rattle.rows.proofs.Records.{record-words-append}
-use Rattle.roles.specs.Meaning as means
 use Rattle.targets.specs.Post.{Filled, Written, NoteFits}
 use Rattle.roles.specs.declared.Note.{Note}
 use Rattle.roles.specs.declared.Note.the-variants.{Nothing, Says}

@@ -3,24 +3,22 @@
 use Prim.Native.Nat.{ℕ, _+_, _-_, _*_, _≤_, _<_}
 use mathlib.Core.Path.{_≡_, refl, sym, ap, _∙_}
 use mathlib.Core.Bool.{Bool, true, false}
-use mathlib.Core.List.{List, [], _∷_, _++_, append-assoc}
+use mathlib.Core.List.{List, [], _++_, append-assoc}
 use native.Mathlib.Omega.{arith}
 use lib.Dec.{eqb}
 use lib.ListN.{length, getD, set}
 use borrow.Author.Tests.{eqb-true}
-use Rattle.tokens.specs.Bool.{if_then_else_, _and_}
+use Rattle.tokens.specs.Bool.{_and_}
 use Rattle.rows.specs.Row as row
 use Rattle.rows.specs.Tree.{Tree, Forest, node, nil, cons, one, join, count, size, sizes, flat, flats, kind-of, mark-of, first-of, end-of, kids-of}
 use Rattle.rows.specs.Post.{Word, KindSet, RowInside}
 use Rattle.rows.proofs.Rows.{sizes-join, flats-join, count-join}
-use Rattle.conversion.specs.Conversion.{turned, Role, Seen, Change, turn, any, simple, element, last-element, property, last-property, value, name, same, each, only, as-simple, as-any, as-value, as-element, as-last-element, as-property, as-last-property, as-name, change, roles, over, seen, both, convert-as, convert-kids}
-use Rattle.conversion.specs.KidRoles.{elements, properties}
-use Rattle.roles.specs.Meaning as means
+use Rattle.conversion.specs.Conversion.{turned, Role, any, simple, element, last-element, property, last-property, value, name, same, each, only, as-simple, as-any, as-value, as-element, as-last-element, as-property, as-last-property, as-name, change, roles, over, seen, both, convert-as, convert-kids}
 use Rattle.targets.specs.Outcome as outcome
 use Rattle.targets.specs.Post.{Subtree, Judged, TurnedRow}
 use Rattle.conversion.specs.RuleHolds.{by-test, both-true, one-kid}
 use Rattle.roles.specs.ShortCut.{takes-name, takes-member, takes-default, is-kept, is-property, is-initialized, ends-in-target, named-kind}
-use Rattle.targets.specs.Named.{name-set, Named, NameAt, NameBelow, NameInside, NameSet}
+use Rattle.targets.specs.Named.{Named, NameAt, NameBelow, NameInside, NameSet}
 use Rattle.targets.specs.declared.Conversion.the-variants.{Turned}
 use Rattle.conversion.specs.Potentials.{turned-is, turned-records}
 use Rattle.targets.proofs.Flat.{root-words, root-text, root-inside, Walk, Next, walk-start, walk-more, walk-next, kid-tree, kid-size, kid-text, whole-next}

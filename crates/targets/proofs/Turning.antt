@@ -8,7 +8,7 @@ use native.Mathlib.Omega.{arith}
 use lib.ListN.{length, getD, set, length-append, length-set}
 use lib.Seq.{set-append-seam}
 use Rattle.tokens.specs.declared.cause.Cause.{Cause}
-use Rattle.rows.specs.Tree.{Tree, Forest, node, nil, cons, one, join, count, size, sizes, row, flat, flats, kind-of, mark-of, first-of, end-of, kids-of}
+use Rattle.rows.specs.Tree.{Tree, Forest, node, nil, cons, one, join, count, size, sizes, flat, flats, mark-of, first-of, end-of, kids-of}
 use Rattle.rows.specs.Record.{Record}
 use Rattle.rows.specs.Post.{Word, KindSet, RowInside}
 use Rattle.rows.proofs.Flat.{length-flats}
@@ -26,11 +26,11 @@ use Rattle.roles.specs.declared.Change.{Change}
 use Rattle.roles.specs.declared.Plan.{Plan}
 use Rattle.roles.specs.declared.Plan.the-variants.{Refuse, Keep, Turn}
 use Rattle.conversion.specs.Potentials.{turned-is, turned-records}
-use Rattle.targets.proofs.Flat.{root-words, root-text, root-place, root-inside, size-root, Walk, Next, walk-start, walk-more, walk-next, walk-done, kid-tree, kid-size, whole-next}
+use Rattle.targets.proofs.Flat.{root-words, root-text, root-inside, size-root, Walk, Next, walk-start, walk-more, walk-next, walk-done, kid-tree, kid-size, whole-next}
 use Rattle.targets.proofs.Looking.{reads-size}
 use Rattle.targets.proofs.Records.{filled-none, filled-more}
 use Rattle.targets.proofs.Judging.{by-plan, kids-seen}
-use Rattle.conversion.specs.Shapes.{SameShape, same-shape, same-size, Both, cons-parts, cons-turned, none-turned}
+use Rattle.conversion.specs.Shapes.{SameShape, same-shape, Both, cons-parts, cons-turned, none-turned}
 
 -- the last kids of some that are converted are converted
 record Suffix (ts : Forest) (each : ℕ → def.Role) (rs : List Record) : Type 0 where

@@ -3,14 +3,14 @@
 -- Assumes nothing: these are definitions.
 use Prim.Native.Nat.{ℕ, _+_, _-_, _*_, _≤_, _<_}
 use mathlib.Core.Path.{_≡_}
-use mathlib.Core.List.{List, [], _∷_, _++_}
+use mathlib.Core.List.{List, _++_}
 use lib.ListN.{length, take, drop, replicate}
 use Rattle.tokens.specs.declared.cause.Cause.{Cause}
 use Rattle.tokens.specs.declared.cause.Cause.the-variants.{Length, RecordRoom, Tree as NoTree, Outside}
 use Rattle.tokens.specs.declared.cause.Answer.{Answer}
 use Rattle.tokens.specs.declared.cause.Answer.the-variants.{Read, Refused}
 use Rattle.rows.specs.Tree.{Tree, size, flat}
-use Rattle.rows.specs.Record.{Record, record-words}
+use Rattle.rows.specs.Record.{record-words}
 use Rattle.rows.specs.Words.{WellFormed}
 use Rattle.rows.specs.Part.{subtree}
 use Rattle.conversion.specs.Conversion.{Outcome, turned, refused, convert}

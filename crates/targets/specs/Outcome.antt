@@ -1,6 +1,6 @@
 -- What the code's own Conversion says of an outcome: the number of its records, or its cause.
 -- Assumes nothing: these are definitions.
-use Prim.Native.Nat.{ℕ, _+_}
+use Prim.Native.Nat.{_+_}
 use lib.ListN.{length}
 use Rattle.conversion.specs.Conversion.{Outcome, turned, refused}
 use Rattle.targets.specs.declared.Conversion.{Conversion}

@@ -2,15 +2,14 @@
 -- Assumes nothing: these are definitions.
 use Prim.Native.Nat.{ℕ, _+_, _*_, _≤_, _<_, _^_}
 use mathlib.Core.Path.{_≡_}
-use mathlib.Core.Bool.{Bool, true, false}
 use mathlib.Core.List.{List, [], _∷_, _++_}
 use lib.ListN.{length, take, drop}
 use Rattle.tokens.specs.Bool.{if_then_else_}
 use Rattle.tokens.specs.declared.cause.Cause.{Cause}
-use Rattle.rows.specs.Tree.{Tree, Forest, node, nil, cons, size, flat, count, kind-of, first-of}
+use Rattle.rows.specs.Tree.{Tree, node, size, flat, count, kind-of, first-of}
 use Rattle.rows.specs.Record.{Record, rest-argument, record-words}
 use Rattle.conversion.specs.Conversion as def
-use Rattle.conversion.specs.Conversion.{Outcome, turned, refused, convert-as}
+use Rattle.conversion.specs.Conversion.{turned, refused, convert-as}
 use Rattle.roles.specs.Meaning as means
 use Rattle.targets.specs.Outcome as outcome
 use Rattle.conversion.specs.Potential.{potential}

@@ -11,7 +11,7 @@ use lib.ListN.{length, getD, take, set, length-append}
 use lib.Seq.{take-suc, take-all}
 use borrow.Author.Tests.{lt-ltb, le-ltb, ltb-true, ltb-false}
 use Rattle.tokens.specs.Bool.{if_then_else_}
-use Rattle.text.specs.Post.{laid-over, printed, Prints, Holds, Adds, Told}
+use Rattle.text.specs.Post.{laid-over, Prints, Holds, Adds, Told}
 use Rattle.text.specs.declared.Printed.{Printed}
 use Rattle.text.specs.declared.Pen.{Pen}
 

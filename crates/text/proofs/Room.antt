@@ -13,7 +13,7 @@ use Rattle.tokens.specs.declared.cause.Answer.{Answer}
 use Rattle.tokens.specs.declared.cause.Cause.{Cause}
 use Rattle.tokens.specs.declared.cause.Cause.the-variants.{Length, FlagLength, RowRoom, RecordRoom, Flag, Kind, Nesting, Unexpected, Target, Spread, RestName, RestLast, Tree, Outside}
 use Rattle.tokens.specs.declared.cause.Counts.{Counts}
-use Rattle.text.specs.Text.{ascii, decimal, space, newline, line, words-from, line-of, lines-from, text}
+use Rattle.text.specs.Text.{decimal, space, newline, line, words-from, line-of, lines-from, text}
 use Rattle.text.proofs.Decimal.{one-digit, more-digits}
 use Rattle.text.proofs.Lines.{line-more, line-last, lines-more, lines-none, line-two, line-three}
 

@@ -1,6 +1,5 @@
 -- `classes::between` meets its contract.
 -- Assumes nothing.
-use mathlib.Core.Path.{refl}
 use borrow.Author.Tests.{le-leb, lt-leb}
 use Rattle.classes.proofs.between.Statement.{statement}
 use Rattle.classes.proofs.between.Tie as tie

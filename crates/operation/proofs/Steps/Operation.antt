@@ -5,15 +5,14 @@ use mathlib.Core.Path.{_≡_, refl, sym, ap, subst, _∙_}
 use mathlib.Core.Bool.{Bool, true, false, not}
 use mathlib.Core.List.{List, [], _∷_, _++_, append-nil}
 use native.Mathlib.Omega.{arith}
-use lib.Dec.{eqb}
 use lib.ListN.{length, getD, take}
 use lib.Seq.{length-take-le, getD-take, getD-append-add}
-use borrow.Author.Tests.{eqb-true, eq-eqb, ne-eqb}
+use borrow.Author.Tests.{eqb-true, ne-eqb}
 use Rattle.tokens.specs.Bool.{_or_, _and_, _is_, if_then_else_}
 use Rattle.tokens.specs.Kind.{Question2, Star2}
 use Rattle.tokens.specs.declared.cause.Cause.{Cause}
 use Rattle.tokens.proofs.Stands.{stands-not}
-use Rattle.rows.specs.Tree.{Tree, Forest, node, nil, cons, one, join, row, count, size, sizes, flat, flats, kind-of, mark-of}
+use Rattle.rows.specs.Tree.{Tree, Forest, node, one, join, row, count, sizes, flats, kind-of, mark-of}
 use Rattle.rows.specs.Record.{Record, says, mixed-coalesce, unary-power}
 use Rattle.rows.specs.Row as Row
 use Rattle.rows.specs.Post.{Grown}
@@ -22,16 +21,16 @@ use Rattle.rows.proofs.Rows.{grown-join}
 use Rattle.conversion.specs.Conversion.{simple}
 use Rattle.targets.specs.Post as Targets
 use Rattle.targets.specs.declared.Conversion.{Conversion}
-use Rattle.grammar.specs.Sheet.{sheet-of, done}
+use Rattle.grammar.specs.Sheet.{sheet-of}
 use Rattle.grammar.specs.Binary.{operation-kind, is-or-and, operation-records}
 use Rattle.grammar.specs.Update.{is-update-operator}
 use Rattle.laws.specs.Owed.{owed}
-use Rattle.making.specs.Post.{cursor, Comes, Made, Topped, Said}
-use Rattle.operation.specs.Operation.{or-and, record-number, FinishFits, Finished, OperandFits, PostfixTo, PostfixFail, MetPostfix}
+use Rattle.making.specs.Post.{cursor, Topped, Said}
+use Rattle.operation.specs.Operation.{record-number, FinishFits, Finished, OperandFits, PostfixTo, PostfixFail, MetPostfix}
 use Rattle.making.specs.declared.cursor.Cursor.{Cursor}
 use Rattle.making.specs.declared.cursor.Step.{Step}
 use Rattle.making.proofs.Rules.{postfix-none, postfix-refused, postfix-done}
-use Rattle.making.proofs.Makes.{stands-made, made-top, made-said, made-at}
+use Rattle.making.proofs.Makes.{stands-made, made-top, made-said}
 use Rattle.operation.proofs.Converts.{rooted, is-turned, is-refused}
 
 -- a word of the root row of a tree that stands

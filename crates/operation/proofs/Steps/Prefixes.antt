@@ -2,10 +2,9 @@
 -- Assumes nothing.
 use Prim.Native.Nat.{ℕ, zero, suc, _+_, _-_, _*_, _≤_, _<_}
 use mathlib.Core.Path.{_≡_, refl, sym, ap, subst, _∙_}
-use mathlib.Core.Bool.{Bool, true, false, not}
-use mathlib.Core.List.{List, [], _∷_, _++_, append-nil, append-assoc}
-use native.Mathlib.Numerals.{add-one}
-use native.Mathlib.Nat.{add-zero, add-suc}
+use mathlib.Core.Bool.{Bool, true, false}
+use mathlib.Core.List.{List, [], _++_, append-nil, append-assoc}
+use native.Mathlib.Nat.{add-zero}
 use native.Mathlib.Omega.{arith}
 use lib.Dec.{eqb}
 use lib.ListN.{length, getD}
@@ -14,7 +13,7 @@ use Rattle.tokens.specs.Bool.{_or_, _is_}
 use Rattle.tokens.specs.Kind.{Plus2, Minus2}
 use Rattle.tokens.specs.declared.cause.Cause.{Cause}
 use Rattle.tokens.proofs.Stands.{stands-not}
-use Rattle.rows.specs.Tree.{Tree, Forest, node, nil, cons, one, count}
+use Rattle.rows.specs.Tree.{Tree, node, one, count}
 use Rattle.rows.specs.Record.{Record}
 use Rattle.rows.specs.Row as Row
 use Rattle.rows.specs.Post.{Grown}
@@ -23,7 +22,7 @@ use Rattle.conversion.specs.Conversion.{simple}
 use Rattle.conversion.specs.Potential.{potential, potentials}
 use Rattle.targets.specs.Post as Targets
 use Rattle.targets.specs.declared.Conversion.{Conversion}
-use Rattle.grammar.specs.Sheet.{Out, done, fail}
+use Rattle.grammar.specs.Sheet.{done, fail}
 use Rattle.grammar.specs.Job.{unary}
 use Rattle.grammar.specs.Update.{is-unary-operator, is-update-operator}
 use Rattle.making.specs.Post.{cursor, Comes, Made, Topped}

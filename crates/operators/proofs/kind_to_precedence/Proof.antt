@@ -4,9 +4,8 @@ use Prim.Native.Nat.{ℕ, _<_}
 use mathlib.Core.Path.{_∙_, ap}
 use mathlib.Core.Bool.{Bool}
 use mathlib.Core.List.{List, [], _∷_, _++_}
-use native.Mathlib.Omega.{arith}
 use lib.Dec.{eqb, eqb→eq}
-use lib.ListN.{getD, length, replicate}
+use lib.ListN.{getD, replicate}
 use borrow.Author.Needs.{needs}
 use Rattle.tokens.proofs.Table.{entry}
 use Rattle.operators.specs.Precedence.{level}

@@ -1,9 +1,8 @@
 -- `plans::as_any` meets its contract.
 -- Assumes nothing.
-use mathlib.Core.Path.{refl, sym, _∙_}
-use native.Mathlib.Omega.{arith}
+use mathlib.Core.Path.{sym, _∙_}
 use borrow.Author.Needs.{needs}
-use borrow.Author.Tests.{eq-eqb, ne-eqb, le-leb, lt-leb}
+use borrow.Author.Tests.{eq-eqb, ne-eqb}
 use Rattle.conversion.specs.Conversion.{as-any}
 use Rattle.plans.proofs.as_any.Statement.{statement}
 use Rattle.plans.proofs.as_any.Tie as tie

@@ -1,9 +1,7 @@
 -- `plans::as_last_element` meets its contract.
 -- Assumes nothing.
-use mathlib.Core.Path.{refl, sym, _∙_}
-use native.Mathlib.Omega.{arith}
+use mathlib.Core.Path.{sym, _∙_}
 use borrow.Author.Needs.{needs}
-use borrow.Author.Tests.{eq-eqb, ne-eqb, le-leb, lt-leb}
 use Rattle.conversion.specs.Conversion.{as-last-element}
 use Rattle.plans.proofs.as_last_element.Statement.{statement}
 use Rattle.plans.proofs.as_last_element.Tie as tie

@@ -1,9 +1,7 @@
 -- `plans::as_last_property` meets its contract.
 -- Assumes nothing.
-use mathlib.Core.Path.{refl, sym, _∙_}
-use native.Mathlib.Omega.{arith}
+use mathlib.Core.Path.{sym, _∙_}
 use borrow.Author.Needs.{needs}
-use borrow.Author.Tests.{eq-eqb, ne-eqb, le-leb, lt-leb}
 use Rattle.conversion.specs.Conversion.{as-last-property}
 use Rattle.plans.proofs.as_last_property.Statement.{statement}
 use Rattle.plans.proofs.as_last_property.Tie as tie

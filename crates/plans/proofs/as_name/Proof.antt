@@ -1,9 +1,7 @@
 -- `plans::as_name` meets its contract.
 -- Assumes nothing.
-use mathlib.Core.Path.{refl, sym, _∙_}
-use native.Mathlib.Omega.{arith}
 use borrow.Author.Needs.{needs}
-use borrow.Author.Tests.{eq-eqb, ne-eqb, le-leb, lt-leb}
+use borrow.Author.Tests.{eq-eqb, ne-eqb}
 use Rattle.conversion.specs.Conversion.{as-name}
 use Rattle.plans.proofs.as_name.Statement.{statement}
 use Rattle.plans.proofs.as_name.Tie as tie

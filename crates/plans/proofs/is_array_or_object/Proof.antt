@@ -1,9 +1,6 @@
 -- `plans::is_array_or_object` meets its contract.
 -- Assumes nothing.
-use mathlib.Core.Path.{refl, sym, _∙_}
-use native.Mathlib.Omega.{arith}
-use borrow.Author.Needs.{needs}
-use borrow.Author.Tests.{eq-eqb, ne-eqb, le-leb, lt-leb}
+use borrow.Author.Tests.{le-leb, lt-leb}
 use Rattle.plans.proofs.is_array_or_object.Statement.{statement}
 use Rattle.plans.proofs.is_array_or_object.Tie as tie
 

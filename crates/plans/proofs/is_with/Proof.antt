@@ -1,9 +1,6 @@
 -- `plans::is_with` meets its contract.
 -- Assumes nothing.
-use mathlib.Core.Path.{refl, sym, _∙_}
-use native.Mathlib.Omega.{arith}
-use borrow.Author.Needs.{needs}
-use borrow.Author.Tests.{eq-eqb, ne-eqb, le-leb, lt-leb}
+use borrow.Author.Tests.{eq-eqb, ne-eqb}
 use Rattle.plans.proofs.is_with.Statement.{statement}
 use Rattle.plans.proofs.is_with.Tie as tie
 

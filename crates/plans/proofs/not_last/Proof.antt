@@ -1,9 +1,6 @@
 -- `plans::not_last` meets its contract.
 -- Assumes nothing.
-use mathlib.Core.Path.{refl, sym, _∙_}
-use native.Mathlib.Omega.{arith}
 use borrow.Author.Needs.{needs}
-use borrow.Author.Tests.{eq-eqb, ne-eqb, le-leb, lt-leb}
 use Rattle.plans.proofs.not_last.Statement.{statement}
 use Rattle.plans.proofs.not_last.Tie as tie
 

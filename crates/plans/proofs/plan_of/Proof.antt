@@ -1,9 +1,7 @@
 -- `plans::plan_of` meets its contract.
 -- Assumes nothing.
-use mathlib.Core.Path.{refl, sym, _∙_}
-use native.Mathlib.Omega.{arith}
+use mathlib.Core.Path.{sym, _∙_}
 use borrow.Author.Needs.{needs}
-use borrow.Author.Tests.{eq-eqb, ne-eqb, le-leb, lt-leb}
 use Rattle.conversion.specs.Conversion.{change}
 use Rattle.plans.proofs.Patterns.{pattern-changed}
 use Rattle.plans.proofs.plan_of.Statement.{statement}

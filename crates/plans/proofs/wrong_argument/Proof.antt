@@ -1,9 +1,7 @@
 -- `plans::wrong_argument` meets its contract.
 -- Assumes nothing.
-use mathlib.Core.Path.{refl, sym, _∙_}
-use native.Mathlib.Omega.{arith}
+use mathlib.Core.Path.{sym, _∙_}
 use borrow.Author.Needs.{needs}
-use borrow.Author.Tests.{eq-eqb, ne-eqb, le-leb, lt-leb}
 use Rattle.plans.proofs.wrong_argument.Statement.{statement}
 use Rattle.plans.proofs.wrong_argument.Tie as tie
 

@@ -1,9 +1,7 @@
 -- `roles::kid_role` meets its contract.
 -- Assumes nothing.
-use mathlib.Core.Path.{refl, sym, _∙_}
-use native.Mathlib.Omega.{arith}
 use borrow.Author.Needs.{needs}
-use borrow.Author.Tests.{eq-eqb, ne-eqb, le-leb, lt-leb}
+use borrow.Author.Tests.{eq-eqb, ne-eqb}
 use Rattle.roles.proofs.kid_role.Statement.{statement}
 use Rattle.roles.proofs.kid_role.Tie as tie
 

@@ -1,9 +1,7 @@
 -- `roles::notes_count` meets its contract.
 -- Assumes nothing.
-use mathlib.Core.Path.{refl, sym, _∙_}
 use native.Mathlib.Omega.{arith}
 use borrow.Author.Needs.{needs}
-use borrow.Author.Tests.{eq-eqb, ne-eqb, le-leb, lt-leb}
 use lib.ListN.{length-append}
 use Rattle.roles.proofs.Notes.{note-short}
 use Rattle.roles.proofs.notes_count.Statement.{statement}

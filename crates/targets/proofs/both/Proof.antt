@@ -1,7 +1,5 @@
 -- `targets::both` meets its contract.
 -- Assumes nothing.
-use mathlib.Core.Path.{refl, sym, _∙_}
-use native.Mathlib.Omega.{arith}
 use borrow.Author.Needs.{needs}
 use Rattle.targets.proofs.both.Statement.{statement}
 use Rattle.targets.proofs.both.Tie as tie

@@ -1,7 +1,5 @@
 -- `targets::look` meets its contract.
 -- Assumes nothing.
-use mathlib.Core.Path.{refl, sym, _∙_}
-use native.Mathlib.Omega.{arith}
 use borrow.Author.Needs.{needs}
 use Rattle.targets.proofs.Looking.{looks-none, looks-last, has-kid}
 use Rattle.targets.proofs.look.Statement.{statement}

@@ -1,6 +1,5 @@
 -- `targets::write_note` meets its contract.
 -- Assumes nothing.
-use mathlib.Core.Path.{refl, sym, _∙_}
 use native.Mathlib.Omega.{arith}
 use borrow.Author.Needs.{needs}
 use Rattle.targets.proofs.Records.{written-none, written-one, says-fits}

@@ -1,15 +1,11 @@
 -- `targets_cost::put_rows` is safe and ends.
 -- Assumes nothing.
-use Prim.Native.Nat.{_+_, _-_, _*_, _≤_}
+use Prim.Native.Nat.{_-_, _≤_}
 use mathlib.Core.Path.{_≡_}
 use lib.ListN.{length}
 use borrow.Author.Needs.{needs}
 use Rattle.targets_cost.proofs.put_rows.Statement.{statement}
 use Rattle.targets_cost.proofs.put_rows.Tie as tie
-use Rattle.targets_cost.proofs.put_rows.Reads as reads
-use Rattle.targets_cost.proofs.put_rows.Lts as lts
-use Rattle.targets_cost.proofs.put_array.Reads as put-array-reads
-use Rattle.targets_cost.proofs.put_name.Reads as put-name-reads
 
 abbrev Inv-loop : tie.InvT-loop
 Inv-loop tree₀ names n₀ tree n = (n ≤ names) × (length tree ≡ length tree₀)

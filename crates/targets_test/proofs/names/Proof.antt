@@ -1,14 +1,9 @@
 -- `targets_test::names` is safe and ends.
 -- Assumes nothing.
-use Prim.Native.Nat.{_+_, _-_, _*_, _≤_}
-use mathlib.Core.Path.{_≡_}
-use lib.ListN.{length}
+use Prim.Native.Nat.{_-_, _≤_}
 use borrow.Author.Needs.{needs}
 use Rattle.targets_test.proofs.names.Statement.{statement}
 use Rattle.targets_test.proofs.names.Tie as tie
-use Rattle.targets_test.proofs.names.Reads as reads
-use Rattle.targets_test.proofs.names.Lts as lts
-use Rattle.rows.proofs.push_row.Reads as push-row-reads
 
 abbrev Inv-loop : tie.InvT-loop
 Inv-loop tree₀ n₀ tree n = n ≤ 2047

@@ -1,15 +1,9 @@
 -- `targets_test::nested` is safe and ends.
 -- Assumes nothing.
-use Prim.Native.Nat.{_+_, _-_, _*_, _≤_}
-use mathlib.Core.Path.{_≡_}
-use lib.ListN.{length}
+use Prim.Native.Nat.{_-_, _≤_}
 use borrow.Author.Needs.{needs}
 use Rattle.targets_test.proofs.nested.Statement.{statement}
 use Rattle.targets_test.proofs.nested.Tie as tie
-use Rattle.targets_test.proofs.nested.Reads as reads
-use Rattle.targets_test.proofs.nested.Lts as lts
-use Rattle.rows.proofs.push_row.Reads as push-row-reads
-use Rattle.targets_test.proofs.alternate.Reads as alternate-reads
 
 abbrev Inv-loop : tie.InvT-loop
 Inv-loop tree₀ odd even n₀ tree n = (1 ≤ n) × (n ≤ 2048)

@@ -1,16 +1,9 @@
 -- `targets_test::show_kinds` is safe and ends.
 -- Assumes nothing.
-use Prim.Native.Nat.{_+_, _-_, _*_, _≤_}
-use mathlib.Core.Path.{_≡_}
-use lib.ListN.{length}
+use Prim.Native.Nat.{_-_}
 use borrow.Author.Needs.{needs}
 use Rattle.targets_test.proofs.show_kinds.Statement.{statement}
 use Rattle.targets_test.proofs.show_kinds.Tie as tie
-use Rattle.targets_test.proofs.show_kinds.Reads as reads
-use Rattle.targets_test.proofs.show_kinds.Lts as lts
-use Rattle.io.proofs.write_all.Reads as write-all-reads
-use Rattle.rows.proofs.row_word.Reads as row-word-reads
-use Rattle.targets_test.proofs.show_word.Reads as show-word-reads
 
 abbrev Inv-loop : tie.InvT-loop
 Inv-loop tree from to n₀ n = Unit {0}

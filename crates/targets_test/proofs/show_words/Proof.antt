@@ -1,15 +1,9 @@
 -- `targets_test::show_words` is safe and ends.
 -- Assumes nothing.
-use Prim.Native.Nat.{_+_, _-_, _*_, _≤_}
-use mathlib.Core.Path.{_≡_}
-use lib.ListN.{length}
+use Prim.Native.Nat.{_-_}
 use borrow.Author.Needs.{needs}
 use Rattle.targets_test.proofs.show_words.Statement.{statement}
 use Rattle.targets_test.proofs.show_words.Tie as tie
-use Rattle.targets_test.proofs.show_words.Reads as reads
-use Rattle.targets_test.proofs.show_words.Lts as lts
-use Rattle.io.proofs.write_all.Reads as write-all-reads
-use Rattle.targets_test.proofs.show_word.Reads as show-word-reads
 
 abbrev Inv-loop : tie.InvT-loop
 Inv-loop words from to i₀ i = Unit {0}

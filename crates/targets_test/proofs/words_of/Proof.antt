@@ -1,16 +1,11 @@
 -- `targets_test::words_of` is safe and ends.
 -- Assumes nothing.
-use Prim.Native.Nat.{_+_, _-_, _*_, _≤_}
+use Prim.Native.Nat.{_-_, _≤_}
 use mathlib.Core.Path.{_≡_}
 use lib.ListN.{length}
 use borrow.Author.Needs.{needs}
 use Rattle.targets_test.proofs.words_of.Statement.{statement}
 use Rattle.targets_test.proofs.words_of.Tie as tie
-use Rattle.targets_test.proofs.words_of.Reads as reads
-use Rattle.targets_test.proofs.words_of.Lts as lts
-use Rattle.targets_test.proofs.put.Reads as put-reads
-use Rattle.targets_test.proofs.word_after.Reads as word-after-reads
-use Rattle.targets_test.proofs.words_after.Reads as words-after-reads
 
 abbrev Inv-loop : tie.InvT-loop
 Inv-loop text tree₀ n₀ word₀ i₀ tree n word i = (n ≤ 1000) × (length tree ≡ length tree₀)
