@@ -30,7 +30,7 @@ use Rattle.laws.specs.Good.{Meaning, Ends, ends-done, ends-fail, ends-stuck, Re
 use Rattle.laws.specs.Steady.{never-stuck}
 use Rattle.agreement.specs.Leads.{arrow, Halt, halt-fail, halt-dead}
 use Rattle.brackets.specs.Balanced.{side-of}
-use Rattle.agreement.specs.Brackets.{Closes, Opening, bare, after-async, Headed, one-close, Shaped, all-balanced}
+use Rattle.brackets.specs.Readings.{Closes, Opening, bare, after-async, Headed, one-close, Shaped, all-balanced}
 
 -- nothing is said of a reading
 pub nothing-said : {N : Type 0} (reading : Reading N) → Reads (λ end trees records. Unit {0}) (λ cause. Unit {0}) reading

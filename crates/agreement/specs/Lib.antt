@@ -1,6 +1,5 @@
 pub mod Terms
 pub mod Leads
-pub mod Brackets
 pub mod Covers
 pub mod OneSided
 pub mod Heads

@@ -22,7 +22,7 @@ use Rattle.laws.specs.Bounds.{limits, Bound}
 use Rattle.laws.specs.Rel.{looked-at, Ready, Whatever}
 use Rattle.laws.specs.Steady.{never-stuck}
 use Rattle.agreement.specs.Leads.{open-ended, halt-fail, halt-dead, Led, both-done, halted, Leads, Near, Stays, forget, lead-test, led-after, arrow-led, led, dead-inside}
-use Rattle.agreement.specs.Brackets.{Headed, balanced}
+use Rattle.brackets.specs.Readings.{Headed, balanced}
 use Rattle.agreement.specs.Covers.{covered}
 
 module _ {N : Type 0} (policy : Policy N) (sheet : Sheet) where

@@ -35,7 +35,7 @@ use Rattle.laws.specs.Steady.{never-stuck}
 use Rattle.agreement.specs.Terms.{Early}
 use Rattle.agreement.specs.Leads.{Dead, curly, Halt, halt-fail, halt-dead}
 use Rattle.brackets.specs.Balanced.{side-of, none}
-use Rattle.agreement.specs.Brackets.{after-async}
+use Rattle.brackets.specs.Readings.{after-async}
 use Rattle.agreement.specs.Covers.{covered}
 
 -- KINDS IN LISTS

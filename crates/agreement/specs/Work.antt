@@ -35,7 +35,7 @@ use Rattle.laws.specs.Good.{Stands, Ends, ends-done, ends-fail, ends-stuck, Ans
 use Rattle.laws.specs.Bounds.{limits, Bound, step-bound}
 use Rattle.laws.specs.Rel.{looked-at, operator-inside, async-inside}
 use Rattle.brackets.specs.Balanced.{side-of, Side, Balanced, none, skip, name-flat, word-flat, operator-flat, flat}
-use Rattle.agreement.specs.Brackets.{Closes, side, two, unary-flat, update-flat, assignment-flat, around, around-list, whole-head, Shape, Shaped, step-shape}
+use Rattle.brackets.specs.Readings.{Closes, side, two, unary-flat, update-flat, assignment-flat, around, around-list, whole-head, Shape, Shaped, step-shape}
 use Rattle.agreement.specs.Count.{Counted, tick, counting, count}
 use Rattle.agreement.specs.Scope.{scope, head-start, reach, closing-flat, closing-here, closing-later, closing-balanced, scope-in}
 

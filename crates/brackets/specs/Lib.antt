@@ -1,1 +1,2 @@
 pub mod Balanced
+pub mod Readings

@@ -1,4 +1,5 @@
--- The sheets to prove by, P1 to P10 of document 01: one statement over the table, exact to the last word of the tree and the records.
+-- The sheets to prove by, P1 to P10 of document 01 and G1 to G7 on grouping: one statement over the table, exact to the last word of the tree and the records.
+-- Kinds and rows are plain numbers here: what the names of kinds and rows stand for is not asked.
 -- Assumes nothing.
 use Prim.Native.Nat.{ℕ}
 use mathlib.Core.Path.{_≡_, refl}
@@ -138,8 +139,79 @@ P10 =
       records = 6 ∷ 1 ∷ [];
     }
 
+-- GROUPING: G1 to G7, how operators of different levels and of one level stand to each other
+-- G1: `a + b * c`
+abbrev pub G1 : Case
+G1 =
+    record {
+      kinds = 1 ∷ 57 ∷ 1 ∷ 59 ∷ 1 ∷ [];
+      answer = counts 5 0 0;
+      rows = row 1 0 0 1 0 1 ++ row 1 2 2 3 0 1 ++ row 1 4 4 5 0 1 ++ row 22 3 2 5 2 3 ++ row 22 1 0 5 2 5;
+      records = [];
+    }
+
+-- G2: `a * b + c`
+abbrev pub G2 : Case
+G2 =
+    record {
+      kinds = 1 ∷ 59 ∷ 1 ∷ 57 ∷ 1 ∷ [];
+      answer = counts 5 0 0;
+      rows = row 1 0 0 1 0 1 ++ row 1 2 2 3 0 1 ++ row 22 1 0 3 2 3 ++ row 1 4 4 5 0 1 ++ row 22 3 0 5 2 5;
+      records = [];
+    }
+
+-- G3: `a ** b ** c`
+abbrev pub G3 : Case
+G3 =
+    record {
+      kinds = 1 ∷ 62 ∷ 1 ∷ 62 ∷ 1 ∷ [];
+      answer = counts 5 0 0;
+      rows = row 1 0 0 1 0 1 ++ row 1 2 2 3 0 1 ++ row 1 4 4 5 0 1 ++ row 22 3 2 5 2 3 ++ row 22 1 0 5 2 5;
+      records = [];
+    }
+
+-- G4: `a < b == c`
+abbrev pub G4 : Case
+G4 =
+    record {
+      kinds = 1 ∷ 48 ∷ 1 ∷ 44 ∷ 1 ∷ [];
+      answer = counts 5 0 0;
+      rows = row 1 0 0 1 0 1 ++ row 1 2 2 3 0 1 ++ row 22 1 0 3 2 3 ++ row 1 4 4 5 0 1 ++ row 22 3 0 5 2 5;
+      records = [];
+    }
+
+-- G5: `a && b || c`
+abbrev pub G5 : Case
+G5 =
+    record {
+      kinds = 1 ∷ 40 ∷ 1 ∷ 39 ∷ 1 ∷ [];
+      answer = counts 5 0 0;
+      rows = row 1 0 0 1 0 1 ++ row 1 2 2 3 0 1 ++ row 23 1 0 3 2 3 ++ row 1 4 4 5 0 1 ++ row 23 3 0 5 2 5;
+      records = [];
+    }
+
+-- G6: `a = b = c`
+abbrev pub G6 : Case
+G6 =
+    record {
+      kinds = 1 ∷ 63 ∷ 1 ∷ 63 ∷ 1 ∷ [];
+      answer = counts 5 0 0;
+      rows = row 40 0 0 1 0 1 ++ row 40 2 2 3 0 1 ++ row 1 4 4 5 0 1 ++ row 25 3 2 5 2 3 ++ row 25 1 0 5 2 5;
+      records = [];
+    }
+
+-- G7: `a ? b : c ? d : e`
+abbrev pub G7 : Case
+G7 =
+    record {
+      kinds = 1 ∷ 26 ∷ 1 ∷ 25 ∷ 1 ∷ 26 ∷ 1 ∷ 25 ∷ 1 ∷ [];
+      answer = counts 7 0 0;
+      rows = row 1 0 0 1 0 1 ++ row 1 2 2 3 0 1 ++ row 1 4 4 5 0 1 ++ row 1 6 6 7 0 1 ++ row 1 8 8 9 0 1 ++ row 24 5 4 9 3 4 ++ row 24 1 0 9 3 7;
+      records = [];
+    }
+
 abbrev pub sheets : List Case
-sheets = P1 ∷ P2 ∷ P3 ∷ P4 ∷ P5 ∷ P6 ∷ P7 ∷ P8 ∷ P9 ∷ P10 ∷ []
+sheets = P1 ∷ P2 ∷ P3 ∷ P4 ∷ P5 ∷ P6 ∷ P7 ∷ P8 ∷ P9 ∷ P10 ∷ G1 ∷ G2 ∷ G3 ∷ G4 ∷ G5 ∷ G6 ∷ G7 ∷ []
 
 -- the words of what was read; a refusal has none
 abbrev pub row-words : Whole (List ℕ) → List ℕ
@@ -165,4 +237,4 @@ All P (case ∷ cases) = P case × All P cases
 
 pub sheets-hold : All Holds sheets
 unfolding check-length check-flag-length first-such check-flags check-kinds depth-after nesting check-nesting is-name is-word is-literal is-binding-identifier is-modifier-kind level expression-level no-parameters rest-parameter modified-name after-name first-parameter after-paren type-parameter names-type after-angle after-open three-way join count size sizes flat flats kind-of mark-of first-of end-of kids-of record-words inner-kind inner-kinds seen as-simple as-any as-value as-element as-last-element as-property as-last-property as-name change roles over both convert-as convert-kids first-tree after-records and-then or-else _>>=_ try yield refuse say parenthesized-of primary-of spread-of elements-of properties-of shorthand-of property-of key-of left-hand-side-of links-of arguments-of is-unary-operator is-update-operator converted-to unary-of postfix-of operation-kind right-floor is-or-and operation-records binary-of operators-of is-assignment-operator is-async-name assign-of conditional-of after-binary value-of expression-of sequence-of binding-of binding-element-of binding-rest-of binding-elements-of binding-properties-of binding-shorthand-of binding-property-of by-way choose noting arrow-of assignment-of parenthesized-head-of head-of parameters-of body-of step read way-of noted-places unconverted unconverteds at-end reading checks after-checks
-sheets-hold = (refl, (refl, (refl, (refl, (refl, (refl, (refl, (refl, (refl, (refl, tt))))))))))
+sheets-hold = (refl, (refl, (refl, (refl, (refl, (refl, (refl, (refl, (refl, (refl, (refl, (refl, (refl, (refl, (refl, (refl, (refl, tt)))))))))))))))))

@@ -68,7 +68,7 @@ Passes case = Definition.checks (sheet-of case) ≡ Checked.Fine
 
 passes : All Passes sheets
 unfolding Definition.checks check-length check-flag-length first-such check-flags check-kinds depth-after nesting check-nesting
-passes = (refl, (refl, (refl, (refl, (refl, (refl, (refl, (refl, (refl, (refl, tt))))))))))
+passes = (refl, (refl, (refl, (refl, (refl, (refl, (refl, (refl, (refl, (refl, (refl, (refl, (refl, (refl, (refl, (refl, (refl, tt)))))))))))))))))
 
 holds : (case : Case) → Passes case → Said.Holds case → Holds case
 holds case fine same =

@@ -4,6 +4,7 @@
 use Prim.Native.Nat.{ℕ, zero, suc, _+_, _≤_}
 use mathlib.Core.Path.{_≡_, refl, sym, ap, _∙_, subst}
 use mathlib.Core.Bool.{Bool, true, false}
+use mathlib.Core.List.{List}
 use native.Mathlib.Omega.{arith}
 use native.Mathlib.Decide.{ℕ-discrete}
 use lib.Dec.{leb}
@@ -14,44 +15,42 @@ use Rattle.tokens.specs.Token.{is-name, is-word, is-literal}
 use Rattle.operators.specs.Precedence.{level, expression-level}
 use Rattle.rows.specs.Tree.{Forest}
 use Rattle.grammar.specs.Sheet.{Sheet, token}
+use Rattle.brackets.specs.Readings as Readings
+use Rattle.brackets.specs.Readings.{Headed, bare, after-async}
 use Rattle.brackets.specs.Balanced as Balance
 use Rattle.brackets.specs.Balanced.{side-of, Side, Balanced, none, skip, nest, partner, joined, flat, name-flat, word-flat, literal-flat, operator-flat}
 use Rattle.standard.specs.Derives as D
-use Rattle.standard.specs.Derives.{Tok, Of, Operator, is-key, is-prefix, is-update, is-compound, Chain, Nonterminal, PrimaryExpression, ChainExpression, Arguments, UpdateExpression, UnaryExpression, TierExpression, CoalesceExpression, ShortCircuitExpression, SimpleTarget, AssignmentPattern, DestructuringAssignmentTarget, ArrowFormalParameters, Width, Derives}
+use Rattle.standard.specs.Terminals.{name, word, literal, Operator, line, operator}
+use Rattle.standard.specs.Derives.{Tok, one-of, OneOf, identifiers, identifier-names, literals, literal-property-names, update-operators, unary-operators, assignment-operators, LeftToRight, Links, Nonterminal, PrimaryExpression, LinkedExpression, Arguments, UpdateExpression, UnaryExpression, TierExpression, CoalesceExpression, ShortCircuitExpression, SimpleTarget, AssignmentPattern, DestructuringAssignmentTarget, ArrowFormalParameters, Derives}
 use Rattle.standard.specs.Roots.{not-both}
-use Rattle.standard.specs.Sound.{Head, plain-head, async-head}
 
 pub side : {s : Sheet} {at k : ℕ} → Tok s at k → Side s at (side-of k)
 side t = Balance.side (t .kind-is)
 
 module _ {s : Sheet} {at : ℕ} where
-  name-side : Of is-name s at → Side s at 0
-  name-side t = name-flat (t .holds)
+  name-side : OneOf identifiers s at → Side s at 0
+  name-side t = name-flat (name t .holds)
 
-  word-side : Of is-word s at → Side s at 0
-  word-side t = word-flat (t .holds)
+  word-side : OneOf identifier-names s at → Side s at 0
+  word-side t = word-flat (word t .holds)
 
-  literal-side : Of is-literal s at → Side s at 0
-  literal-side t = literal-flat (t .holds)
+  literal-side : OneOf literals s at → Side s at 0
+  literal-side t = literal-flat (literal t .holds)
 
-  key-side : Of is-key s at → Side s at 0
-  unfolding is-key is-word
-  key-side t = flat is-key refl refl refl refl refl refl (t .holds)
+  key-side : OneOf literal-property-names s at → Side s at 0
+  key-side t = flat (one-of literal-property-names) refl refl refl refl refl refl (t .holds)
 
-  prefix-side : Of is-prefix s at → Side s at 0
-  unfolding is-prefix
-  prefix-side t = flat is-prefix refl refl refl refl refl refl (t .holds)
+  prefix-side : OneOf unary-operators s at → Side s at 0
+  prefix-side t = flat (one-of unary-operators) refl refl refl refl refl refl (t .holds)
 
-  update-side : Of is-update s at → Side s at 0
-  unfolding is-update
-  update-side t = flat is-update refl refl refl refl refl refl (t .holds)
+  update-side : OneOf update-operators s at → Side s at 0
+  update-side t = flat (one-of update-operators) refl refl refl refl refl refl (t .holds)
 
-  compound-side : Of is-compound s at → Side s at 0
-  unfolding is-compound
-  compound-side t = flat is-compound refl refl refl refl refl refl (t .holds)
+  compound-side : OneOf assignment-operators s at → Side s at 0
+  compound-side t = flat (one-of assignment-operators) refl refl refl refl refl refl (t .holds)
 
-  operator-side : {tier : ℕ} → 2 ≤ tier → Operator s at tier → Side s at 0
-  operator-side h t = operator-flat 0 (lt-ltb 0 (expression-level (token s at)) (omega (arith, t .level-is)))
+  operator-side : {x y row : ℕ} {operators : List ℕ} → LeftToRight (TierExpression x) operators (TierExpression y) row → OneOf operators s at → Side s at 0
+  operator-side l t = operator-flat 0 (lt-ltb 0 (expression-level (token s at)) (omega (arith, operator l t .level-is, line l .low)))
 
 module _ {s : Sheet} where
   one-token : {i : ℕ} → Side s i 0 → Balanced s i (i + 1)
@@ -67,7 +66,7 @@ module _ {s : Sheet} where
   pair-two {i} p t a u = let e : p + 1 + 1 ≡ p + 2 = omega arith in subst (Balanced s i) e (pair t a u)
 
 -- whatever is derived has its brackets in pairs
-pub balanced : {w : Width} {s : Sheet} {x : Nonterminal} {i j : ℕ} {ts : Forest} → Derives w s x i j ts → Balanced s i j
+pub balanced : {s : Sheet} {x : Nonterminal} {i j : ℕ} {ts : Forest} → Derives s x i j ts → Balanced s i j
 unfolding side-of
 balanced (D.first-of-list a) = balanced a
 balanced (D.next-of-list a b c) = joined (balanced a) (joined (one-token (side b)) (balanced c))
@@ -99,7 +98,7 @@ balanced (D.primary a) = balanced a
 balanced (D.index a b c d) = joined (balanced a) (pair (side b) (balanced c) (side d))
 balanced (D.member {p = p} a b c) = joined (balanced a) (joined (one-token (side b)) (token-two p (word-side c)))
 balanced (D.call a b) = joined (balanced a) (balanced b)
-balanced (D.chain a) = balanced a
+balanced (D.linked a) = balanced a
 balanced (D.no-arguments {i = i} a b) = pair-two i (side a) none (side b)
 balanced (D.arguments a b c) = pair (side a) (balanced b) (side c)
 balanced (D.arguments-comma {p = p} a b c d) = pair-two p (side a) (joined (balanced b) (one-token (side c))) (side d)
@@ -110,13 +109,11 @@ balanced (D.update a) = balanced a
 balanced (D.unary a b) = joined (one-token (prefix-side a)) (balanced b)
 balanced (D.no-power a) = balanced a
 balanced (D.power a b c) = joined (balanced a) (joined (one-token (side b)) (balanced c))
-balanced (D.power-of-unary _ b c d) = joined (balanced b) (joined (one-token (side c)) (balanced d))
-balanced (D.tier-up _ b) = balanced b
+balanced (D.no-operation _ b) = balanced b
 balanced (D.operation a b c d) = joined (balanced b) (joined (one-token (operator-side a c)) (balanced d))
 balanced (D.head-coalesce a) = balanced a
 balanced (D.head-or a) = balanced a
 balanced (D.coalesce a b c) = joined (balanced a) (joined (one-token (side b)) (balanced c))
-balanced (D.coalesce-mixed _ b c d) = joined (balanced b) (joined (one-token (side c)) (balanced d))
 balanced (D.short-circuit-or a) = balanced a
 balanced (D.short-circuit-coalesce a) = balanced a
 balanced (D.short-circuit a) = balanced a
@@ -124,8 +121,6 @@ balanced (D.conditional a b c d e) = joined (balanced a) (joined (one-token (sid
 balanced (D.no-assignment a) = balanced a
 balanced (D.arrow a b _ d) = joined (balanced a) (joined (one-token (side b)) (balanced d))
 balanced (D.async-arrow a b _ d) = joined (balanced a) (joined (one-token (side b)) (balanced d))
-balanced (D.arrow-broken _ b c d) = joined (balanced b) (joined (one-token (side c)) (balanced d))
-balanced (D.async-arrow-broken _ b c d) = joined (balanced b) (joined (one-token (side c)) (balanced d))
 balanced (D.assign a b c) = joined (balanced a) (joined (one-token (side b)) (balanced c))
 balanced (D.compound-assign a b c) = joined (balanced a) (joined (one-token (compound-side b)) (balanced c))
 balanced (D.target-name a) = one-token (name-side a)
@@ -139,24 +134,18 @@ balanced (D.target-array-rest a b c) = pair (side a) (balanced b) (side c)
 balanced (D.target-array-list a b c) = pair (side a) (balanced b) (side c)
 balanced (D.target-array-comma a b c d e) = pair (side a) (joined (balanced b) (joined (one-token (side c)) (balanced d))) (side e)
 balanced (D.target-array-list-rest a b c d e) = pair (side a) (joined (balanced b) (joined (one-token (side c)) (balanced d))) (side e)
-balanced (D.target-array-rest-comma {p = p} _ b c d e) = pair-two p (side b) (joined (balanced c) (one-token (side d))) (side e)
-balanced (D.target-array-list-rest-comma {q = q} _ b c d e f g) = pair-two q (side b) (joined (balanced c) (joined (one-token (side d)) (joined (balanced e) (one-token (side f))))) (side g)
 balanced (D.target-object-empty {i = i} a b) = pair-two i (side a) none (side b)
 balanced (D.target-object-rest a b c) = pair (side a) (balanced b) (side c)
 balanced (D.target-object-list a b c) = pair (side a) (balanced b) (side c)
 balanced (D.target-object-comma {p = p} a b c d) = pair-two p (side a) (joined (balanced b) (one-token (side c))) (side d)
 balanced (D.target-object-list-rest a b c d e) = pair (side a) (joined (balanced b) (joined (one-token (side c)) (balanced d))) (side e)
-balanced (D.target-object-rest-comma {p = p} _ b c d e) = pair-two p (side b) (joined (balanced c) (one-token (side d))) (side e)
-balanced (D.target-object-list-rest-comma {q = q} _ b c d e f g) = pair-two q (side b) (joined (balanced c) (joined (one-token (side d)) (joined (balanced e) (one-token (side f))))) (side g)
 balanced (D.target-element a) = balanced a
 balanced (D.target-default a b c) = joined (balanced a) (joined (one-token (side b)) (balanced c))
-balanced (D.target-compound _ b c d) = joined (balanced b) (joined (one-token (compound-side c)) (balanced d))
 balanced (D.target-rest a b) = joined (one-token (side a)) (balanced b)
 balanced (D.target-shorthand a) = one-token (name-side a)
 balanced (D.target-shorthand-default {i = i} a b c) = joined (one-token (name-side a)) (joined (token-two i (side b)) (balanced c))
 balanced (D.target-property a b c) = joined (balanced a) (joined (one-token (side b)) (balanced c))
 balanced (D.target-rest-property a b) = joined (one-token (side a)) (balanced b)
-balanced (D.target-rest-pattern _ b c) = joined (one-token (side b)) (balanced c)
 balanced (D.no-comma a) = balanced a
 balanced (D.sequence a) = balanced a
 balanced (D.first-comma a b c) = joined (balanced a) (joined (one-token (side b)) (balanced c))
@@ -176,7 +165,6 @@ balanced (D.binding-array-list-rest a b c d e) = pair (side a) (joined (balanced
 balanced (D.no-default a) = balanced a
 balanced (D.binding-default a b c) = joined (balanced a) (joined (one-token (side b)) (balanced c))
 balanced (D.binding-rest a b) = joined (one-token (side a)) (balanced b)
-balanced (D.binding-rest-default _ b c) = joined (one-token (side b)) (balanced c)
 balanced (D.binding-shorthand a) = one-token (name-side a)
 balanced (D.binding-shorthand-default {i = i} a b c) = joined (one-token (name-side a)) (joined (token-two i (side b)) (balanced c))
 balanced (D.binding-property a b c) = joined (balanced a) (joined (one-token (side b)) (balanced c))
@@ -220,23 +208,24 @@ pub data Opening (s : Sheet) (i : ℕ) : Type 0 where
   async-opening : Tok s i Async → (Tok s (i + 1) LParen → ⊥) → Opening s i
   async-group-opening : (e : ℕ) → Tok s i Async → Group s (i + 1) e → (Tok s (e + 1) Arrow → ⊥) → Opening s i
 
--- parameters in parentheses, and the `=>` after them, leave no other group there
-parameters-close : {w : Width} {s : Sheet} {i q e : ℕ} {ts : Forest} → Derives w s ArrowFormalParameters i q ts → Tok s q Arrow → Group s i e → Tok s (e + 1) Arrow
-unfolding side-of
-parameters-close {s = s} (D.arrow-formal-parameters o d c) t g = subst (λ (n : ℕ). Tok s (n + 1) Arrow) (partner (balanced d) (g .inside) (side c) (g .closes)) t
+-- a head that is read leaves no other group there: its `(` has one partner, and the `=>` follows it
+head-closes : {s : Sheet} {i q a e : ℕ} → (h : Headed s i q) → h .starts ≡ a → Group s a e → Tok s (e + 1) Arrow
+head-closes {s} {e = e} h q g =
+    let p = partner (h .list .inner) (subst (λ (n : ℕ). Balanced s (n + 1) e) (sym q) (g .inside)) (h .list .closer) (g .closes) in
+    record { kind-is = subst (λ (n : ℕ). token s n ≡ Arrow) (omega (arith, h .list .past, p)) (h .arrow) }
 
-parameters-open : {w : Width} {s : Sheet} {i q : ℕ} {ts : Forest} → Derives w s ArrowFormalParameters i q ts → Tok s i LParen
-parameters-open (D.arrow-formal-parameters o d c) = o
-
-pub no-head : {w : Width} {s : Sheet} {i q : ℕ} {ts : Forest} → Opening s i → Head w s i q ts → ⊥
-no-head (other-opening n m) (plain-head o d t) = n o
-no-head (other-opening n m) (async-head o l d t) = m o
-no-head (group-opening e g n) (plain-head o d t) = n (parameters-close d t g)
-no-head (group-opening e g n) (async-head o l d t) = omega (arith, same-kind (g .opens) o)
-no-head (async-opening o n) (plain-head o′ d t) = omega (arith, same-kind o o′)
-no-head (async-opening o n) (async-head o′ l d t) = n (parameters-open d)
-no-head (async-group-opening e o g n) (plain-head o′ d t) = omega (arith, same-kind o o′)
-no-head (async-group-opening e o g n) (async-head o′ l d t) = n (parameters-close d t g)
+pub no-head : {s : Sheet} {i q : ℕ} → Opening s i → Headed s i q → ⊥
+no-head {s} {i} {q} o h = go o (h .opening)
+  where
+    go : Opening s i → Readings.Opening s i (h .starts) → ⊥
+    go (other-opening n m) (bare e) = n (record { kind-is = subst (λ (a : ℕ). token s a ≡ LParen) e (h .opens) })
+    go (other-opening n m) (after-async t e) = m (record { kind-is = t })
+    go (group-opening e g n) (bare x) = n (head-closes h x g)
+    go (group-opening e g n) (after-async t x) = omega (arith, g .opens .kind-is, t)
+    go (async-opening o n) (bare x) = omega (arith, o .kind-is, subst (λ (a : ℕ). token s a ≡ LParen) x (h .opens))
+    go (async-opening o n) (after-async t x) = n (record { kind-is = subst (λ (a : ℕ). token s a ≡ LParen) x (h .opens) })
+    go (async-group-opening e o g n) (bare x) = omega (arith, o .kind-is, subst (λ (a : ℕ). token s a ≡ LParen) x (h .opens))
+    go (async-group-opening e o g n) (after-async t x) = n (head-closes h x g)
 
 -- what an expression begins with, up to j: settled, or a group or Async or a call of Async that ends at j
 data Prefix (s : Sheet) (i j : ℕ) : Type 0 where
@@ -258,9 +247,8 @@ kind-ends k a b t = record { no-arrow = λ u. not-both (eq-eqb k Arrow (same-kin
 pub test-ends : {s : Sheet} {at : ℕ} (test : ℕ → Bool) → test Arrow ≡ false → test LParen ≡ false → test (token s at) ≡ true → Ends s at
 test-ends test a b t = record { no-arrow = of-kind test Arrow a t; no-paren = of-kind test LParen b t }
 
-update-ends : {s : Sheet} {at : ℕ} → Of is-update s at → Ends s at
-unfolding is-update
-update-ends t = test-ends is-update refl refl (t .holds)
+update-ends : {s : Sheet} {at : ℕ} → OneOf update-operators s at → Ends s at
+update-ends t = test-ends (one-of update-operators) refl refl (t .holds)
 
 operator-ends : {s : Sheet} {at tier : ℕ} → 2 ≤ tier → Operator s at tier → Ends s at
 unfolding expression-level level
@@ -278,13 +266,13 @@ other-test : {s : Sheet} {i : ℕ} (test : ℕ → Bool) → test LParen ≡ fal
 other-test test a b t = other-opening (of-kind test LParen a t) (of-kind test Async b t)
 
 -- a call
-pub arguments-group : {w : Width} {s : Sheet} {i j : ℕ} {ts : Forest} → Derives w s Arguments i j ts → (e : ℕ) × Group s i e × (j ≡ e + 1)
+pub arguments-group : {s : Sheet} {i j : ℕ} {ts : Forest} → Derives s Arguments i j ts → (e : ℕ) × Group s i e × (j ≡ e + 1)
 unfolding side-of
 arguments-group (D.no-arguments {i = i} o c) = (i + 1, record { opens = o; inside = none; closes = side c }, omega arith)
 arguments-group (D.arguments {p = p} o d c) = (p, record { opens = o; inside = balanced d; closes = side c }, refl)
 arguments-group (D.arguments-comma {p = p} o d t c) = (p + 1, record { opens = o; inside = joined (balanced d) (one-token (side t)); closes = side c }, omega arith)
 
-called : {w : Width} {s : Sheet} {i p j : ℕ} {ts : Forest} → Prefix s i p → Derives w s Arguments p j ts → Prefix s i j
+called : {s : Sheet} {i p j : ℕ} {ts : Forest} → Prefix s i p → Derives s Arguments p j ts → Prefix s i j
 called (settled o) d = settled o
 called {s = s} {i} {p} {j} (at-async o q) d = let r = arguments-group d in at-async-group (r .0) o (subst (λ (n : ℕ). Group s n (r .0)) q (r .1)) (r .2)
 called {s = s} (at-group e g q) d =
@@ -292,20 +280,20 @@ called {s = s} (at-group e g q) d =
 called {s = s} (at-async-group e o g q) d =
     let r = arguments-group d in settled (async-group-opening e o g (λ t. omega (arith, same-kind t (subst (λ (n : ℕ). Tok s n LParen) q (r .1 .opens)))))
 
-name-prefix : {s : Sheet} {i : ℕ} → Of is-name s i → Prefix s i (i + 1)
+name-prefix : {s : Sheet} {i : ℕ} → OneOf identifiers s i → Prefix s i (i + 1)
 unfolding is-name
 name-prefix {s} {i} n = by (ℕ-discrete (token s i) Async)
   where
     by : Dec (token s i ≡ Async) → Prefix s i (i + 1)
     by (yes e) = at-async (record { kind-is = e }) refl
-    by (no e) = settled (other-opening (of-kind is-name LParen refl (n .holds)) (λ t. e (t .kind-is)))
+    by (no e) = settled (other-opening (of-kind is-name LParen refl (name n .holds)) (λ t. e (t .kind-is)))
 
-module _ {w : Width} {s : Sheet} where
-  primary-prefix : {i j : ℕ} {ts : Forest} → Derives w s PrimaryExpression i j ts → Prefix s i j
-  unfolding is-literal side-of
+module _ {s : Sheet} where
+  primary-prefix : {i j : ℕ} {ts : Forest} → Derives s PrimaryExpression i j ts → Prefix s i j
+  unfolding side-of
   primary-prefix (D.this t) = settled (other-kind _ refl refl t)
   primary-prefix (D.identifier n) = name-prefix n
-  primary-prefix (D.literal t) = settled (other-test is-literal refl refl (t .holds))
+  primary-prefix (D.literal t) = settled (other-test (one-of literals) refl refl (t .holds))
   primary-prefix (D.array (D.array-empty o d c)) = settled (other-kind _ refl refl o)
   primary-prefix (D.array (D.array-list o d c)) = settled (other-kind _ refl refl o)
   primary-prefix (D.array (D.array-comma o d t e c)) = settled (other-kind _ refl refl o)
@@ -314,67 +302,58 @@ module _ {w : Width} {s : Sheet} where
   primary-prefix (D.object (D.object-comma o d t c)) = settled (other-kind _ refl refl o)
   primary-prefix (D.parenthesized {p = p} o d c) = at-group p (record { opens = o; inside = balanced d; closes = side c }) refl
 
-  chain-prefix : {c : Chain} {i j : ℕ} {ts : Forest} → Derives w s (ChainExpression c) i j ts → Prefix s i j
+  chain-prefix : {c : Links} {i j : ℕ} {ts : Forest} → Derives s (LinkedExpression c) i j ts → Prefix s i j
   chain-prefix (D.primary d) = primary-prefix d
   chain-prefix (D.index d o e c) = settled (settle (chain-prefix d) (kind-ends _ refl refl o))
   chain-prefix (D.member d o e) = settled (settle (chain-prefix d) (kind-ends _ refl refl o))
   chain-prefix (D.call d e) = called (chain-prefix d) e
 
-  target-prefix : {i j : ℕ} {ts : Forest} → Derives w s SimpleTarget i j ts → Prefix s i j
+  target-prefix : {i j : ℕ} {ts : Forest} → Derives s SimpleTarget i j ts → Prefix s i j
   unfolding side-of
   target-prefix (D.target-name n) = name-prefix n
   target-prefix (D.target-index d o e c) = settled (settle (chain-prefix d) (kind-ends _ refl refl o))
   target-prefix (D.target-member d o e) = settled (settle (chain-prefix d) (kind-ends _ refl refl o))
   target-prefix (D.target-parenthesized {p = p} o d c) = at-group p (record { opens = o; inside = balanced d; closes = side c }) refl
 
-  pattern-opening : {i j : ℕ} {ts : Forest} → Derives w s AssignmentPattern i j ts → Opening s i
+  pattern-opening : {i j : ℕ} {ts : Forest} → Derives s AssignmentPattern i j ts → Opening s i
   pattern-opening (D.target-array-empty o _ _) = other-kind _ refl refl o
   pattern-opening (D.target-array-rest o _ _) = other-kind _ refl refl o
   pattern-opening (D.target-array-list o _ _) = other-kind _ refl refl o
   pattern-opening (D.target-array-comma o _ _ _ _) = other-kind _ refl refl o
   pattern-opening (D.target-array-list-rest o _ _ _ _) = other-kind _ refl refl o
-  pattern-opening (D.target-array-rest-comma _ o _ _ _) = other-kind _ refl refl o
-  pattern-opening (D.target-array-list-rest-comma _ o _ _ _ _ _) = other-kind _ refl refl o
   pattern-opening (D.target-object-empty o _) = other-kind _ refl refl o
   pattern-opening (D.target-object-rest o _ _) = other-kind _ refl refl o
   pattern-opening (D.target-object-list o _ _) = other-kind _ refl refl o
   pattern-opening (D.target-object-comma o _ _ _) = other-kind _ refl refl o
   pattern-opening (D.target-object-list-rest o _ _ _ _) = other-kind _ refl refl o
-  pattern-opening (D.target-object-rest-comma _ o _ _ _) = other-kind _ refl refl o
-  pattern-opening (D.target-object-list-rest-comma _ o _ _ _ _ _) = other-kind _ refl refl o
 
   -- what is followed by neither `=>` nor `(` begins with no head
-  pub simple-opening : {i j : ℕ} {ts : Forest} → Derives w s SimpleTarget i j ts → Ends s j → Opening s i
+  pub simple-opening : {i j : ℕ} {ts : Forest} → Derives s SimpleTarget i j ts → Ends s j → Opening s i
   simple-opening d x = settle (target-prefix d) x
 
-  pub target-opening : {i j : ℕ} {ts : Forest} → Derives w s DestructuringAssignmentTarget i j ts → Ends s j → Opening s i
+  pub target-opening : {i j : ℕ} {ts : Forest} → Derives s DestructuringAssignmentTarget i j ts → Ends s j → Opening s i
   target-opening (D.target-simple d) x = simple-opening d x
   target-opening (D.target-pattern d) x = pattern-opening d
 
-  update-opening : {i j : ℕ} {ts : Forest} → Derives w s UpdateExpression i j ts → Ends s j → Opening s i
-  unfolding is-update
-  update-opening (D.left-hand-side (D.chain d)) x = settle (chain-prefix d) x
+  update-opening : {i j : ℕ} {ts : Forest} → Derives s UpdateExpression i j ts → Ends s j → Opening s i
+  update-opening (D.left-hand-side (D.linked d)) x = settle (chain-prefix d) x
   update-opening (D.postfix d t l) x = simple-opening d (update-ends t)
-  update-opening (D.prefix t d) x = other-test is-update refl refl (t .holds)
+  update-opening (D.prefix t d) x = other-test (one-of update-operators) refl refl (t .holds)
 
-  unary-opening : {i j : ℕ} {ts : Forest} → Derives w s UnaryExpression i j ts → Ends s j → Opening s i
-  unfolding is-prefix
+  unary-opening : {i j : ℕ} {ts : Forest} → Derives s UnaryExpression i j ts → Ends s j → Opening s i
   unary-opening (D.update d) x = update-opening d x
-  unary-opening (D.unary t d) x = other-test is-prefix refl refl (t .holds)
+  unary-opening (D.unary t d) x = other-test (one-of unary-operators) refl refl (t .holds)
 
-  tier-opening : {tier i j : ℕ} {ts : Forest} → Derives w s (TierExpression tier) i j ts → Ends s j → Opening s i
+  tier-opening : {tier i j : ℕ} {ts : Forest} → Derives s (TierExpression tier) i j ts → Ends s j → Opening s i
   tier-opening (D.no-power d) x = unary-opening d x
   tier-opening (D.power d t e) x = update-opening d (kind-ends _ refl refl t)
-  tier-opening (D.power-of-unary q d t e) x = unary-opening d (kind-ends _ refl refl t)
-  tier-opening (D.tier-up l d) x = tier-opening d x
-  tier-opening (D.operation l d t e) x = tier-opening d (operator-ends l t)
+  tier-opening (D.no-operation l d) x = tier-opening d x
+  tier-opening (D.operation l d t e) x = tier-opening d (operator-ends (line l .low) (operator l t))
 
-  coalesce-opening : {i j : ℕ} {ts : Forest} → Derives w s CoalesceExpression i j ts → Opening s i
+  coalesce-opening : {i j : ℕ} {ts : Forest} → Derives s CoalesceExpression i j ts → Opening s i
   coalesce-opening (D.coalesce (D.head-coalesce d) t e) = coalesce-opening d
   coalesce-opening (D.coalesce (D.head-or d) t e) = tier-opening d (kind-ends _ refl refl t)
-  coalesce-opening (D.coalesce-mixed q (D.short-circuit-or d) t e) = tier-opening d (kind-ends _ refl refl t)
-  coalesce-opening (D.coalesce-mixed q (D.short-circuit-coalesce d) t e) = coalesce-opening d
 
-  pub short-circuit-opening : {i j : ℕ} {ts : Forest} → Derives w s ShortCircuitExpression i j ts → Ends s j → Opening s i
+  pub short-circuit-opening : {i j : ℕ} {ts : Forest} → Derives s ShortCircuitExpression i j ts → Ends s j → Opening s i
   short-circuit-opening (D.short-circuit-or d) x = tier-opening d x
   short-circuit-opening (D.short-circuit-coalesce d) x = coalesce-opening d

@@ -17,7 +17,7 @@ use Rattle.grammar.specs.Step.{plenty}
 use Rattle.grammar.specs.Reading.{unconverted, unconverteds, whole, reading}
 use Rattle.laws.specs.Good.{came}
 use Rattle.standard.specs.Derives as D
-use Rattle.standard.specs.Derives.{Nonterminal, Expression, BindingPattern, BindingElement, Width, standard, Derives, covers-nothing, cover-nothing, Derived}
+use Rattle.standard.specs.Derives.{Nonterminal, Expression, BindingPattern, BindingElement, Derives, covers-nothing, cover-nothing, Derived}
 use Rattle.standard.specs.Roots.{root-expression}
 use Rattle.standard.specs.Sound.{sound}
 
@@ -74,7 +74,7 @@ mutual
   say-nothing (cons t ts) e = rw (says-nothing t (if-first (covers-nothing t) (cover-nothing ts) e), say-nothing ts (if-second (covers-nothing t) (cover-nothing ts) e))
 
 -- a binding is one tree
-lone-pattern : {w : Width} {s : Sheet} {i j : ℕ} {ts : Forest} → Derives w s BindingPattern i j ts → ts ≡ one (first-tree ts)
+lone-pattern : {s : Sheet} {i j : ℕ} {ts : Forest} → Derives s BindingPattern i j ts → ts ≡ one (first-tree ts)
 unfolding first-tree
 lone-pattern (D.binding-object-empty o c) = refl
 lone-pattern (D.binding-object-rest o d c) = refl
@@ -87,7 +87,7 @@ lone-pattern (D.binding-array-list o d c) = refl
 lone-pattern (D.binding-array-comma o d t e c) = refl
 lone-pattern (D.binding-array-list-rest o d t e c) = refl
 
-pub lone-binding : {w : Width} {s : Sheet} {i j : ℕ} {ts : Forest} → Derives w s BindingElement i j ts → ts ≡ one (first-tree ts)
+pub lone-binding : {s : Sheet} {i j : ℕ} {ts : Forest} → Derives s BindingElement i j ts → ts ≡ one (first-tree ts)
 unfolding first-tree
 lone-binding (D.no-default (D.binding-name n)) = refl
 lone-binding (D.no-default (D.binding-pattern d)) = lone-pattern d
@@ -99,7 +99,7 @@ pub record Standard (s : Sheet) (x : Nonterminal) (trees : Forest) : Type 0 wher
   pub is-tree : trees ≡ one tree
   pub derived : Derived s x 0 (length (s .kinds)) tree
 
-standard-from : {s : Sheet} {trees : Forest} (x : Nonterminal) → trees ≡ one (first-tree trees) → Derives standard s x 0 (length (s .kinds)) trees → unconverteds trees ≡ [] → Standard s x trees
+standard-from : {s : Sheet} {trees : Forest} (x : Nonterminal) → trees ≡ one (first-tree trees) → Derives s x 0 (length (s .kinds)) trees → unconverteds trees ≡ [] → Standard s x trees
 unfolding cover-nothing
 standard-from {trees = trees} x q d e =
     record {
@@ -114,7 +114,7 @@ module _ {N : Type 0} (policy : Policy N) (s : Sheet) (notes : N) {trees : Fores
   clean-expression e =
       let c = came policy s (expression 0) notes e in
       let q = nothing-left (c .said) (unconverteds trees) (sym (c .then-unconverted)) in
-      let d = sound policy s standard (plenty s) (expression 0) notes (c .done-at-end) (record { clean = λ _. q }) in
+      let d = sound policy s (plenty s) (expression 0) notes (rw q at (c .done-at-end)) in
       standard-from Expression (root-expression d .lone) d (nothing-right (c .said) (unconverteds trees) (sym (c .then-unconverted)))
 
   -- 14.3.3: a clean reading of the pattern entry is a BindingElement of the standard's
@@ -122,5 +122,5 @@ module _ {N : Type 0} (policy : Policy N) (s : Sheet) (notes : N) {trees : Fores
   clean-binding e =
       let c = came policy s (binding-element 0) notes e in
       let q = nothing-left (c .said) (unconverteds trees) (sym (c .then-unconverted)) in
-      let d = sound policy s standard (plenty s) (binding-element 0) notes (c .done-at-end) (record { clean = λ _. q }) in
+      let d = sound policy s (plenty s) (binding-element 0) notes (rw q at (c .done-at-end)) in
       standard-from BindingElement (lone-binding d) d (nothing-right (c .said) (unconverteds trees) (sym (c .then-unconverted)))

@@ -25,7 +25,9 @@ use Rattle.grammar.specs.Reading.{plain, unconverteds, whole, reading}
 use Rattle.laws.specs.Bounds.{bounded}
 use Rattle.laws.specs.Good.{inside, whole-from, and-left, and-right}
 use Rattle.standard.specs.Derives as D
-use Rattle.standard.specs.Derives.{Tok, Of, SameLine, is-update, is-compound, Chain, Nonterminal, ListOf, Elided, Elision, PrimaryExpression, ChainExpression, LeftHandSideExpression, UpdateExpression, UnaryExpression, TierExpression, ConditionalExpression, SimpleTarget, Expression, Binding, BindingPattern, BindingElement, array-row, object-row, tier-row, Width, standard, wider, Derives, Derived}
+use Rattle.standard.specs.Levels.{tier-row}
+use Rattle.standard.specs.Terminals.{Of, Operator, is-update, name, word, literal, key, prefix, update, compound, Line, line, operator}
+use Rattle.standard.specs.Derives.{Tok, one-of, OneOf, SameLine, assignment-operators, Links, Nonterminal, ListOf, Elided, Elision, PrimaryExpression, LinkedExpression, LeftHandSideExpression, UpdateExpression, UnaryExpression, TierExpression, ConditionalExpression, SimpleTarget, Expression, Binding, BindingPattern, BindingElement, array-row, object-row, Derives, Derived}
 use Rattle.standard.specs.Roots.{not-both, root-primary, root-update, root-unary, root-short-circuit, root-assignment, Each, each-one, each-more, Past, past}
 use Rattle.standard.specs.Convert.{as-simple-target}
 use Rattle.standard.specs.Clean.{says-nothing}
@@ -35,10 +37,6 @@ use Rattle.standard.specs.Rules as R
 use Rattle.standard.specs.Rules.{Reads}
 use Rattle.standard.specs.Parts.{ItemDone, PartDone, closed-paren, closed-bracket, array-empty-reads, array-list-reads, array-comma-reads, object-empty-reads, object-list-reads, object-comma-reads, ArgumentsDone, no-arguments-done, arguments-done, arguments-comma-done, ElementBound, RestBound, PropertyBound, RestPropertyBound, bound-array-empty, bound-array-rest, bound-array-list, bound-array-comma, bound-array-list-rest, bound-object-empty, bound-object-rest, bound-object-list, bound-object-comma, bound-object-list-rest, ParametersDone, no-parameters-done, rest-parameter-done, parameters-done, parameters-comma-done, parameters-rest-done, operand-small, not-prefix, not-update, update-unlinked, ChainDone, LeftDone, UnaryDone, primary-chain, member-chain, index-chain, call-chain, chain-left, left-unary, prefix-unary, TierDone, CoalesceDone, ShortDone, unary-tier, tier-down, operation-tier, power-tier, tier-head, coalesce-done, tier-short, coalesce-short, ValueDone, AssignmentDone, BodyDone, ExpressionDone, CommasDone, ParametersRead, FormalDone, closed-eq, short-value, conditional-value, past-value, arrow-done, name-read, parameters-read, async-parameters-read, async-name-read, first-commas, next-commas, sequence-done, no-comma-done, KeyDone, literal-key, computed-key, shorthand-part, cover-part, pair-part, spread-part, bound-shorthand, bound-shorthand-default, bound-pair}
 use Rattle.standard.specs.Sources.{holes-array, SimpleDone, name-source, index-source, member-source, paren-source, TargetDone, PatternDone, simple-target, pattern-target, assign-source, compound-source, ElementDone, RestDone, assignment-item, spread-item, target-element-done, default-element-done, rest-done, array-empty-source, array-rest-source, array-list-source, array-comma-source, array-list-rest-source, PropertyDone, RestPropertyDone, shorthand-source, shorthand-default-source, pair-source, rest-property-source, object-empty-source, object-rest-source, object-list-source, object-comma-source, object-list-rest-source}
-
--- the standard's grammar is not the wider one
-not-wider : standard ≡ wider → ⊥
-not-wider e = let z : _≡_ {A = ℕ} 0 1 = cc in omega arith
 
 -- KINDS OF ROWS
 array-low : (ts : Forest) → array-row ts ≤ 8
@@ -66,8 +64,8 @@ low : (kind mark first end : ℕ) (kids : Forest) → kind ≤ 18 → Low (one (
 unfolding kind-of first-tree
 low kind mark first end kids h = record { no-unary = ne-eqb kind Row.Unary (λ e. omega arith); no-logical = ne-eqb kind Row.Logical (λ e. omega arith) }
 
-module _ {w : Width} {s : Sheet} where
-  primary-low : {i j : ℕ} {ts : Forest} → Derives w s PrimaryExpression i j ts → Low ts
+module _ {s : Sheet} where
+  primary-low : {i j : ℕ} {ts : Forest} → Derives s PrimaryExpression i j ts → Low ts
   primary-low (D.this t) = low _ _ _ _ _ (omega arith)
   primary-low (D.identifier t) = low _ _ _ _ _ (omega arith)
   primary-low (D.literal t) = low _ _ _ _ _ (omega arith)
@@ -79,47 +77,45 @@ module _ {w : Width} {s : Sheet} where
   primary-low (D.object (D.object-comma {ts = ts} o d t c)) = let l = object-low ts in low _ _ _ _ _ (omega arith)
   primary-low (D.parenthesized o d c) = low _ _ _ _ _ (omega arith)
 
-  chain-low : {c : Chain} {i j : ℕ} {ts : Forest} → Derives w s (ChainExpression c) i j ts → Low ts
+  chain-low : {c : Links} {i j : ℕ} {ts : Forest} → Derives s (LinkedExpression c) i j ts → Low ts
   chain-low (D.primary d) = primary-low d
   chain-low (D.index d o e c) = low _ _ _ _ _ (omega arith)
   chain-low (D.member d o e) = low _ _ _ _ _ (omega arith)
   chain-low (D.call d e) = low _ _ _ _ _ (omega arith)
 
-  update-low : {i j : ℕ} {ts : Forest} → Derives w s UpdateExpression i j ts → Low ts
+  update-low : {i j : ℕ} {ts : Forest} → Derives s UpdateExpression i j ts → Low ts
   unfolding kind-of first-tree
-  update-low (D.left-hand-side (D.chain d)) = chain-low d
+  update-low (D.left-hand-side (D.linked d)) = chain-low d
   update-low (D.postfix d t l) = record { no-unary = refl; no-logical = refl }
   update-low (D.prefix t d) = record { no-unary = refl; no-logical = refl }
 
-  update-kind : {i j : ℕ} {ts : Forest} → Derives w s UpdateExpression i j ts → kind-of (first-tree ts) is Row.Unary ≡ false
+  update-kind : {i j : ℕ} {ts : Forest} → Derives s UpdateExpression i j ts → kind-of (first-tree ts) is Row.Unary ≡ false
   update-kind d = update-low d .no-unary
 
-  unary-logical : {i j : ℕ} {ts : Forest} → Derives w s UnaryExpression i j ts → kind-of (first-tree ts) is Row.Logical ≡ false
+  unary-logical : {i j : ℕ} {ts : Forest} → Derives s UnaryExpression i j ts → kind-of (first-tree ts) is Row.Logical ≡ false
   unfolding kind-of first-tree
   unary-logical (D.update d) = update-low d .no-logical
   unary-logical (D.unary t d) = refl
 
   -- from BitwiseORExpression on no row is Logical
-  tier-logical : {tier i j : ℕ} {ts : Forest} → Derives w s (TierExpression tier) i j ts → 4 ≤ tier → kind-of (first-tree ts) is Row.Logical ≡ false
+  tier-logical : {tier i j : ℕ} {ts : Forest} → Derives s (TierExpression tier) i j ts → 4 ≤ tier → kind-of (first-tree ts) is Row.Logical ≡ false
   unfolding kind-of first-tree tier-row
   tier-logical (D.no-power d) h = unary-logical d
   tier-logical (D.power d t e) h = refl
-  tier-logical (D.power-of-unary q d t e) h = refl
-  tier-logical (D.tier-up l d) h = tier-logical d (omega arith)
-  tier-logical (D.operation {tier = tier} l d t e) h = rw (lt-leb tier 3 (omega arith))
+  tier-logical (D.no-operation l d) h = tier-logical d (omega (arith, line l .next))
+  tier-logical (D.operation {x = x} l d t e) h = rw (line l .row-is, lt-leb x 3 (omega arith))
 
-  tier-bare : {tier i j : ℕ} {ts : Forest} → Derives w s (TierExpression tier) i j ts → 4 ≤ tier → is-or-and s (first-tree ts) ≡ false
+  tier-bare : {tier i j : ℕ} {ts : Forest} → Derives s (TierExpression tier) i j ts → 4 ≤ tier → is-or-and s (first-tree ts) ≡ false
   unfolding is-or-and
   tier-bare d h = rw (tier-logical d h)
 
   -- what is no arrow function begins with no head
-  conditional-opening : {i j : ℕ} {ts : Forest} → Derives w s ConditionalExpression i j ts → Closed s j → Opening s i
+  conditional-opening : {i j : ℕ} {ts : Forest} → Derives s ConditionalExpression i j ts → Closed s j → Opening s i
   conditional-opening (D.short-circuit d) c = short-circuit-opening d (closed-ends c)
   conditional-opening (D.conditional d t e u f) c = short-circuit-opening d (kind-ends _ refl refl t)
 
-compound-ends : {s : Sheet} {at : ℕ} → Of is-compound s at → Ends s at
-unfolding is-compound
-compound-ends t = test-ends is-compound refl refl (t .holds)
+compound-ends : {s : Sheet} {at : ℕ} → OneOf assignment-operators s at → Ends s at
+compound-ends t = test-ends (one-of assignment-operators) refl refl (t .holds)
 
 -- ++ and -- are no prefix operators of 13.5
 update-no-prefix : (k : ℕ) → is-update k ≡ true → is-unary-operator k ≡ false
@@ -132,6 +128,14 @@ update-no-prefix k e = go (k is 36) refl e
 
 -- THE OTHER PRODUCTIONS
 module _ {s : Sheet} where
+  -- 13.7 to 13.13, by the line of the operators
+  looser-tier : {x y row i j : ℕ} {operators : List ℕ} {ts : Forest} → Line x operators y row → TierDone s y i j ts → TierDone s x i j ts
+  looser-tier {i = i} {j} {ts = ts} l d = tier-down (subst (λ (n : ℕ). TierDone s n i j ts) (l .next) d)
+
+  line-tier : {x y row i p j : ℕ} {operators : List ℕ} {ts us : Forest} → Line x operators y row → TierDone s x i p ts → Operator s p x → TierDone s y (p + 1) j us
+      → TierDone s x i j (one (node row p i j (join ts us)))
+  line-tier {p = p} {j} {us = us} l d t e = rw (l .row-is) (operation-tier (l .low) d t (subst (λ (n : ℕ). TierDone s n (p + 1) j us) (l .next) e))
+
   literal-reads : {i : ℕ} → Of is-literal s i → Reads s (J.primary i) (i + 1) (one (leaf Row.Literal i))
   unfolding is-literal is-name
   literal-reads {i} n = R.primary-literal (nameless (is-name (token s i)) refl) (test-not (token s i) is-literal This refl (n .holds)) n
@@ -143,7 +147,7 @@ module _ {s : Sheet} where
           let b : 8 ≤ token s i = leb-true 8 (token s i) (and-left (leb 8 (token s i)) (leb (token s i) 13) (n .holds)) in
           absurd (omega arith)
 
-  empty-array-reads : {i p : ℕ} {ts : Forest} → Tok s i LBrack → Derives standard s Elision (i + 1) p ts → Tok s p RBrack → Reads s (J.primary i) (p + 1) (one (node Row.Array i i (p + 1) ts))
+  empty-array-reads : {i p : ℕ} {ts : Forest} → Tok s i LBrack → Derives s Elision (i + 1) p ts → Tok s p RBrack → Reads s (J.primary i) (p + 1) (one (node Row.Array i i (p + 1) ts))
   empty-array-reads {i} {p} {ts} o d c = subst (λ (k : ℕ). Reads s (J.primary i) (p + 1) (one (node k i i (p + 1) ts))) (holes-array d) (array-empty-reads o d c)
 
   call-done : {i p j : ℕ} {ts us : Forest} → ChainDone s i p ts → ArgumentsDone s p j us → ChainDone s i j (one (node Row.Call i i j (join ts us)))
@@ -171,8 +175,8 @@ module _ {s : Sheet} where
   kind-not {i} k l f t = ne-eqb (token s i) k (λ e. not-both (eq-eqb k l (sym e ∙ t .kind-is)) f)
 
   -- bindings
-  binding-start : {i j : ℕ} {ts : Forest} → Derives standard s Binding i j ts → (k : ℕ) → is-name k ≡ false → k is LBrack ≡ false → k is LCurly ≡ false → token s i is k ≡ false
-  binding-start {i} (D.binding-name n) k a b c = test-not (token s i) is-name k a (n .holds)
+  binding-start : {i j : ℕ} {ts : Forest} → Derives s Binding i j ts → (k : ℕ) → is-name k ≡ false → k is LBrack ≡ false → k is LCurly ≡ false → token s i is k ≡ false
+  binding-start {i} (D.binding-name n) k a b c = test-not (token s i) is-name k a (name n .holds)
   binding-start (D.binding-pattern (D.binding-object-empty o _)) k a b c = kind-not k LCurly c o
   binding-start (D.binding-pattern (D.binding-object-rest o _ _)) k a b c = kind-not k LCurly c o
   binding-start (D.binding-pattern (D.binding-object-list o _ _)) k a b c = kind-not k LCurly c o
@@ -184,7 +188,7 @@ module _ {s : Sheet} where
   binding-start (D.binding-pattern (D.binding-array-comma o _ _ _ _)) k a b c = kind-not k LBrack b o
   binding-start (D.binding-pattern (D.binding-array-list-rest o _ _ _ _)) k a b c = kind-not k LBrack b o
 
-  binding-plain : {i j : ℕ} {ts : Forest} → Derives standard s Binding i j ts → kind-of (first-tree ts) is Row.BindingDefault ≡ false
+  binding-plain : {i j : ℕ} {ts : Forest} → Derives s Binding i j ts → kind-of (first-tree ts) is Row.BindingDefault ≡ false
   unfolding kind-of first-tree
   binding-plain (D.binding-name n) = refl
   binding-plain (D.binding-pattern (D.binding-object-empty o c)) = refl
@@ -198,19 +202,19 @@ module _ {s : Sheet} where
   binding-plain (D.binding-pattern (D.binding-array-comma o d t e c)) = refl
   binding-plain (D.binding-pattern (D.binding-array-list-rest o d t e c)) = refl
 
-  bound-start : {i j k : ℕ} {ts us : Forest} → Derives standard s Binding i j ts → (Closed s k → Reads s (J.binding-element i) k us) → ElementBound s i k us
+  bound-start : {i j k : ℕ} {ts us : Forest} → Derives s Binding i j ts → (Closed s k → Reads s (J.binding-element i) k us) → ElementBound s i k us
   unfolding is-name
   bound-start d r =
       record { reads = r; no-bracket = binding-start d RBrack refl refl refl; no-paren = binding-start d RParen refl refl refl; no-comma = binding-start d Comma refl refl refl; no-dots = binding-start d Dot3 refl refl refl }
 
-  plain-bound : {i j : ℕ} {ts : Forest} → Derives standard s Binding i j ts → Reads s (J.binding i) j ts → ElementBound s i j ts
+  plain-bound : {i j : ℕ} {ts : Forest} → Derives s Binding i j ts → Reads s (J.binding i) j ts → ElementBound s i j ts
   plain-bound d x = bound-start d (λ c. R.element-plain x (closed-eq c))
 
-  default-bound : {i p j : ℕ} {ts us : Forest} → Derives standard s Binding i p ts → Reads s (J.binding i) p ts → Tok s p Eq → AssignmentDone s (p + 1) j us
+  default-bound : {i p j : ℕ} {ts us : Forest} → Derives s Binding i p ts → Reads s (J.binding i) p ts → Tok s p Eq → AssignmentDone s (p + 1) j us
       → ElementBound s i j (one (node Row.BindingDefault p i j (join ts us)))
   default-bound d x t y = bound-start d (λ c. R.element-default x t (y .reads c))
 
-  rest-bound : {i j : ℕ} {ts : Forest} → Tok s i Dot3 → Derives standard s Binding (i + 1) j ts → Reads s (J.binding (i + 1)) j ts → RestBound s i j (one (node Row.BindingRest i i j ts))
+  rest-bound : {i j : ℕ} {ts : Forest} → Tok s i Dot3 → Derives s Binding (i + 1) j ts → Reads s (J.binding (i + 1)) j ts → RestBound s i j (one (node Row.BindingRest i i j ts))
   rest-bound t d x = record { dots = t; reads = λ c. R.rest-done t (R.element-plain x (closed-eq c)) (binding-plain d) }
 
   rest-name-bound : {i : ℕ} → Tok s i Dot3 → Of is-name s (i + 1) → RestPropertyBound s i (i + 2) (one (node Row.BindingRest i i (i + 2) (one (leaf Row.BindingName (i + 1)))))
@@ -226,7 +230,7 @@ module _ {s : Sheet} where
 -- WHAT IS SHOWN
 abbrev pub Done : Sheet → Nonterminal → ℕ → ℕ → Forest → Type 0
 Done s (ListOf x) i j ts = Each s (Done s x) i j ts
-Done s (Elided x) i j ts = Past standard s (Done s x) i j ts
+Done s (Elided x) i j ts = Past s (Done s x) i j ts
 Done s D.PrimaryExpression i j ts = Reads s (J.primary i) j ts
 Done s D.ArrayLiteral i j ts = Reads s (J.primary i) j ts
 Done s D.Elision i j ts = Unit {0}
@@ -235,7 +239,7 @@ Done s D.Element i j ts = ItemDone s i j ts
 Done s D.ObjectLiteral i j ts = Reads s (J.primary i) j ts
 Done s D.PropertyDefinition i j ts = PartDone s i j ts
 Done s D.PropertyName i j ts = KeyDone s i j ts
-Done s (D.ChainExpression c) i j ts = ChainDone s i j ts
+Done s (D.LinkedExpression c) i j ts = ChainDone s i j ts
 Done s D.Arguments i j ts = ArgumentsDone s i j ts
 Done s D.LeftHandSideExpression i j ts = LeftDone s i j ts
 Done s D.UpdateExpression i j ts = UnaryDone s i j ts
@@ -267,13 +271,13 @@ Done s D.ArrowParameters i j ts = ParametersRead s Row.Arrow i j ts
 Done s D.AsyncArrowHead i j ts = ParametersRead s Row.AsyncArrow i j ts
 Done s D.ConciseBody i j ts = BodyDone s i j ts
 
-pub complete : {s : Sheet} {x : Nonterminal} {i j : ℕ} {ts : Forest} → Derives standard s x i j ts → Done s x i j ts
+pub complete : {s : Sheet} {x : Nonterminal} {i j : ℕ} {ts : Forest} → Derives s x i j ts → Done s x i j ts
 complete (D.first-of-list d) = each-one (complete d)
 complete (D.next-of-list l t d) = each-more (complete l) t (complete d)
 complete (D.elided h d) = past h (complete d)
 complete (D.this t) = R.primary-this t
-complete (D.identifier n) = R.primary-name n
-complete (D.literal n) = literal-reads n
+complete (D.identifier n) = R.primary-name (name n)
+complete (D.literal n) = literal-reads (literal n)
 complete (D.array d) = complete d
 complete (D.object d) = complete d
 complete (D.parenthesized o d c) = R.primary-paren o (complete d .reads (closed-paren c) (ap (λ (k : ℕ). k is Comma) (c .kind-is))) c
@@ -288,34 +292,32 @@ complete (D.spread-element d) = complete d .0
 complete (D.object-empty o c) = object-empty-reads o c
 complete (D.object-list o d c) = object-list-reads o (complete d) c
 complete (D.object-comma o d t c) = object-comma-reads o (complete d) t c
-complete (D.shorthand n) = shorthand-part n
-complete (D.cover-initialized n t d) = cover-part n t (complete d)
+complete (D.shorthand n) = shorthand-part (name n)
+complete (D.cover-initialized n t d) = cover-part (name n) t (complete d)
 complete (D.property k t d) = pair-part (complete k) t (complete d)
 complete (D.spread-property d) = complete d .1
-complete (D.literal-name n) = literal-key n
+complete (D.literal-name n) = literal-key (key n)
 complete (D.computed-name o d c) = computed-key o (complete d) c
 complete (D.primary d) = primary-chain (root-primary d .lone) (operand-chain (D.primary d)) (complete d)
 complete (D.index d o e c) = index-chain (complete d) o (complete e .reads (closed-bracket c) (ap (λ (k : ℕ). k is Comma) (c .kind-is))) c
-complete (D.member d o e) = member-chain (complete d) o e
+complete (D.member d o e) = member-chain (complete d) o (word e)
 complete (D.call d e) = call-done (complete d) (complete e)
-complete (D.chain d) = chain-left (complete d)
+complete (D.linked d) = chain-left (complete d)
 complete (D.no-arguments o c) = no-arguments-done o c
 complete (D.arguments o d c) = arguments-done o (complete d) c
 complete (D.arguments-comma o d t c) = arguments-comma-done o (complete d) t c
 complete (D.left-hand-side d) = left-unary (complete d)
-complete (D.postfix d t l) = postfix-done (operand-simple d) (complete d) t l
-complete (D.prefix t d) = prefix-done t (complete d)
+complete (D.postfix d t l) = postfix-done (operand-simple d) (complete d) (update t) l
+complete (D.prefix t d) = prefix-done (update t) (complete d)
 complete (D.update d) = complete d
-complete (D.unary t d) = prefix-unary t (complete d)
+complete (D.unary t d) = prefix-unary (prefix t) (complete d)
 complete (D.no-power d) = unary-tier (root-unary d .lone) (complete d)
 complete (D.power d t e) = power-tier (root-update d .lone) (complete d) (update-kind d) t (complete e)
-complete (D.power-of-unary q _ _ _) = absurd (not-wider q)
-complete (D.tier-up l d) = tier-down (complete d)
-complete (D.operation l d t e) = operation-tier l (complete d) t (complete e)
+complete (D.no-operation l d) = looser-tier (line l) (complete d)
+complete (D.operation l d t e) = line-tier (line l) (complete d) (operator l t) (complete e)
 complete (D.head-coalesce d) = complete d
 complete (D.head-or d) = tier-head (complete d) (tier-bare d (omega arith))
 complete (D.coalesce d t e) = coalesce-done (complete d) t (complete e) (tier-bare e (omega arith))
-complete (D.coalesce-mixed q _ _ _) = absurd (not-wider q)
 complete (D.short-circuit-or d) = tier-short (complete d)
 complete (D.short-circuit-coalesce d) = coalesce-short (complete d)
 complete (D.short-circuit d) = short-value (root-short-circuit d .lone) (second-short-circuit d) (complete d)
@@ -323,13 +325,11 @@ complete (D.conditional d t e u f) = conditional-value (root-short-circuit d .lo
 complete (D.no-assignment d) = past-value (conditional-opening d) (complete d)
 complete (D.arrow d t l e) = arrow-done (complete d) t l (complete e)
 complete (D.async-arrow d t l e) = arrow-done (complete d) t l (complete e)
-complete (D.arrow-broken q _ _ _) = absurd (not-wider q)
-complete (D.async-arrow-broken q _ _ _) = absurd (not-wider q)
 complete (D.assign d t e) = assign-source (second-target d) (target-opening d (kind-ends _ refl refl t)) (complete d) t (complete e)
-complete (D.compound-assign d t e) = compound-source (second-simple d) (simple-opening d (compound-ends t)) (complete d) t (complete e)
-complete (D.target-name n) = name-source n
+complete (D.compound-assign d t e) = compound-source (second-simple d) (simple-opening d (compound-ends t)) (complete d) (compound t) (complete e)
+complete (D.target-name n) = name-source (name n)
 complete (D.target-index d o e c) = index-source (complete d) o (complete e .reads (closed-bracket c) (ap (λ (k : ℕ). k is Comma) (c .kind-is))) c
-complete (D.target-member d o e) = member-source (complete d) o e
+complete (D.target-member d o e) = member-source (complete d) o (word e)
 complete (D.target-parenthesized o d c) = paren-source o (second-simple d) (λ e. simple-opening d (closed-ends e)) (complete d) c
 complete (D.target-simple d) = simple-target (complete d)
 complete (D.target-pattern d) = pattern-target (complete d)
@@ -338,29 +338,23 @@ complete (D.target-array-rest o d c) = array-rest-source o (complete d) c
 complete (D.target-array-list o d c) = array-list-source o (complete d) c
 complete (D.target-array-comma o d t e c) = array-comma-source o (complete d) t e c
 complete (D.target-array-list-rest o d t e c) = array-list-rest-source o (complete d) t (complete e) c
-complete (D.target-array-rest-comma q _ _ _ _) = absurd (not-wider q)
-complete (D.target-array-list-rest-comma q _ _ _ _ _ _) = absurd (not-wider q)
 complete (D.target-object-empty o c) = object-empty-source o c
 complete (D.target-object-rest o d c) = object-rest-source o (complete d) c
 complete (D.target-object-list o d c) = object-list-source o (complete d) c
 complete (D.target-object-comma o d t c) = object-comma-source o (complete d) t c
 complete (D.target-object-list-rest o d t e c) = object-list-rest-source o (complete d) t (complete e) c
-complete (D.target-object-rest-comma q _ _ _ _) = absurd (not-wider q)
-complete (D.target-object-list-rest-comma q _ _ _ _ _ _) = absurd (not-wider q)
 complete (D.target-element d) = target-element-done (as-start (operand-target d)) (second-target d) (λ e. target-opening d (closed-ends e)) (complete d)
 complete (D.target-default d t e) = default-element-done (as-start (operand-target d)) (assign-source (second-target d) (target-opening d (kind-ends _ refl refl t)) (complete d) t (complete e))
-complete (D.target-compound q _ _ _) = absurd (not-wider q)
 complete (D.target-rest t d) = rest-done t (second-target d) (λ e. target-opening d (closed-ends e)) (complete d)
-complete (D.target-shorthand n) = shorthand-source n
-complete (D.target-shorthand-default n t d) = shorthand-default-source n t (root-assignment d .lone) (complete d)
+complete (D.target-shorthand n) = shorthand-source (name n)
+complete (D.target-shorthand-default n t d) = shorthand-default-source (name n) t (root-assignment d .lone) (complete d)
 complete (D.target-property k t d) = pair-source (complete k) t (complete d)
 complete (D.target-rest-property t d) = rest-property-source t (second-simple d) (λ e. simple-opening d (closed-ends e)) (complete d)
-complete (D.target-rest-pattern q _ _) = absurd (not-wider q)
 complete (D.no-comma d) = no-comma-done (complete d)
 complete (D.sequence d) = sequence-done (complete d)
 complete (D.first-comma d t e) = first-commas (complete d) t (complete e)
 complete (D.next-comma d t e) = next-commas (complete d) t (complete e)
-complete (D.binding-name n) = R.binding-name n
+complete (D.binding-name n) = R.binding-name (name n)
 complete (D.binding-pattern d) = complete d
 complete (D.binding-object-empty o c) = bound-object-empty o c
 complete (D.binding-object-rest o d c) = bound-object-rest o (complete d) c
@@ -375,21 +369,20 @@ complete (D.binding-array-list-rest o d t e c) = bound-array-list-rest o (comple
 complete (D.no-default d) = plain-bound d (complete d)
 complete (D.binding-default d t e) = default-bound d (complete d) t (complete e)
 complete (D.binding-rest t d) = rest-bound t d (complete d)
-complete (D.binding-rest-default q _ _) = absurd (not-wider q)
-complete (D.binding-shorthand n) = bound-shorthand n
-complete (D.binding-shorthand-default n t d) = bound-shorthand-default n t (complete d)
+complete (D.binding-shorthand n) = bound-shorthand (name n)
+complete (D.binding-shorthand-default n t d) = bound-shorthand-default (name n) t (complete d)
 complete (D.binding-property k t d) = bound-pair (complete k) t (complete d)
-complete (D.binding-rest-property t n) = rest-name-bound t n
+complete (D.binding-rest-property t n) = rest-name-bound t (name n)
 complete D.no-parameters = no-parameters-done
 complete (D.rest-parameter d) = rest-parameter-done (complete d)
 complete (D.parameters d) = parameters-done (complete d)
 complete (D.parameters-comma d t) = parameters-comma-done (complete d) t
 complete (D.parameters-rest d t e) = parameters-rest-done (complete d) t (complete e)
 complete (D.arrow-formal-parameters o d c) = record { opens = o; reads = complete d .reads c }
-complete (D.arrow-name n) = name-read n
+complete (D.arrow-name n) = name-read (name n)
 complete (D.arrow-parameters d) = parameters-read (complete d)
 complete (D.concise-body n d) = record { no-curly = n .other; reads = complete d .reads }
-complete (D.async-name t n l) = async-name-read t n l
+complete (D.async-name t n l) = async-name-read t (name n) l
 complete (D.async-parameters t l d) = async-parameters-read t l (complete d)
 
 -- THE STATEMENTS

@@ -1,5 +1,4 @@
--- What conversion makes of a derived expression is derived as a target: the refined grammar of 13.15.5 and 8.6.4 holds of all that converts. In the standard's
--- grammar where conversion gives no record, in the wider one with any.
+-- What conversion makes of a derived expression, with no record, is derived as a target: the refined grammar of 13.15.5 and 8.6.4 holds of all that converts so.
 -- Assumes nothing.
 use Prim.Native.Nat.{ℕ, zero, suc, _+_}
 use mathlib.Core.Path.{_≡_, refl, sym, ap, _∙_, subst}
@@ -21,9 +20,11 @@ use Rattle.conversion.specs.Conversion.{Role, any, simple, element, last-elemen
 use Rattle.conversion.specs.KidRoles.{elements, properties, key-and-value}
 use Rattle.grammar.specs.Sheet.{Sheet, leaf, first-tree}
 use Rattle.standard.specs.Derives as D
-use Rattle.standard.specs.Derives.{Tok, Of, Chain, Nonterminal, ListOf, Elided, Elision, PrimaryExpression, ArrayLiteral, SpreadElement, Element, ObjectLiteral, PropertyDefinition, PropertyName, ChainExpression, LeftHandSideExpression, UpdateExpression, UnaryExpression, TierExpression, CoalesceExpression, ShortCircuitExpression, ConditionalExpression, AssignmentExpression, SimpleTarget, AssignmentPattern, DestructuringAssignmentTarget, AssignmentElement, AssignmentRestElement, AssignmentProperty, AssignmentRestProperty, AssignmentElementList, AssignmentPropertyList, Expression, ends-in-spread, array-row, object-row, tier-row, Width, Derives}
+use Rattle.standard.specs.Levels.{tier-row}
+use Rattle.standard.specs.Terminals.{line}
+use Rattle.standard.specs.Derives.{Tok, OneOf, identifiers, identifier-names, assignment-operators, Links, Nonterminal, ListOf, Elided, Elision, PrimaryExpression, ArrayLiteral, SpreadElement, Element, ObjectLiteral, PropertyDefinition, PropertyName, LinkedExpression, LeftHandSideExpression, UpdateExpression, UnaryExpression, TierExpression, CoalesceExpression, ShortCircuitExpression, ConditionalExpression, AssignmentExpression, SimpleTarget, AssignmentPattern, DestructuringAssignmentTarget, AssignmentElement, AssignmentRestElement, AssignmentProperty, AssignmentRestProperty, AssignmentElementList, AssignmentPropertyList, Expression, ends-in-spread, array-row, object-row, Derives}
 use Rattle.standard.specs.Roots.{Root, not-both, root-assignment, root-expression, spread-last, Each, each-one, each-more, Past, past}
-use Rattle.standard.specs.Means.{Fits, must-be-wider, fits-left, fits-right}
+use Rattle.standard.specs.Means.{Silent, said, silent-left, silent-right}
 
 -- OUTCOMES
 -- a row that is turned over its kids
@@ -198,39 +199,39 @@ refuses kind mark first end kids h role x u records e =
     go (as-last comma) a b c d f g i j k l m n e = never (rw (a, b, c, d, f, g, i, j, k, l, m, n) at e)
 
 -- what an expression becomes in each role
-pub record Turns (w : Width) (s : Sheet) (i j : ℕ) (ts : Forest) : Type 0 where
-  pub with : {role : Role} → Expected role → (u : Tree) (records : List Record) → convert-as (first-tree ts) role ≡ turned u records → Fits w records → Derives w s (aim role) i j (one u)
+pub record Turns (s : Sheet) (i j : ℕ) (ts : Forest) : Type 0 where
+  pub with : {role : Role} → Expected role → (u : Tree) (records : List Record) → convert-as (first-tree ts) role ≡ turned u records → Silent records → Derives s (aim role) i j (one u)
 
 -- an element: in the middle, and as the last, where a Spread is a rest and the record of its comma fits
-data LastElement (w : Width) (s : Sheet) (i j : ℕ) (t : Tree) (comma : List Record) (u : Tree) : Type 0 where
-  last-plain : kind-of t is Row.Spread ≡ false → Derives w s AssignmentElement i j (one u) → LastElement w s i j t comma u
-  last-rest : kind-of t is Row.Spread ≡ true → Fits w comma → Derives w s AssignmentRestElement i j (one u) → LastElement w s i j t comma u
+data LastElement (s : Sheet) (i j : ℕ) (t : Tree) (comma : List Record) (u : Tree) : Type 0 where
+  last-plain : kind-of t is Row.Spread ≡ false → Derives s AssignmentElement i j (one u) → LastElement s i j t comma u
+  last-rest : kind-of t is Row.Spread ≡ true → Silent comma → Derives s AssignmentRestElement i j (one u) → LastElement s i j t comma u
 
-record ElementTurns (w : Width) (s : Sheet) (i j : ℕ) (ts : Forest) : Type 0 where
+record ElementTurns (s : Sheet) (i j : ℕ) (ts : Forest) : Type 0 where
   tree : Tree
   is-one : ts ≡ one tree
-  in-middle : (u : Tree) (records : List Record) → convert-as tree element ≡ turned u records → Fits w records → Derives w s AssignmentElement i j (one u)
-  at-end : (comma : List Record) (u : Tree) (records : List Record) → convert-as tree (last-element comma) ≡ turned u records → Fits w records → LastElement w s i j tree comma u
+  in-middle : (u : Tree) (records : List Record) → convert-as tree element ≡ turned u records → Silent records → Derives s AssignmentElement i j (one u)
+  at-end : (comma : List Record) (u : Tree) (records : List Record) → convert-as tree (last-element comma) ≡ turned u records → Silent records → LastElement s i j tree comma u
 
 -- a list of elements
-data ElementsTurn (w : Width) (s : Sheet) (i : ℕ) : ℕ → Forest → Type 0 where
-  first-element : {p j : ℕ} (hs ts : Forest) → Derives w s Elision i p hs → ElementTurns w s p j ts → ElementsTurn w s i j (join hs ts)
-  next-element : {p q j : ℕ} (ts hs us : Forest) → ElementsTurn w s i p ts → Tok s p Comma → Derives w s Elision (p + 1) q hs → ElementTurns w s q j us → ElementsTurn w s i j (join ts (join hs us))
+data ElementsTurn (s : Sheet) (i : ℕ) : ℕ → Forest → Type 0 where
+  first-element : {p j : ℕ} (hs ts : Forest) → Derives s Elision i p hs → ElementTurns s p j ts → ElementsTurn s i j (join hs ts)
+  next-element : {p q j : ℕ} (ts hs us : Forest) → ElementsTurn s i p ts → Tok s p Comma → Derives s Elision (p + 1) q hs → ElementTurns s q j us → ElementsTurn s i j (join ts (join hs us))
 
 -- a property: in the middle, and as the last
-data LastProperty (w : Width) (s : Sheet) (i j : ℕ) (t : Tree) (comma : List Record) (u : Tree) : Type 0 where
-  last-plain-property : kind-of t is Row.Spread ≡ false → Derives w s AssignmentProperty i j (one u) → LastProperty w s i j t comma u
-  last-rest-property : kind-of t is Row.Spread ≡ true → Fits w comma → Derives w s AssignmentRestProperty i j (one u) → LastProperty w s i j t comma u
+data LastProperty (s : Sheet) (i j : ℕ) (t : Tree) (comma : List Record) (u : Tree) : Type 0 where
+  last-plain-property : kind-of t is Row.Spread ≡ false → Derives s AssignmentProperty i j (one u) → LastProperty s i j t comma u
+  last-rest-property : kind-of t is Row.Spread ≡ true → Silent comma → Derives s AssignmentRestProperty i j (one u) → LastProperty s i j t comma u
 
-record PropertyTurns (w : Width) (s : Sheet) (i j : ℕ) (ts : Forest) : Type 0 where
+record PropertyTurns (s : Sheet) (i j : ℕ) (ts : Forest) : Type 0 where
   tree : Tree
   is-one : ts ≡ one tree
-  in-middle : (u : Tree) (records : List Record) → convert-as tree property ≡ turned u records → Fits w records → Derives w s AssignmentProperty i j (one u)
-  at-end : (comma : List Record) (u : Tree) (records : List Record) → convert-as tree (last-property comma) ≡ turned u records → Fits w records → LastProperty w s i j tree comma u
+  in-middle : (u : Tree) (records : List Record) → convert-as tree property ≡ turned u records → Silent records → Derives s AssignmentProperty i j (one u)
+  at-end : (comma : List Record) (u : Tree) (records : List Record) → convert-as tree (last-property comma) ≡ turned u records → Silent records → LastProperty s i j tree comma u
 
-data PropertiesTurn (w : Width) (s : Sheet) (i : ℕ) : ℕ → Forest → Type 0 where
-  first-property : {j : ℕ} (ts : Forest) → PropertyTurns w s i j ts → PropertiesTurn w s i j ts
-  next-property : {p j : ℕ} (ts us : Forest) → PropertiesTurn w s i p ts → Tok s p Comma → PropertyTurns w s (p + 1) j us → PropertiesTurn w s i j (join ts us)
+data PropertiesTurn (s : Sheet) (i : ℕ) : ℕ → Forest → Type 0 where
+  first-property : {j : ℕ} (ts : Forest) → PropertyTurns s i j ts → PropertiesTurn s i j ts
+  next-property : {p j : ℕ} (ts us : Forest) → PropertiesTurn s i p ts → Tok s p Comma → PropertyTurns s (p + 1) j us → PropertiesTurn s i j (join ts us)
 
 -- ELEMENTS
 -- roles in which a hole stays
@@ -251,8 +252,8 @@ holey comma (suc n) = rw (ne-eqb (suc n) 0 (λ e. omega arith)) holey-middle
 pub followed : (comma : List Record) (more : ℕ) (n : ℕ) → elements comma (n + suc more) ≡ element
 followed comma more n = rw (ne-eqb (n + suc more) 0 (λ e. omega arith))
 
-module _ {w : Width} {s : Sheet} where
-  holes-stay : {i j : ℕ} {hs : Forest} → Derives w s Elision i j hs → (f : ℕ → Role) → ((n : ℕ) → Holey (f n)) → (us : Forest) (records : List Record) → convert-kids hs f ≡ turned us records → us ≡ hs
+module _ {s : Sheet} where
+  holes-stay : {i j : ℕ} {hs : Forest} → Derives s Elision i j hs → (f : ℕ → Role) → ((n : ℕ) → Holey (f n)) → (us : Forest) (records : List Record) → convert-kids hs f ≡ turned us records → us ≡ hs
   unfolding convert-kids count
   holes-stay D.no-elision f h us records e = let a : nil ≡ us = cc in sym a
   holes-stay (D.elision {p = p} {ts = ts} d t) f h us records e =
@@ -263,14 +264,14 @@ module _ {w : Width} {s : Sheet} where
       r .is-forest ∙ ap (λ (x : Forest). join x (r .right)) a ∙ ap (join ts) (q .is-forest ∙ ap one (b .is-row))
 
   -- an element after holes, in the middle
-  middle-turns : {i p j : ℕ} (hs ts : Forest) → Derives w s Elision i p hs → ElementTurns w s p j ts → (us : Forest) (records : List Record)
-      → convert-kids (join hs ts) (only element) ≡ turned us records → Fits w records → Derives w s (Elided AssignmentElement) i j us
+  middle-turns : {i p j : ℕ} (hs ts : Forest) → Derives s Elision i p hs → ElementTurns s p j ts → (us : Forest) (records : List Record)
+      → convert-kids (join hs ts) (only element) ≡ turned us records → Silent records → Derives s (Elided AssignmentElement) i j us
   middle-turns hs ts h x us records e f =
       let r = split hs ts (only element) (only element) (λ n. refl) us records e in
       let a = holes-stay h (only element) (λ n. holey-middle) (r .left) (r .left-said) (r .left-turns) in
       let q = single (x .tree) (only element) (r .right) (r .right-said) (ap (λ (v : Forest). convert-kids v (only element)) (sym (x .is-one)) ∙ r .right-turns) in
-      let g : Fits w (r .left-said ++ r .right-said) = subst (Fits w) (r .are) f in
-      let d = x .in-middle (q .into) (r .right-said) (q .turns) (fits-right w (r .left-said) (r .right-said) g) in
+      let g : Silent (r .left-said ++ r .right-said) = subst Silent (r .are) f in
+      let d = x .in-middle (q .into) (r .right-said) (q .turns) (silent-right (r .left-said) (r .right-said) g) in
       rw (r .is-forest, a, q .is-forest) (D.elided h d)
 
 one-count : {ts : Forest} (t : Tree) → ts ≡ one t → count ts ≡ 1
@@ -281,53 +282,53 @@ ends : (hs ts : Forest) (t : Tree) → ts ≡ one t → ends-in-spread (join hs 
 ends hs ts t e = ap (λ (v : Forest). ends-in-spread (join hs v)) e ∙ spread-last hs t
 
 -- and as the last
-data LastElided (w : Width) (s : Sheet) (i j : ℕ) (t : Tree) (comma : List Record) (us : Forest) : Type 0 where
-  last-elided : kind-of t is Row.Spread ≡ false → Derives w s (Elided AssignmentElement) i j us → LastElided w s i j t comma us
-  last-elided-rest : kind-of t is Row.Spread ≡ true → Fits w comma → Derives w s (Elided AssignmentRestElement) i j us → LastElided w s i j t comma us
+data LastElided (s : Sheet) (i j : ℕ) (t : Tree) (comma : List Record) (us : Forest) : Type 0 where
+  last-elided : kind-of t is Row.Spread ≡ false → Derives s (Elided AssignmentElement) i j us → LastElided s i j t comma us
+  last-elided-rest : kind-of t is Row.Spread ≡ true → Silent comma → Derives s (Elided AssignmentRestElement) i j us → LastElided s i j t comma us
 
 -- a list of elements of which the last closes the literal
-data LastList (w : Width) (s : Sheet) (i j : ℕ) (ts : Forest) (comma : List Record) (us : Forest) : Type 0 where
-  plain-list : ends-in-spread ts ≡ false → Derives w s AssignmentElementList i j us → LastList w s i j ts comma us
-  rest-only : ends-in-spread ts ≡ true → Fits w comma → Derives w s (Elided AssignmentRestElement) i j us → LastList w s i j ts comma us
-  rest-after : (p : ℕ) (xs ys : Forest) → ends-in-spread ts ≡ true → Fits w comma → Derives w s AssignmentElementList i p xs → Tok s p Comma
-      → Derives w s (Elided AssignmentRestElement) (p + 1) j ys → us ≡ join xs ys → LastList w s i j ts comma us
+data LastList (s : Sheet) (i j : ℕ) (ts : Forest) (comma : List Record) (us : Forest) : Type 0 where
+  plain-list : ends-in-spread ts ≡ false → Derives s AssignmentElementList i j us → LastList s i j ts comma us
+  rest-only : ends-in-spread ts ≡ true → Silent comma → Derives s (Elided AssignmentRestElement) i j us → LastList s i j ts comma us
+  rest-after : (p : ℕ) (xs ys : Forest) → ends-in-spread ts ≡ true → Silent comma → Derives s AssignmentElementList i p xs → Tok s p Comma
+      → Derives s (Elided AssignmentRestElement) (p + 1) j ys → us ≡ join xs ys → LastList s i j ts comma us
 
-module _ {w : Width} {s : Sheet} where
-  last-turns : {i p j : ℕ} (hs ts : Forest) → Derives w s Elision i p hs → (x : ElementTurns w s p j ts) → (comma : List Record) (us : Forest) (records : List Record)
-      → convert-kids (join hs ts) (elements comma) ≡ turned us records → Fits w records → LastElided w s i j (x .tree) comma us
+module _ {s : Sheet} where
+  last-turns : {i p j : ℕ} (hs ts : Forest) → Derives s Elision i p hs → (x : ElementTurns s p j ts) → (comma : List Record) (us : Forest) (records : List Record)
+      → convert-kids (join hs ts) (elements comma) ≡ turned us records → Silent records → LastElided s i j (x .tree) comma us
   last-turns {i} {p} {j} hs ts h x comma us records e f =
       let r = split hs ts (elements comma) (only element) (λ n. ap (λ (m : ℕ). elements comma (n + m)) (one-count (x .tree) (x .is-one)) ∙ followed comma 0 n) us records e in
       let a = holes-stay h (only element) (λ n. holey-middle) (r .left) (r .left-said) (r .left-turns) in
       let q = single (x .tree) (elements comma) (r .right) (r .right-said) (ap (λ (v : Forest). convert-kids v (elements comma)) (sym (x .is-one)) ∙ r .right-turns) in
-      let g : Fits w (r .left-said ++ r .right-said) = subst (Fits w) (r .are) f in
-      go (r .is-forest ∙ ap (λ (v : Forest). join v (r .right)) a ∙ ap (join hs) (q .is-forest)) (x .at-end comma (q .into) (r .right-said) (q .turns) (fits-right w (r .left-said) (r .right-said) g))
+      let g : Silent (r .left-said ++ r .right-said) = subst Silent (r .are) f in
+      go (r .is-forest ∙ ap (λ (v : Forest). join v (r .right)) a ∙ ap (join hs) (q .is-forest)) (x .at-end comma (q .into) (r .right-said) (q .turns) (silent-right (r .left-said) (r .right-said) g))
     where
-      go : {u : Tree} → us ≡ join hs (one u) → LastElement w s p j (x .tree) comma u → LastElided w s i j (x .tree) comma us
+      go : {u : Tree} → us ≡ join hs (one u) → LastElement s p j (x .tree) comma u → LastElided s i j (x .tree) comma us
       go q (last-plain k d) = last-elided k (rw q (D.elided h d))
       go q (last-rest k c d) = last-elided-rest k c (rw q (D.elided h d))
 
-  elements-middle : {i j : ℕ} {ts : Forest} → ElementsTurn w s i j ts → (us : Forest) (records : List Record) → convert-kids ts (only element) ≡ turned us records → Fits w records
-      → Derives w s AssignmentElementList i j us
+  elements-middle : {i j : ℕ} {ts : Forest} → ElementsTurn s i j ts → (us : Forest) (records : List Record) → convert-kids ts (only element) ≡ turned us records → Silent records
+      → Derives s AssignmentElementList i j us
   elements-middle (first-element hs ts h x) us records e f = D.first-of-list (middle-turns hs ts h x us records e f)
   elements-middle (next-element ts hs vs d t h x) us records e f =
       let r = split ts (join hs vs) (only element) (only element) (λ n. refl) us records e in
-      let g : Fits w (r .left-said ++ r .right-said) = subst (Fits w) (r .are) f in
+      let g : Silent (r .left-said ++ r .right-said) = subst Silent (r .are) f in
       rw (r .is-forest)
-      (D.next-of-list (elements-middle d (r .left) (r .left-said) (r .left-turns) (fits-left w (r .left-said) (r .right-said) g)) t
-      (middle-turns hs vs h x (r .right) (r .right-said) (r .right-turns) (fits-right w (r .left-said) (r .right-said) g)))
+      (D.next-of-list (elements-middle d (r .left) (r .left-said) (r .left-turns) (silent-left (r .left-said) (r .right-said) g)) t
+      (middle-turns hs vs h x (r .right) (r .right-said) (r .right-turns) (silent-right (r .left-said) (r .right-said) g)))
 
-  elements-last : {i j : ℕ} {ts : Forest} → ElementsTurn w s i j ts → (comma : List Record) (us : Forest) (records : List Record) → convert-kids ts (elements comma) ≡ turned us records
-      → Fits w records → LastList w s i j ts comma us
+  elements-last : {i j : ℕ} {ts : Forest} → ElementsTurn s i j ts → (comma : List Record) (us : Forest) (records : List Record) → convert-kids ts (elements comma) ≡ turned us records
+      → Silent records → LastList s i j ts comma us
   elements-last {i} {j} (first-element hs ts h x) comma us records e f = go (last-turns hs ts h x comma us records e f)
     where
-      go : LastElided w s i j (x .tree) comma us → LastList w s i j (join hs ts) comma us
+      go : LastElided s i j (x .tree) comma us → LastList s i j (join hs ts) comma us
       go (last-elided k d) = plain-list (ends hs ts (x .tree) (x .is-one) ∙ k) (D.first-of-list d)
       go (last-elided-rest k c d) = rest-only (ends hs ts (x .tree) (x .is-one) ∙ k) c d
   elements-last {i} {j} (next-element {p = p} ts hs vs d t h x) comma us records e f =
       let r = split ts (join hs vs) (elements comma) (only element) (λ n. ap (λ (m : ℕ). elements comma (n + m)) (count-join hs vs ∙ ap (λ (m : ℕ). count hs + m) (one-count (x .tree) (x .is-one)) ∙ suc-last (count hs)) ∙ followed comma (count hs) n) us records e in
-      let g : Fits w (r .left-said ++ r .right-said) = subst (Fits w) (r .are) f in
-      go (r .left) (r .right) (r .is-forest) (elements-middle d (r .left) (r .left-said) (r .left-turns) (fits-left w (r .left-said) (r .right-said) g))
-      (last-turns hs vs h x comma (r .right) (r .right-said) (r .right-turns) (fits-right w (r .left-said) (r .right-said) g))
+      let g : Silent (r .left-said ++ r .right-said) = subst Silent (r .are) f in
+      go (r .left) (r .right) (r .is-forest) (elements-middle d (r .left) (r .left-said) (r .left-turns) (silent-left (r .left-said) (r .right-said) g))
+      (last-turns hs vs h x comma (r .right) (r .right-said) (r .right-turns) (silent-right (r .left-said) (r .right-said) g))
     where
       suc-last : (n : ℕ) → n + 1 ≡ suc n
       suc-last n = omega arith
@@ -335,7 +336,7 @@ module _ {w : Width} {s : Sheet} where
       spreads : ends-in-spread (join ts (join hs vs)) ≡ kind-of (x .tree) is Row.Spread
       spreads = ap ends-in-spread (sym (join-assoc ts hs vs)) ∙ ends (join ts hs) vs (x .tree) (x .is-one)
 
-      go : (ls rs : Forest) → us ≡ join ls rs → Derives w s AssignmentElementList i p ls → LastElided w s (p + 1) j (x .tree) comma rs → LastList w s i j (join ts (join hs vs)) comma us
+      go : (ls rs : Forest) → us ≡ join ls rs → Derives s AssignmentElementList i p ls → LastElided s (p + 1) j (x .tree) comma rs → LastList s i j (join ts (join hs vs)) comma us
       go ls rs q l (last-elided k d) = plain-list (spreads ∙ k) (rw q (D.next-of-list l t d))
       go ls rs q l (last-elided-rest k c d) = rest-after p ls rs (spreads ∙ k) c l t d q
 
@@ -345,19 +346,19 @@ module _ {w : Width} {s : Sheet} where
       → change value (seen (node kind mark first end ts)) ≡ turn kind′ [] f [] → change element (seen (node kind mark first end ts)) ≡ turn kind′ [] f []
       → ((comma : List Record) → change (last-element comma) (seen (node kind mark first end ts)) ≡ turn kind′ [] f [])
       → ((u : Tree) (records : List Record) → convert-as (node kind mark first end ts) simple ≡ turned u records → ⊥)
-      → ((us : Forest) (records : List Record) → convert-kids ts f ≡ turned us records → Fits w records → Derives w s AssignmentPattern i j (one (node kind′ mark first end us)))
-      → Turns w s i j (one (node kind mark first end ts))
+      → ((us : Forest) (records : List Record) → convert-kids ts f ≡ turned us records → Silent records → Derives s AssignmentPattern i j (one (node kind′ mark first end us)))
+      → Turns s i j (one (node kind mark first end ts))
   unfolding first-tree convert-as roles
   literal-turns {i} {j} kind kind′ mark first end ts g a b c d n h = record { with = go }
     where
-      pattern : (x : Change) → x ≡ turn kind′ [] g [] → (u : Tree) (records : List Record) → over x (node kind mark first end ts) (convert-kids ts (roles x)) ≡ turned u records → Fits w records
-          → Derives w s AssignmentPattern i j (one u)
+      pattern : (x : Change) → x ≡ turn kind′ [] g [] → (u : Tree) (records : List Record) → over x (node kind mark first end ts) (convert-kids ts (roles x)) ≡ turned u records → Silent records
+          → Derives s AssignmentPattern i j (one u)
       pattern x q u records e f =
           let r = over-turn kind′ kind mark first end [] [] g ts (convert-kids ts g) u records (rw q at e) in
-          rw (r .is-row) (h (r .into) (r .said) (r .kids-turn) (subst (Fits w) (r .are ∙ append-nil (r .said)) f))
+          rw (r .is-row) (h (r .into) (r .said) (r .kids-turn) (subst Silent (r .are ∙ append-nil (r .said)) f))
 
-      go : {role : Role} → Expected role → (u : Tree) (records : List Record) → convert-as (first-tree (one (node kind mark first end ts))) role ≡ turned u records → Fits w records
-          → Derives w s (aim role) i j (one u)
+      go : {role : Role} → Expected role → (u : Tree) (records : List Record) → convert-as (first-tree (one (node kind mark first end ts))) role ≡ turned u records → Silent records
+          → Derives s (aim role) i j (one u)
       go as-target u records e f = D.target-pattern (pattern _ a u records e f)
       go as-simple-target u records e f = absurd (n u records e)
       go as-content u records e f = D.target-element (D.target-pattern (pattern _ b u records e f))
@@ -366,29 +367,29 @@ module _ {w : Width} {s : Sheet} where
 
   -- what the literals become, and what must be shown of them
   array-turns : {i j : ℕ} (mark first end : ℕ) (ts : Forest)
-      → ((us : Forest) (records : List Record) → convert-kids ts (elements []) ≡ turned us records → Fits w records → Derives w s AssignmentPattern i j (one (node Row.TargetArray mark first end us)))
-      → Turns w s i j (one (node Row.Array mark first end ts))
+      → ((us : Forest) (records : List Record) → convert-kids ts (elements []) ≡ turned us records → Silent records → Derives s AssignmentPattern i j (one (node Row.TargetArray mark first end us)))
+      → Turns s i j (one (node Row.Array mark first end ts))
   unfolding convert-as change as-any as-simple as-value as-element as-last-element seen over
   array-turns mark first end ts h = literal-turns Row.Array Row.TargetArray mark first end ts (elements []) refl refl refl (λ comma. refl) (λ u records e. never e) h
 
   array-closed-turns : {i j : ℕ} (mark first end : ℕ) (ts : Forest) → kind-of (last-of ts) is Row.Spread ≡ true
-      → ((us : Forest) (records : List Record) → convert-kids ts (elements (rest-comma first ∷ [])) ≡ turned us records → Fits w records
-      → Derives w s AssignmentPattern i j (one (node Row.TargetArray mark first end us)))
-      → Turns w s i j (one (node Row.ArrayRestComma mark first end ts))
+      → ((us : Forest) (records : List Record) → convert-kids ts (elements (rest-comma first ∷ [])) ≡ turned us records → Silent records
+      → Derives s AssignmentPattern i j (one (node Row.TargetArray mark first end us)))
+      → Turns s i j (one (node Row.ArrayRestComma mark first end ts))
   unfolding convert-as change as-any as-simple as-value as-element as-last-element seen over
   array-closed-turns mark first end ts l h =
       literal-turns Row.ArrayRestComma Row.TargetArray mark first end ts (elements (rest-comma first ∷ [])) (rw l) (rw l) (rw l) (λ comma. rw l) (λ u records e. never e) h
 
   object-turns : {i j : ℕ} (mark first end : ℕ) (ts : Forest)
-      → ((us : Forest) (records : List Record) → convert-kids ts (properties []) ≡ turned us records → Fits w records → Derives w s AssignmentPattern i j (one (node Row.TargetObject mark first end us)))
-      → Turns w s i j (one (node Row.Object mark first end ts))
+      → ((us : Forest) (records : List Record) → convert-kids ts (properties []) ≡ turned us records → Silent records → Derives s AssignmentPattern i j (one (node Row.TargetObject mark first end us)))
+      → Turns s i j (one (node Row.Object mark first end ts))
   unfolding convert-as change as-any as-simple as-value as-element as-last-element seen over
   object-turns mark first end ts h = literal-turns Row.Object Row.TargetObject mark first end ts (properties []) refl refl refl (λ comma. refl) (λ u records e. never e) h
 
   object-closed-turns : {i j : ℕ} (mark first end : ℕ) (ts : Forest) → kind-of (last-of ts) is Row.Spread ≡ true
-      → ((us : Forest) (records : List Record) → convert-kids ts (properties (rest-comma first ∷ [])) ≡ turned us records → Fits w records
-      → Derives w s AssignmentPattern i j (one (node Row.TargetObject mark first end us)))
-      → Turns w s i j (one (node Row.ObjectRestComma mark first end ts))
+      → ((us : Forest) (records : List Record) → convert-kids ts (properties (rest-comma first ∷ [])) ≡ turned us records → Silent records
+      → Derives s AssignmentPattern i j (one (node Row.TargetObject mark first end us)))
+      → Turns s i j (one (node Row.ObjectRestComma mark first end ts))
   unfolding convert-as change as-any as-simple as-value as-element as-last-element seen over
   object-closed-turns mark first end ts l h =
       literal-turns Row.ObjectRestComma Row.TargetObject mark first end ts (properties (rest-comma first ∷ [])) (rw l) (rw l) (rw l) (λ comma. rw l) (λ u records e. never e) h
@@ -400,46 +401,46 @@ spread-is-last nil = refl
 spread-is-last (cons (node kind mark first end kids) nil) = refl
 spread-is-last (cons t (cons u us)) = spread-is-last (cons u us)
 
-module _ {w : Width} {s : Sheet} where
+module _ {s : Sheet} where
   -- [ Elision opt ]
-  empty-array-turns : {i p : ℕ} {ts : Forest} → Tok s i LBrack → Derives w s Elision (i + 1) p ts → Tok s p RBrack → Turns w s i (p + 1) (one (node Row.Array i i (p + 1) ts))
+  empty-array-turns : {i p : ℕ} {ts : Forest} → Tok s i LBrack → Derives s Elision (i + 1) p ts → Tok s p RBrack → Turns s i (p + 1) (one (node Row.Array i i (p + 1) ts))
   empty-array-turns {i} {p} {ts} o d c =
       array-turns i i (p + 1) ts (λ us records e f. let q = holes-stay d (elements []) (holey []) us records e in rw q (D.target-array-empty o d c))
 
   -- [ ElementList ]
-  list-array-turns : {i p : ℕ} {ts : Forest} → Tok s i LBrack → ElementsTurn w s (i + 1) p ts → Tok s p RBrack → Turns w s i (p + 1) (one (node Row.Array i i (p + 1) ts))
+  list-array-turns : {i p : ℕ} {ts : Forest} → Tok s i LBrack → ElementsTurn s (i + 1) p ts → Tok s p RBrack → Turns s i (p + 1) (one (node Row.Array i i (p + 1) ts))
   list-array-turns {i} {p} {ts} o d c = array-turns i i (p + 1) ts (λ us records e f. go us (elements-last d [] us records e f))
     where
-      go : (us : Forest) → LastList w s (i + 1) p ts [] us → Derives w s AssignmentPattern i (p + 1) (one (node Row.TargetArray i i (p + 1) us))
+      go : (us : Forest) → LastList s (i + 1) p ts [] us → Derives s AssignmentPattern i (p + 1) (one (node Row.TargetArray i i (p + 1) us))
       go us (plain-list n l) = D.target-array-list o l c
       go us (rest-only n x l) = D.target-array-rest o l c
       go us (rest-after q xs ys n x l t r e) = rw e (D.target-array-list-rest o l t r c)
 
   -- [ ElementList , ]
-  comma-array-turns : {i p : ℕ} (ts : Forest) → Tok s i LBrack → ElementsTurn w s (i + 1) p ts → Tok s p Comma → Tok s (p + 1) RBrack
-      → Turns w s i (p + 1 + 1) (one (node (array-row ts) i i (p + 1 + 1) ts))
+  comma-array-turns : {i p : ℕ} (ts : Forest) → Tok s i LBrack → ElementsTurn s (i + 1) p ts → Tok s p Comma → Tok s (p + 1) RBrack
+      → Turns s i (p + 1 + 1) (one (node (array-row ts) i i (p + 1 + 1) ts))
   unfolding array-row
   comma-array-turns {i} {p} ts o d t c = by (ends-in-spread ts) refl
     where
-      open-pattern : ends-in-spread ts ≡ false → (us : Forest) → LastList w s (i + 1) p ts [] us → Derives w s AssignmentPattern i (p + 1 + 1) (one (node Row.TargetArray i i (p + 1 + 1) us))
+      open-pattern : ends-in-spread ts ≡ false → (us : Forest) → LastList s (i + 1) p ts [] us → Derives s AssignmentPattern i (p + 1 + 1) (one (node Row.TargetArray i i (p + 1 + 1) us))
       open-pattern b us (plain-list n l) =
-          subst (λ (v : Forest). Derives w s AssignmentPattern i (p + 1 + 1) (one (node Row.TargetArray i i (p + 1 + 1) v))) (join-nil us) (D.target-array-comma o l t D.no-elision c)
+          subst (λ (v : Forest). Derives s AssignmentPattern i (p + 1 + 1) (one (node Row.TargetArray i i (p + 1 + 1) v))) (join-nil us) (D.target-array-comma o l t D.no-elision c)
       open-pattern b us (rest-only n x l) = absurd (not-both n b)
       open-pattern b us (rest-after q xs ys n x l t′ r e) = absurd (not-both n b)
 
-      closed-pattern : ends-in-spread ts ≡ true → (us : Forest) → LastList w s (i + 1) p ts (rest-comma i ∷ []) us → Derives w s AssignmentPattern i (p + 1 + 1) (one (node Row.TargetArray i i (p + 1 + 1) us))
+      closed-pattern : ends-in-spread ts ≡ true → (us : Forest) → LastList s (i + 1) p ts (rest-comma i ∷ []) us → Derives s AssignmentPattern i (p + 1 + 1) (one (node Row.TargetArray i i (p + 1 + 1) us))
       closed-pattern b us (plain-list n l) = absurd (not-both b n)
-      closed-pattern b us (rest-only n x l) = let e : p + 1 + 1 ≡ p + 2 = omega arith in rw e (D.target-array-rest-comma (must-be-wider w x) o l t c)
-      closed-pattern b us (rest-after q xs ys n x l t′ r e) = let g : p + 1 + 1 ≡ p + 2 = omega arith in rw (g, e) (D.target-array-list-rest-comma (must-be-wider w x) o l t′ r t c)
+      closed-pattern b us (rest-only n x l) = absurd (said x)
+      closed-pattern b us (rest-after q xs ys n x l t′ r e) = absurd (said x)
 
-      by : (b : Bool) → ends-in-spread ts ≡ b → Turns w s i (p + 1 + 1) (one (node (if b then Row.ArrayRestComma else Row.Array) i i (p + 1 + 1) ts))
+      by : (b : Bool) → ends-in-spread ts ≡ b → Turns s i (p + 1 + 1) (one (node (if b then Row.ArrayRestComma else Row.Array) i i (p + 1 + 1) ts))
       by true b =
           array-closed-turns i i (p + 1 + 1) ts (sym (spread-is-last ts) ∙ b) (λ us records e f. closed-pattern b us (elements-last d (rest-comma i ∷ []) us records e f))
       by false b = array-turns i i (p + 1 + 1) ts (λ us records e f. open-pattern b us (elements-last d [] us records e f))
 
   -- [ ElementList , Elision opt ]
-  elision-array-turns : {i p q : ℕ} {ts us : Forest} → Tok s i LBrack → ElementsTurn w s (i + 1) p ts → Tok s p Comma → Derives w s Elision (p + 1) q us → Tok s q RBrack
-      → Turns w s i (q + 1) (one (node (array-row (join ts us)) i i (q + 1) (join ts us)))
+  elision-array-turns : {i p q : ℕ} {ts us : Forest} → Tok s i LBrack → ElementsTurn s (i + 1) p ts → Tok s p Comma → Derives s Elision (p + 1) q us → Tok s q RBrack
+      → Turns s i (q + 1) (one (node (array-row (join ts us)) i i (q + 1) (join ts us)))
   unfolding array-row kind-of count
   elision-array-turns {ts = ts} o d t D.no-elision c = rw (join-nil ts) (comma-array-turns ts o d t c)
   elision-array-turns {i} {p} {ts = ts} o d t (D.elision {p = r} {ts = hs} h u) c =
@@ -453,19 +454,19 @@ module _ {w : Width} {s : Sheet} where
       suc-last n = omega arith
 
       go : {records : List Record} (us : Forest) → (x : Split ts (join hs (one (leaf Row.Hole r))) (elements []) (only element) us records)
-          → Fits w records → Derives w s AssignmentPattern i (r + 1 + 1) (one (node Row.TargetArray i i (r + 1 + 1) us))
+          → Silent records → Derives s AssignmentPattern i (r + 1 + 1) (one (node Row.TargetArray i i (r + 1 + 1) us))
       go us x f =
-          let l = elements-middle d (x .left) (x .left-said) (x .left-turns) (fits-left w (x .left-said) (x .right-said) (subst (Fits w) (x .are) f)) in
+          let l = elements-middle d (x .left) (x .left-said) (x .left-turns) (silent-left (x .left-said) (x .right-said) (subst Silent (x .are) f)) in
           let q = holes-stay (D.elision h u) (elements []) (holey []) (x .right) (x .right-said) (x .right-turns) in
           rw (x .is-forest, q) (D.target-array-comma o l t (D.elision h u) c)
 
 -- PROPERTIES
 -- a list of properties of which the last closes the literal
-data LastProperties (w : Width) (s : Sheet) (i j : ℕ) (ts : Forest) (comma : List Record) (us : Forest) : Type 0 where
-  plain-properties : ends-in-spread ts ≡ false → Derives w s AssignmentPropertyList i j us → LastProperties w s i j ts comma us
-  rest-property-only : ends-in-spread ts ≡ true → Fits w comma → Derives w s AssignmentRestProperty i j us → LastProperties w s i j ts comma us
-  rest-property-after : (p : ℕ) (xs ys : Forest) → ends-in-spread ts ≡ true → Fits w comma → Derives w s AssignmentPropertyList i p xs → Tok s p Comma
-      → Derives w s AssignmentRestProperty (p + 1) j ys → us ≡ join xs ys → LastProperties w s i j ts comma us
+data LastProperties (s : Sheet) (i j : ℕ) (ts : Forest) (comma : List Record) (us : Forest) : Type 0 where
+  plain-properties : ends-in-spread ts ≡ false → Derives s AssignmentPropertyList i j us → LastProperties s i j ts comma us
+  rest-property-only : ends-in-spread ts ≡ true → Silent comma → Derives s AssignmentRestProperty i j us → LastProperties s i j ts comma us
+  rest-property-after : (p : ℕ) (xs ys : Forest) → ends-in-spread ts ≡ true → Silent comma → Derives s AssignmentPropertyList i p xs → Tok s p Comma
+      → Derives s AssignmentRestProperty (p + 1) j ys → us ≡ join xs ys → LastProperties s i j ts comma us
 
 -- a property that another follows is in the middle
 pub followed-property : (comma : List Record) (n : ℕ) → properties comma (n + 1) ≡ property
@@ -475,79 +476,79 @@ lone-ends : (ts : Forest) (t : Tree) → ts ≡ one t → ends-in-spread ts ≡ 
 unfolding join
 lone-ends ts t e = ends nil ts t e
 
-module _ {w : Width} {s : Sheet} where
-  property-in-middle : {i j : ℕ} {ts : Forest} → (x : PropertyTurns w s i j ts) → (us : Forest) (records : List Record) → convert-kids ts (only property) ≡ turned us records → Fits w records
-      → Derives w s AssignmentProperty i j us
+module _ {s : Sheet} where
+  property-in-middle : {i j : ℕ} {ts : Forest} → (x : PropertyTurns s i j ts) → (us : Forest) (records : List Record) → convert-kids ts (only property) ≡ turned us records → Silent records
+      → Derives s AssignmentProperty i j us
   property-in-middle x us records e f =
       let q = single (x .tree) (only property) us records (ap (λ (v : Forest). convert-kids v (only property)) (sym (x .is-one)) ∙ e) in
       rw (q .is-forest) (x .in-middle (q .into) records (q .turns) f)
 
-  properties-middle : {i j : ℕ} {ts : Forest} → PropertiesTurn w s i j ts → (us : Forest) (records : List Record) → convert-kids ts (only property) ≡ turned us records → Fits w records
-      → Derives w s AssignmentPropertyList i j us
+  properties-middle : {i j : ℕ} {ts : Forest} → PropertiesTurn s i j ts → (us : Forest) (records : List Record) → convert-kids ts (only property) ≡ turned us records → Silent records
+      → Derives s AssignmentPropertyList i j us
   properties-middle (first-property ts x) us records e f = D.first-of-list (property-in-middle x us records e f)
   properties-middle (next-property ts vs d t x) us records e f =
       let r = split ts vs (only property) (only property) (λ n. refl) us records e in
-      let g : Fits w (r .left-said ++ r .right-said) = subst (Fits w) (r .are) f in
+      let g : Silent (r .left-said ++ r .right-said) = subst Silent (r .are) f in
       rw (r .is-forest)
-      (D.next-of-list (properties-middle d (r .left) (r .left-said) (r .left-turns) (fits-left w (r .left-said) (r .right-said) g)) t
-      (property-in-middle x (r .right) (r .right-said) (r .right-turns) (fits-right w (r .left-said) (r .right-said) g)))
+      (D.next-of-list (properties-middle d (r .left) (r .left-said) (r .left-turns) (silent-left (r .left-said) (r .right-said) g)) t
+      (property-in-middle x (r .right) (r .right-said) (r .right-turns) (silent-right (r .left-said) (r .right-said) g)))
 
   -- the last property, after others or alone
-  property-at-end : {i j : ℕ} {ts : Forest} → (x : PropertyTurns w s i j ts) → (comma : List Record) (us : Forest) (records : List Record) → convert-kids ts (properties comma) ≡ turned us records
-      → Fits w records → (u : Tree) × (us ≡ one u) × LastProperty w s i j (x .tree) comma u
+  property-at-end : {i j : ℕ} {ts : Forest} → (x : PropertyTurns s i j ts) → (comma : List Record) (us : Forest) (records : List Record) → convert-kids ts (properties comma) ≡ turned us records
+      → Silent records → (u : Tree) × (us ≡ one u) × LastProperty s i j (x .tree) comma u
   property-at-end x comma us records e f =
       let q = single (x .tree) (properties comma) us records (ap (λ (v : Forest). convert-kids v (properties comma)) (sym (x .is-one)) ∙ e) in
       (q .into, q .is-forest, x .at-end comma (q .into) records (q .turns) f)
 
-  properties-last : {i j : ℕ} {ts : Forest} → PropertiesTurn w s i j ts → (comma : List Record) (us : Forest) (records : List Record) → convert-kids ts (properties comma) ≡ turned us records
-      → Fits w records → LastProperties w s i j ts comma us
+  properties-last : {i j : ℕ} {ts : Forest} → PropertiesTurn s i j ts → (comma : List Record) (us : Forest) (records : List Record) → convert-kids ts (properties comma) ≡ turned us records
+      → Silent records → LastProperties s i j ts comma us
   properties-last {i} {j} (first-property ts x) comma us records e f = let r = property-at-end x comma us records e f in go (r .0) (r .1) (r .2)
     where
-      go : (u : Tree) → us ≡ one u → LastProperty w s i j (x .tree) comma u → LastProperties w s i j ts comma us
+      go : (u : Tree) → us ≡ one u → LastProperty s i j (x .tree) comma u → LastProperties s i j ts comma us
       go u q (last-plain-property k d) = plain-properties (lone-ends ts (x .tree) (x .is-one) ∙ k) (rw q (D.first-of-list d))
       go u q (last-rest-property k c d) = rest-property-only (lone-ends ts (x .tree) (x .is-one) ∙ k) c (rw q d)
   properties-last {i} {j} (next-property {p = p} ts vs d t x) comma us records e f =
       let r = split ts vs (properties comma) (only property) (λ n. ap (λ (m : ℕ). properties comma (n + m)) (one-count (x .tree) (x .is-one)) ∙ followed-property comma n) us records e in
-      let g : Fits w (r .left-said ++ r .right-said) = subst (Fits w) (r .are) f in
-      let y = property-at-end x comma (r .right) (r .right-said) (r .right-turns) (fits-right w (r .left-said) (r .right-said) g) in
-      go (r .left) (y .0) (r .is-forest ∙ ap (join (r .left)) (y .1)) (properties-middle d (r .left) (r .left-said) (r .left-turns) (fits-left w (r .left-said) (r .right-said) g)) (y .2)
+      let g : Silent (r .left-said ++ r .right-said) = subst Silent (r .are) f in
+      let y = property-at-end x comma (r .right) (r .right-said) (r .right-turns) (silent-right (r .left-said) (r .right-said) g) in
+      go (r .left) (y .0) (r .is-forest ∙ ap (join (r .left)) (y .1)) (properties-middle d (r .left) (r .left-said) (r .left-turns) (silent-left (r .left-said) (r .right-said) g)) (y .2)
     where
-      go : (ls : Forest) (u : Tree) → us ≡ join ls (one u) → Derives w s AssignmentPropertyList i p ls → LastProperty w s (p + 1) j (x .tree) comma u → LastProperties w s i j (join ts vs) comma us
+      go : (ls : Forest) (u : Tree) → us ≡ join ls (one u) → Derives s AssignmentPropertyList i p ls → LastProperty s (p + 1) j (x .tree) comma u → LastProperties s i j (join ts vs) comma us
       go ls u q l (last-plain-property k a) = plain-properties (ends ts vs (x .tree) (x .is-one) ∙ k) (rw q (D.next-of-list l t a))
       go ls u q l (last-rest-property k c a) = rest-property-after p ls (one u) (ends ts vs (x .tree) (x .is-one) ∙ k) c l t a q
 
   -- OBJECTS
   -- { }
-  empty-object-turns : {i : ℕ} → Tok s i LCurly → Tok s (i + 1) RCurly → Turns w s i (i + 2) (one (node Row.Object i i (i + 2) nil))
+  empty-object-turns : {i : ℕ} → Tok s i LCurly → Tok s (i + 1) RCurly → Turns s i (i + 2) (one (node Row.Object i i (i + 2) nil))
   unfolding convert-kids
   empty-object-turns {i} o c = object-turns i i (i + 2) nil (λ us records e f. let q : nil ≡ us = cc in rw (sym q) (D.target-object-empty o c))
 
   -- { PropertyDefinitionList }
-  list-object-turns : {i p : ℕ} {ts : Forest} → Tok s i LCurly → PropertiesTurn w s (i + 1) p ts → Tok s p RCurly → Turns w s i (p + 1) (one (node Row.Object i i (p + 1) ts))
+  list-object-turns : {i p : ℕ} {ts : Forest} → Tok s i LCurly → PropertiesTurn s (i + 1) p ts → Tok s p RCurly → Turns s i (p + 1) (one (node Row.Object i i (p + 1) ts))
   list-object-turns {i} {p} {ts} o d c = object-turns i i (p + 1) ts (λ us records e f. go us (properties-last d [] us records e f))
     where
-      go : (us : Forest) → LastProperties w s (i + 1) p ts [] us → Derives w s AssignmentPattern i (p + 1) (one (node Row.TargetObject i i (p + 1) us))
+      go : (us : Forest) → LastProperties s (i + 1) p ts [] us → Derives s AssignmentPattern i (p + 1) (one (node Row.TargetObject i i (p + 1) us))
       go us (plain-properties n l) = D.target-object-list o l c
       go us (rest-property-only n x l) = D.target-object-rest o l c
       go us (rest-property-after q xs ys n x l t r e) = rw e (D.target-object-list-rest o l t r c)
 
   -- { PropertyDefinitionList , }
-  comma-object-turns : {i p : ℕ} {ts : Forest} → Tok s i LCurly → PropertiesTurn w s (i + 1) p ts → Tok s p Comma → Tok s (p + 1) RCurly
-      → Turns w s i (p + 2) (one (node (object-row ts) i i (p + 2) ts))
+  comma-object-turns : {i p : ℕ} {ts : Forest} → Tok s i LCurly → PropertiesTurn s (i + 1) p ts → Tok s p Comma → Tok s (p + 1) RCurly
+      → Turns s i (p + 2) (one (node (object-row ts) i i (p + 2) ts))
   unfolding object-row
   comma-object-turns {i} {p} {ts} o d t c = by (ends-in-spread ts) refl
     where
-      open-pattern : ends-in-spread ts ≡ false → (us : Forest) → LastProperties w s (i + 1) p ts [] us → Derives w s AssignmentPattern i (p + 2) (one (node Row.TargetObject i i (p + 2) us))
+      open-pattern : ends-in-spread ts ≡ false → (us : Forest) → LastProperties s (i + 1) p ts [] us → Derives s AssignmentPattern i (p + 2) (one (node Row.TargetObject i i (p + 2) us))
       open-pattern b us (plain-properties n l) = D.target-object-comma o l t c
       open-pattern b us (rest-property-only n x l) = absurd (not-both n b)
       open-pattern b us (rest-property-after q xs ys n x l t′ r e) = absurd (not-both n b)
 
-      closed-pattern : ends-in-spread ts ≡ true → (us : Forest) → LastProperties w s (i + 1) p ts (rest-comma i ∷ []) us → Derives w s AssignmentPattern i (p + 2) (one (node Row.TargetObject i i (p + 2) us))
+      closed-pattern : ends-in-spread ts ≡ true → (us : Forest) → LastProperties s (i + 1) p ts (rest-comma i ∷ []) us → Derives s AssignmentPattern i (p + 2) (one (node Row.TargetObject i i (p + 2) us))
       closed-pattern b us (plain-properties n l) = absurd (not-both b n)
-      closed-pattern b us (rest-property-only n x l) = D.target-object-rest-comma (must-be-wider w x) o l t c
-      closed-pattern b us (rest-property-after q xs ys n x l t′ r e) = rw e (D.target-object-list-rest-comma (must-be-wider w x) o l t′ r t c)
+      closed-pattern b us (rest-property-only n x l) = absurd (said x)
+      closed-pattern b us (rest-property-after q xs ys n x l t′ r e) = absurd (said x)
 
-      by : (b : Bool) → ends-in-spread ts ≡ b → Turns w s i (p + 2) (one (node (if b then Row.ObjectRestComma else Row.Object) i i (p + 2) ts))
+      by : (b : Bool) → ends-in-spread ts ≡ b → Turns s i (p + 2) (one (node (if b then Row.ObjectRestComma else Row.Object) i i (p + 2) ts))
       by true b = object-closed-turns i i (p + 2) ts (sym (spread-is-last ts) ∙ b) (λ us records e f. closed-pattern b us (properties-last d (rest-comma i ∷ []) us records e f))
       by false b = object-turns i i (p + 2) ts (λ us records e f. open-pattern b us (properties-last d [] us records e f))
 
@@ -594,9 +595,9 @@ alike {role} kind mark first end kids h x = go x
     go (as-last comma) =
         rw (differs Row.Array refl, differs Row.ArrayRestComma refl, differs Row.Object refl, differs Row.ObjectRestComma refl, differs Row.Assign refl, differs Row.CompoundAssign refl, differs Row.Hole refl, differs Row.Spread refl)
 
-module _ {w : Width} {s : Sheet} where
+module _ {s : Sheet} where
   -- a simple target is a target in each role
-  wrap : {role : Role} {i j : ℕ} {ts : Forest} → Expected role → Derives w s SimpleTarget i j ts → Derives w s (aim role) i j ts
+  wrap : {role : Role} {i j : ℕ} {ts : Forest} → Expected role → Derives s SimpleTarget i j ts → Derives s (aim role) i j ts
   wrap as-target d = D.target-simple d
   wrap as-simple-target d = d
   wrap as-content d = D.target-element (D.target-simple d)
@@ -604,27 +605,27 @@ module _ {w : Width} {s : Sheet} where
   wrap (as-last comma) d = D.target-element (D.target-simple d)
 
   simple-turns : {i j : ℕ} (kind mark first end : ℕ) (ts : Forest) → simple-kind kind ≡ true
-      → ((u : Tree) (records : List Record) → convert-as (node kind mark first end ts) simple ≡ turned u records → Fits w records → Derives w s SimpleTarget i j (one u))
-      → Turns w s i j (one (node kind mark first end ts))
+      → ((u : Tree) (records : List Record) → convert-as (node kind mark first end ts) simple ≡ turned u records → Silent records → Derives s SimpleTarget i j (one u))
+      → Turns s i j (one (node kind mark first end ts))
   unfolding first-tree
   simple-turns kind mark first end ts k h = record { with = λ x u records e f. wrap x (h u records (sym (alike kind mark first end ts k x) ∙ e) f) }
 
-  name-turns : {i : ℕ} → Of is-name s i → Turns w s i (i + 1) (one (leaf Row.Identifier i))
+  name-turns : {i : ℕ} → OneOf identifiers s i → Turns s i (i + 1) (one (leaf Row.Identifier i))
   unfolding simple-kind convert-as change as-simple seen over
   name-turns {i} n = simple-turns Row.Identifier i i (i + 1) nil refl (λ u records e f. rw (kept e .is-row) (D.target-name n))
 
-  index-turns : {c : Chain} {i p q : ℕ} {ts us : Forest} → Derives w s (ChainExpression c) i p ts → Tok s p LBrack → Derives w s Expression (p + 1) q us → Tok s q RBrack
-      → Turns w s i (q + 1) (one (node Row.Index i i (q + 1) (join ts us)))
+  index-turns : {c : Links} {i p q : ℕ} {ts us : Forest} → Derives s (LinkedExpression c) i p ts → Tok s p LBrack → Derives s Expression (p + 1) q us → Tok s q RBrack
+      → Turns s i (q + 1) (one (node Row.Index i i (q + 1) (join ts us)))
   unfolding simple-kind convert-as change as-simple seen over
   index-turns {i = i} {q = q} {ts} {us} d o e c = simple-turns Row.Index i i (q + 1) (join ts us) refl (λ u records x f. rw (kept x .is-row) (D.target-index d o e c))
 
-  member-turns : {c : Chain} {i p : ℕ} {ts : Forest} → Derives w s (ChainExpression c) i p ts → Tok s p Dot → Of is-word s (p + 1)
-      → Turns w s i (p + 2) (one (node Row.Member (p + 1) i (p + 2) ts))
+  member-turns : {c : Links} {i p : ℕ} {ts : Forest} → Derives s (LinkedExpression c) i p ts → Tok s p Dot → OneOf identifier-names s (p + 1)
+      → Turns s i (p + 2) (one (node Row.Member (p + 1) i (p + 2) ts))
   unfolding simple-kind convert-as change as-simple seen over
   member-turns {i = i} {p} {ts} d o e = simple-turns Row.Member (p + 1) i (p + 2) ts refl (λ u records x f. rw (kept x .is-row) (D.target-member d o e))
 
   -- ( Expression ) over a simple target
-  paren-turns : {i p : ℕ} {ts : Forest} → Tok s i LParen → Root s (i + 1) p ts → Turns w s (i + 1) p ts → Tok s p RParen → Turns w s i (p + 1) (one (node Row.Paren i i (p + 1) ts))
+  paren-turns : {i p : ℕ} {ts : Forest} → Tok s i LParen → Root s (i + 1) p ts → Turns s (i + 1) p ts → Tok s p RParen → Turns s i (p + 1) (one (node Row.Paren i i (p + 1) ts))
   unfolding simple-kind convert-as change as-simple seen roles over
   paren-turns {i} {p} {ts} o r h c =
       simple-turns Row.Paren i i (p + 1) ts refl (λ u records e f. go (eqb (count ts) 1 and not (is-array-or-object (kind-of (last-of ts)))) u records e f)
@@ -632,39 +633,39 @@ module _ {w : Width} {s : Sheet} where
       either : Bool → Change
       either b = if b then turn Row.TargetParen [] (only simple) [] else C.refuse (Cause.Target i)
 
-      go : (b : Bool) (u : Tree) (records : List Record) → over (either b) (node Row.Paren i i (p + 1) ts) (convert-kids ts (roles (either b))) ≡ turned u records → Fits w records
-          → Derives w s SimpleTarget i (p + 1) (one u)
+      go : (b : Bool) (u : Tree) (records : List Record) → over (either b) (node Row.Paren i i (p + 1) ts) (convert-kids ts (roles (either b))) ≡ turned u records → Silent records
+          → Derives s SimpleTarget i (p + 1) (one u)
       go true u records e f =
           let x = over-turn Row.TargetParen Row.Paren i i (p + 1) [] [] (only simple) ts (convert-kids ts (only simple)) u records e in
           let q = single (first-tree ts) (only simple) (x .into) (x .said) (ap (λ (v : Forest). convert-kids v (only simple)) (sym (r .lone)) ∙ x .kids-turn) in
-          let d = h .with as-simple-target (q .into) (x .said) (q .turns) (subst (Fits w) (x .are ∙ append-nil (x .said)) f) in
+          let d = h .with as-simple-target (q .into) (x .said) (q .turns) (subst Silent (x .are ∙ append-nil (x .said)) f) in
           rw (x .is-row, q .is-forest) (D.target-parenthesized o d c)
       go false u records e f = never e
 
   -- LeftHandSideExpression = AssignmentExpression as an element with its Initializer
-  assign-turns : {i p j : ℕ} {ts us : Forest} → Derives w s DestructuringAssignmentTarget i p ts → Tok s p Eq → Derives w s AssignmentExpression (p + 1) j us
-      → Turns w s i j (one (node Row.Assign p i j (join ts us)))
+  assign-turns : {i p j : ℕ} {ts us : Forest} → Derives s DestructuringAssignmentTarget i p ts → Tok s p Eq → Derives s AssignmentExpression (p + 1) j us
+      → Turns s i j (one (node Row.Assign p i j (join ts us)))
   unfolding first-tree convert-as change as-any as-simple as-value as-element as-last-element seen over
   assign-turns {i} {p} {j} {ts} {us} d t x = record { with = go }
     where
-      go : {role : Role} → Expected role → (u : Tree) (records : List Record) → convert-as (first-tree (one (node Row.Assign p i j (join ts us)))) role ≡ turned u records → Fits w records
-          → Derives w s (aim role) i j (one u)
+      go : {role : Role} → Expected role → (u : Tree) (records : List Record) → convert-as (first-tree (one (node Row.Assign p i j (join ts us)))) role ≡ turned u records → Silent records
+          → Derives s (aim role) i j (one u)
       go as-target u records e f = never e
       go as-simple-target u records e f = never e
       go as-content u records e f = rw (kept e .is-row) (D.target-default d t x)
       go as-middle u records e f = rw (kept e .is-row) (D.target-default d t x)
       go (as-last comma) u records e f = rw (kept e .is-row) (D.target-default d t x)
 
-  compound-turns : {i p j : ℕ} {ts us : Forest} → Derives w s SimpleTarget i p ts → Of D.is-compound s p → Derives w s AssignmentExpression (p + 1) j us
-      → Turns w s i j (one (node Row.CompoundAssign p i j (join ts us)))
+  compound-turns : {i p j : ℕ} {ts us : Forest} → Derives s SimpleTarget i p ts → OneOf assignment-operators s p → Derives s AssignmentExpression (p + 1) j us
+      → Turns s i j (one (node Row.CompoundAssign p i j (join ts us)))
   unfolding first-tree convert-as change as-any as-simple as-value as-element as-last-element seen over
   compound-turns {i} {p} {j} {ts} {us} d t x = record { with = go }
     where
-      made : (u : Tree) (records : List Record) → turned (node Row.TargetDefault p i j (join ts us)) (compound-default p ∷ []) ≡ turned u records → Fits w records → Derives w s AssignmentElement i j (one u)
-      made u records e f = let k = kept e in rw (k .is-row) (D.target-compound (must-be-wider w (subst (Fits w) (k .are) f)) d t x)
+      made : (u : Tree) (records : List Record) → turned (node Row.TargetDefault p i j (join ts us)) (compound-default p ∷ []) ≡ turned u records → Silent records → Derives s AssignmentElement i j (one u)
+      made u records e f = let k = kept e in absurd (said (subst Silent (k .are) f))
 
-      go : {role : Role} → Expected role → (u : Tree) (records : List Record) → convert-as (first-tree (one (node Row.CompoundAssign p i j (join ts us)))) role ≡ turned u records → Fits w records
-          → Derives w s (aim role) i j (one u)
+      go : {role : Role} → Expected role → (u : Tree) (records : List Record) → convert-as (first-tree (one (node Row.CompoundAssign p i j (join ts us)))) role ≡ turned u records → Silent records
+          → Derives s (aim role) i j (one u)
       go as-target u records e f = never e
       go as-simple-target u records e f = never e
       go as-content u records e f = made u records e f
@@ -672,12 +673,12 @@ module _ {w : Width} {s : Sheet} where
       go (as-last comma) u records e f = made u records e f
 
   -- a row that is no target
-  stays : {i j : ℕ} (kind mark first end : ℕ) (ts : Forest) → turnable kind ≡ false → Turns w s i j (one (node kind mark first end ts))
+  stays : {i j : ℕ} (kind mark first end : ℕ) (ts : Forest) → turnable kind ≡ false → Turns s i j (one (node kind mark first end ts))
   unfolding first-tree
   stays kind mark first end ts k = record { with = λ {role} x u records e f. absurd (refuses kind mark first end ts k role x u records e) }
 
   -- ELEMENTS AND PROPERTIES, ONE BY ONE
-  plain-element-turns : {i j : ℕ} {ts : Forest} → Root s i j ts → Turns w s i j ts → ElementTurns w s i j ts
+  plain-element-turns : {i j : ℕ} {ts : Forest} → Root s i j ts → Turns s i j ts → ElementTurns s i j ts
   plain-element-turns {ts = ts} r h =
       record {
         tree = first-tree ts;
@@ -686,26 +687,26 @@ module _ {w : Width} {s : Sheet} where
         at-end = λ comma u records e f. last-plain (r .no-spread) (h .with (as-last comma) u records e f);
       }
 
-  spread-element-turns : {i j : ℕ} {ts : Forest} → Tok s i Dot3 → Root s (i + 1) j ts → Turns w s (i + 1) j ts → ElementTurns w s i j (one (node Row.Spread i i j ts))
+  spread-element-turns : {i j : ℕ} {ts : Forest} → Tok s i Dot3 → Root s (i + 1) j ts → Turns s (i + 1) j ts → ElementTurns s i j (one (node Row.Spread i i j ts))
   unfolding convert-as change as-element as-last-element seen roles over kind-of
   spread-element-turns {i} {j} {ts} t r h = record { tree = node Row.Spread i i j ts; is-one = refl; in-middle = λ u records e f. never e; at-end = λ comma u records e f. go comma (eqb (count ts) 1) u records e f }
     where
       either : List Record → Bool → Change
       either comma b = if b then turn Row.TargetRest (array-argument (last-of ts)) (only any) comma else C.refuse (Cause.Spread i)
 
-      go : (comma : List Record) (b : Bool) (u : Tree) (records : List Record) → over (either comma b) (node Row.Spread i i j ts) (convert-kids ts (roles (either comma b))) ≡ turned u records → Fits w records
-          → LastElement w s i j (node Row.Spread i i j ts) comma u
+      go : (comma : List Record) (b : Bool) (u : Tree) (records : List Record) → over (either comma b) (node Row.Spread i i j ts) (convert-kids ts (roles (either comma b))) ≡ turned u records → Silent records
+          → LastElement s i j (node Row.Spread i i j ts) comma u
       go comma true u records e f =
           let before = array-argument (last-of ts) in
           let x = over-turn Row.TargetRest Row.Spread i i j before comma (only any) ts (convert-kids ts (only any)) u records e in
           let q = single (first-tree ts) (only any) (x .into) (x .said) (ap (λ (v : Forest). convert-kids v (only any)) (sym (r .lone)) ∙ x .kids-turn) in
-          let y = subst (Fits w) (x .are) f in
-          let g = fits-right w before (x .said) (fits-left w (before ++ x .said) comma y) in
+          let y = subst Silent (x .are) f in
+          let g = silent-right before (x .said) (silent-left (before ++ x .said) comma y) in
           let d = h .with as-target (q .into) (x .said) (q .turns) g in
-          last-rest refl (fits-right w (before ++ x .said) comma y) (rw (x .is-row, q .is-forest) (D.target-rest t d))
+          last-rest refl (silent-right (before ++ x .said) comma y) (rw (x .is-row, q .is-forest) (D.target-rest t d))
       go comma false u records e f = never e
 
-  spread-property-turns : {i j : ℕ} {ts : Forest} → Tok s i Dot3 → Root s (i + 1) j ts → Turns w s (i + 1) j ts → PropertyTurns w s i j (one (node Row.Spread i i j ts))
+  spread-property-turns : {i j : ℕ} {ts : Forest} → Tok s i Dot3 → Root s (i + 1) j ts → Turns s (i + 1) j ts → PropertyTurns s i j (one (node Row.Spread i i j ts))
   unfolding convert-as change as-property as-last-property seen roles over kind-of
   spread-property-turns {i} {j} {ts} t r h = record { tree = node Row.Spread i i j ts; is-one = refl; in-middle = λ u records e f. never e; at-end = λ comma u records e f. go comma (eqb (count ts) 1) u records e f }
     where
@@ -715,50 +716,50 @@ module _ {w : Width} {s : Sheet} where
       is-last : last-of ts ≡ first-tree ts
       is-last = ap last-of (r .lone)
 
-      rest : (u : Tree) (records : List Record) → Fits w (object-argument (last-of ts)) → convert-as (first-tree ts) any ≡ turned u records → Fits w records → (b : Bool) → is-array-or-object (kind-of (first-tree ts)) ≡ b
-          → Derives w s AssignmentRestProperty i j (one (node Row.TargetRest i i j (one u)))
+      rest : (u : Tree) (records : List Record) → Silent (object-argument (last-of ts)) → convert-as (first-tree ts) any ≡ turned u records → Silent records → (b : Bool) → is-array-or-object (kind-of (first-tree ts)) ≡ b
+          → Derives s AssignmentRestProperty i j (one (node Row.TargetRest i i j (one u)))
       rest u records a e f false b = D.target-rest-property t (h .with as-simple-target u records (sym (any-simple (first-tree ts) b) ∙ e) f)
       rest u records a e f true b = by (h .with as-target u records e f)
         where
-          by : Derives w s DestructuringAssignmentTarget (i + 1) j (one u) → Derives w s AssignmentRestProperty i j (one (node Row.TargetRest i i j (one u)))
+          by : Derives s DestructuringAssignmentTarget (i + 1) j (one u) → Derives s AssignmentRestProperty i j (one (node Row.TargetRest i i j (one u)))
           by (D.target-simple d) = D.target-rest-property t d
-          by (D.target-pattern d) = D.target-rest-pattern (must-be-wider w (subst (Fits w) (ap object-argument is-last ∙ literal-argument (first-tree ts) b) a)) t d
+          by (D.target-pattern d) = absurd (said (subst Silent (ap object-argument is-last ∙ literal-argument (first-tree ts) b) a))
 
-      go : (comma : List Record) (b : Bool) (u : Tree) (records : List Record) → over (either comma b) (node Row.Spread i i j ts) (convert-kids ts (roles (either comma b))) ≡ turned u records → Fits w records
-          → LastProperty w s i j (node Row.Spread i i j ts) comma u
+      go : (comma : List Record) (b : Bool) (u : Tree) (records : List Record) → over (either comma b) (node Row.Spread i i j ts) (convert-kids ts (roles (either comma b))) ≡ turned u records → Silent records
+          → LastProperty s i j (node Row.Spread i i j ts) comma u
       go comma true u records e f =
           let argument = object-argument (last-of ts) in
           let before = argument ++ comma in
           let x = over-turn Row.TargetRest Row.Spread i i j before [] (only any) ts (convert-kids ts (only any)) u records e in
           let q = single (first-tree ts) (only any) (x .into) (x .said) (ap (λ (v : Forest). convert-kids v (only any)) (sym (r .lone)) ∙ x .kids-turn) in
-          let y = fits-left w (before ++ x .said) [] (subst (Fits w) (x .are) f) in
-          let g = fits-right w before (x .said) y in
-          let k = fits-left w before (x .said) y in
-          let d = rest (q .into) (x .said) (fits-left w argument comma k) (q .turns) g (is-array-or-object (kind-of (first-tree ts))) refl in
-          last-rest-property refl (fits-right w argument comma k) (rw (x .is-row, q .is-forest) d)
+          let y = silent-left (before ++ x .said) [] (subst Silent (x .are) f) in
+          let g = silent-right before (x .said) y in
+          let k = silent-left before (x .said) y in
+          let d = rest (q .into) (x .said) (silent-left argument comma k) (q .turns) g (is-array-or-object (kind-of (first-tree ts))) refl in
+          last-rest-property refl (silent-right argument comma k) (rw (x .is-row, q .is-forest) d)
       go comma false u records e f = never e
 
   -- a property that is no Spread converts alike in the middle and as the last
   plain-property : {i j : ℕ} (kind mark first end : ℕ) (ts : Forest) → kind is Row.Spread ≡ false
-      → ((u : Tree) (records : List Record) → convert-as (node kind mark first end ts) property ≡ turned u records → Fits w records → Derives w s AssignmentProperty i j (one u))
-      → PropertyTurns w s i j (one (node kind mark first end ts))
+      → ((u : Tree) (records : List Record) → convert-as (node kind mark first end ts) property ≡ turned u records → Silent records → Derives s AssignmentProperty i j (one u))
+      → PropertyTurns s i j (one (node kind mark first end ts))
   unfolding convert-as change as-last-property seen roles kind-of
   plain-property kind mark first end ts k h =
       record { tree = node kind mark first end ts; is-one = refl; in-middle = h; at-end = λ comma u records e f. last-plain-property k (h u records (rw k at e) f) }
 
-  shorthand-turns : {i : ℕ} → Of is-name s i → PropertyTurns w s i (i + 1) (one (node Row.Shorthand i i (i + 1) (one (leaf Row.Identifier i))))
+  shorthand-turns : {i : ℕ} → OneOf identifiers s i → PropertyTurns s i (i + 1) (one (node Row.Shorthand i i (i + 1) (one (leaf Row.Identifier i))))
   unfolding convert-as convert-kids change as-property as-name seen roles over both count
   shorthand-turns {i} n = plain-property Row.Shorthand i i (i + 1) (one (leaf Row.Identifier i)) refl (λ u records e f. rw (kept e .is-row) (D.target-shorthand n))
 
-  cover-turns : {i j : ℕ} (t : Tree) → Of is-name s i → Tok s (i + 1) Eq → Derives w s AssignmentExpression (i + 2) j (one t)
-      → PropertyTurns w s i j (one (node Row.ShorthandInit (i + 1) i j (cons (leaf Row.Identifier i) (one t))))
+  cover-turns : {i j : ℕ} (t : Tree) → OneOf identifiers s i → Tok s (i + 1) Eq → Derives s AssignmentExpression (i + 2) j (one t)
+      → PropertyTurns s i j (one (node Row.ShorthandInit (i + 1) i j (cons (leaf Row.Identifier i) (one t))))
   unfolding convert-as convert-kids change as-property as-name seen roles over both count
   cover-turns {i} {j} t n o d =
       plain-property Row.ShorthandInit (i + 1) i j (cons (leaf Row.Identifier i) (one t)) refl
       (λ u records e f. rw (kept (rw (same-stays t) at e) .is-row) (D.target-shorthand-default n o d))
 
-  property-turns : {i p j : ℕ} (k t : Tree) → Derives w s PropertyName i p (one k) → Tok s p Colon → Turns w s (p + 1) j (one t)
-      → PropertyTurns w s i j (one (node Row.Property i i j (cons k (one t))))
+  property-turns : {i p j : ℕ} (k t : Tree) → Derives s PropertyName i p (one k) → Tok s p Colon → Turns s (p + 1) j (one t)
+      → PropertyTurns s i j (one (node Row.Property i i j (cons k (one t))))
   unfolding first-tree convert-as convert-kids change as-property seen roles count join
   property-turns {i} {p} {j} k t d o h =
       plain-property Row.Property i i j (cons k (one t)) refl
@@ -767,94 +768,94 @@ module _ {w : Width} {s : Sheet} where
       let y = two (convert-as k same) (convert-kids (one t) key-and-value) (x .into) (x .said) (x .kids-turn) in
       let z = kept (sym (same-stays k) ∙ y .head-turns) in
       let q = single t key-and-value (y .tail) (y .tail-said) (y .tail-turns) in
-      let g : Fits w (y .head-said ++ y .tail-said) = subst (Fits w) (x .are ∙ append-nil (x .said) ∙ y .are) f in
-      let v = h .with as-content (q .into) (y .tail-said) (q .turns) (fits-right w (y .head-said) (y .tail-said) g) in
+      let g : Silent (y .head-said ++ y .tail-said) = subst Silent (x .are ∙ append-nil (x .said) ∙ y .are) f in
+      let v = h .with as-content (q .into) (y .tail-said) (q .turns) (silent-right (y .head-said) (y .tail-said) g) in
       rw (x .is-row, y .is-forest, z .is-row, q .is-forest) (D.target-property d o v))
 
 -- a property's key is one tree
-lone-key : {w : Width} {s : Sheet} {i j : ℕ} {ts : Forest} → Derives w s PropertyName i j ts → ts ≡ one (first-tree ts)
+lone-key : {s : Sheet} {i j : ℕ} {ts : Forest} → Derives s PropertyName i j ts → ts ≡ one (first-tree ts)
 unfolding first-tree
 lone-key (D.literal-name n) = refl
 lone-key (D.computed-name o d c) = refl
 
 -- forests of one tree, named
-cover-turns-at : {w : Width} {s : Sheet} {i j : ℕ} (ts : Forest) → ts ≡ one (first-tree ts) → Of is-name s i → Tok s (i + 1) Eq → Derives w s AssignmentExpression (i + 2) j ts
-    → PropertyTurns w s i j (one (node Row.ShorthandInit (i + 1) i j (cons (leaf Row.Identifier i) ts)))
-cover-turns-at {w} {s} {i} {j} ts q n o d =
-    subst (λ (v : Forest). PropertyTurns w s i j (one (node Row.ShorthandInit (i + 1) i j (cons (leaf Row.Identifier i) v)))) (sym q)
-    (cover-turns (first-tree ts) n o (subst (Derives w s AssignmentExpression (i + 2) j) q d))
+cover-turns-at : {s : Sheet} {i j : ℕ} (ts : Forest) → ts ≡ one (first-tree ts) → OneOf identifiers s i → Tok s (i + 1) Eq → Derives s AssignmentExpression (i + 2) j ts
+    → PropertyTurns s i j (one (node Row.ShorthandInit (i + 1) i j (cons (leaf Row.Identifier i) ts)))
+cover-turns-at {s} {i} {j} ts q n o d =
+    subst (λ (v : Forest). PropertyTurns s i j (one (node Row.ShorthandInit (i + 1) i j (cons (leaf Row.Identifier i) v)))) (sym q)
+    (cover-turns (first-tree ts) n o (subst (Derives s AssignmentExpression (i + 2) j) q d))
 
-property-turns-at : {w : Width} {s : Sheet} {i p j : ℕ} (ks ts : Forest) → ks ≡ one (first-tree ks) → ts ≡ one (first-tree ts) → Derives w s PropertyName i p ks → Tok s p Colon → Turns w s (p + 1) j ts
-    → PropertyTurns w s i j (one (node Row.Property i i j (join ks ts)))
+property-turns-at : {s : Sheet} {i p j : ℕ} (ks ts : Forest) → ks ≡ one (first-tree ks) → ts ≡ one (first-tree ts) → Derives s PropertyName i p ks → Tok s p Colon → Turns s (p + 1) j ts
+    → PropertyTurns s i j (one (node Row.Property i i j (join ks ts)))
 unfolding join
-property-turns-at {w} {s} {i} {p} {j} ks ts a b d o h =
+property-turns-at {s} {i} {p} {j} ks ts a b d o h =
     let e : join ks ts ≡ cons (first-tree ks) (one (first-tree ts)) = ap (λ (v : Forest). join v ts) a ∙ ap (cons (first-tree ks)) b in
-    subst (λ (v : Forest). PropertyTurns w s i j (one (node Row.Property i i j v))) (sym e)
-    (property-turns (first-tree ks) (first-tree ts) (subst (Derives w s PropertyName i p) a d) o (subst (Turns w s (p + 1) j) b h))
+    subst (λ (v : Forest). PropertyTurns s i j (one (node Row.Property i i j v))) (sym e)
+    (property-turns (first-tree ks) (first-tree ts) (subst (Derives s PropertyName i p) a d) o (subst (Turns s (p + 1) j) b h))
 
 -- the row of a tier is no target
-tier-stays : {w : Width} {s : Sheet} {i j : ℕ} (tier mark first end : ℕ) (ts : Forest) → Turns w s i j (one (node (tier-row tier) mark first end ts))
+tier-stays : {s : Sheet} {i j : ℕ} (tier mark first end : ℕ) (ts : Forest) → Turns s i j (one (node (tier-row tier) mark first end ts))
 unfolding tier-row turnable
-tier-stays {w} {s} {i} {j} tier mark first end ts = go (leb tier 3)
+tier-stays {s} {i} {j} tier mark first end ts = go (leb tier 3)
   where
-    go : (b : Bool) → Turns w s i j (one (node (if b then Row.Logical else Row.Binary) mark first end ts))
+    go : (b : Bool) → Turns s i j (one (node (if b then Row.Logical else Row.Binary) mark first end ts))
     go true = stays _ mark first end ts refl
     go false = stays _ mark first end ts refl
 
 -- EVERY EXPRESSION
 -- what is shown of each nonterminal: of the expressions, and of what stands in literals
-abbrev Made : Width → Sheet → Nonterminal → ℕ → ℕ → Forest → Type 0
-Made w s (ListOf x) i j ts = Each s (Made w s x) i j ts
-Made w s (Elided x) i j ts = Past w s (Made w s x) i j ts
-Made w s D.PrimaryExpression i j ts = Turns w s i j ts
-Made w s D.ArrayLiteral i j ts = Turns w s i j ts
-Made w s D.Elision i j ts = Unit {0}
-Made w s D.SpreadElement i j ts = ElementTurns w s i j ts × PropertyTurns w s i j ts
-Made w s D.Element i j ts = ElementTurns w s i j ts
-Made w s D.ObjectLiteral i j ts = Turns w s i j ts
-Made w s D.PropertyDefinition i j ts = PropertyTurns w s i j ts
-Made w s D.PropertyName i j ts = Unit {0}
-Made w s (D.ChainExpression c) i j ts = Turns w s i j ts
-Made w s D.Arguments i j ts = Unit {0}
-Made w s D.LeftHandSideExpression i j ts = Turns w s i j ts
-Made w s D.UpdateExpression i j ts = Turns w s i j ts
-Made w s D.UnaryExpression i j ts = Turns w s i j ts
-Made w s (D.TierExpression l) i j ts = Turns w s i j ts
-Made w s D.CoalesceExpressionHead i j ts = Unit {0}
-Made w s D.CoalesceExpression i j ts = Turns w s i j ts
-Made w s D.ShortCircuitExpression i j ts = Turns w s i j ts
-Made w s D.ConditionalExpression i j ts = Turns w s i j ts
-Made w s D.AssignmentExpression i j ts = Turns w s i j ts
-Made w s D.SimpleTarget i j ts = Unit {0}
-Made w s D.AssignmentPattern i j ts = Unit {0}
-Made w s D.DestructuringAssignmentTarget i j ts = Unit {0}
-Made w s D.AssignmentElement i j ts = Unit {0}
-Made w s D.AssignmentRestElement i j ts = Unit {0}
-Made w s D.AssignmentProperty i j ts = Unit {0}
-Made w s D.AssignmentRestProperty i j ts = Unit {0}
-Made w s (D.Commas c) i j ts = Unit {0}
-Made w s D.Expression i j ts = Turns w s i j ts
-Made w s D.Binding i j ts = Unit {0}
-Made w s D.BindingPattern i j ts = Unit {0}
-Made w s D.BindingElement i j ts = Unit {0}
-Made w s D.BindingRestElement i j ts = Unit {0}
-Made w s D.BindingProperty i j ts = Unit {0}
-Made w s D.BindingRestProperty i j ts = Unit {0}
-Made w s D.FormalParameters i j ts = Unit {0}
-Made w s D.ArrowFormalParameters i j ts = Unit {0}
-Made w s D.ArrowParameters i j ts = Unit {0}
-Made w s D.AsyncArrowHead i j ts = Unit {0}
-Made w s D.ConciseBody i j ts = Unit {0}
+abbrev Made : Sheet → Nonterminal → ℕ → ℕ → Forest → Type 0
+Made s (ListOf x) i j ts = Each s (Made s x) i j ts
+Made s (Elided x) i j ts = Past s (Made s x) i j ts
+Made s D.PrimaryExpression i j ts = Turns s i j ts
+Made s D.ArrayLiteral i j ts = Turns s i j ts
+Made s D.Elision i j ts = Unit {0}
+Made s D.SpreadElement i j ts = ElementTurns s i j ts × PropertyTurns s i j ts
+Made s D.Element i j ts = ElementTurns s i j ts
+Made s D.ObjectLiteral i j ts = Turns s i j ts
+Made s D.PropertyDefinition i j ts = PropertyTurns s i j ts
+Made s D.PropertyName i j ts = Unit {0}
+Made s (D.LinkedExpression c) i j ts = Turns s i j ts
+Made s D.Arguments i j ts = Unit {0}
+Made s D.LeftHandSideExpression i j ts = Turns s i j ts
+Made s D.UpdateExpression i j ts = Turns s i j ts
+Made s D.UnaryExpression i j ts = Turns s i j ts
+Made s (D.TierExpression l) i j ts = Turns s i j ts
+Made s D.CoalesceExpressionHead i j ts = Unit {0}
+Made s D.CoalesceExpression i j ts = Turns s i j ts
+Made s D.ShortCircuitExpression i j ts = Turns s i j ts
+Made s D.ConditionalExpression i j ts = Turns s i j ts
+Made s D.AssignmentExpression i j ts = Turns s i j ts
+Made s D.SimpleTarget i j ts = Unit {0}
+Made s D.AssignmentPattern i j ts = Unit {0}
+Made s D.DestructuringAssignmentTarget i j ts = Unit {0}
+Made s D.AssignmentElement i j ts = Unit {0}
+Made s D.AssignmentRestElement i j ts = Unit {0}
+Made s D.AssignmentProperty i j ts = Unit {0}
+Made s D.AssignmentRestProperty i j ts = Unit {0}
+Made s (D.Commas c) i j ts = Unit {0}
+Made s D.Expression i j ts = Turns s i j ts
+Made s D.Binding i j ts = Unit {0}
+Made s D.BindingPattern i j ts = Unit {0}
+Made s D.BindingElement i j ts = Unit {0}
+Made s D.BindingRestElement i j ts = Unit {0}
+Made s D.BindingProperty i j ts = Unit {0}
+Made s D.BindingRestProperty i j ts = Unit {0}
+Made s D.FormalParameters i j ts = Unit {0}
+Made s D.ArrowFormalParameters i j ts = Unit {0}
+Made s D.ArrowParameters i j ts = Unit {0}
+Made s D.AsyncArrowHead i j ts = Unit {0}
+Made s D.ConciseBody i j ts = Unit {0}
 
-all-elements : {w : Width} {s : Sheet} {i j : ℕ} {ts : Forest} → Each s (Past w s (ElementTurns w s)) i j ts → ElementsTurn w s i j ts
+all-elements : {s : Sheet} {i j : ℕ} {ts : Forest} → Each s (Past s (ElementTurns s)) i j ts → ElementsTurn s i j ts
 all-elements (each-one (past h d)) = first-element _ _ h d
 all-elements (each-more l t (past h d)) = next-element _ _ _ (all-elements l) t h d
 
-all-properties : {w : Width} {s : Sheet} {i j : ℕ} {ts : Forest} → Each s (PropertyTurns w s) i j ts → PropertiesTurn w s i j ts
+all-properties : {s : Sheet} {i j : ℕ} {ts : Forest} → Each s (PropertyTurns s) i j ts → PropertiesTurn s i j ts
 all-properties (each-one d) = first-property _ d
 all-properties (each-more l t d) = next-property _ _ (all-properties l) t d
 
-made : {w : Width} {s : Sheet} {x : Nonterminal} {i j : ℕ} {ts : Forest} → Derives w s x i j ts → Made w s x i j ts
+made : {s : Sheet} {x : Nonterminal} {i j : ℕ} {ts : Forest} → Derives s x i j ts → Made s x i j ts
 unfolding turnable
 made (D.first-of-list d) = each-one (made d)
 made (D.next-of-list l t d) = each-more (made l) t (made d)
@@ -886,7 +887,7 @@ made (D.primary d) = made d
 made (D.index d o e c) = index-turns d o e c
 made (D.member d o e) = member-turns d o e
 made (D.call _ _) = stays _ _ _ _ _ refl
-made (D.chain d) = made d
+made (D.linked d) = made d
 made (D.no-arguments _ _) = tt
 made (D.arguments _ _ _) = tt
 made (D.arguments-comma _ _ _ _) = tt
@@ -897,13 +898,11 @@ made (D.update d) = made d
 made (D.unary _ _) = stays _ _ _ _ _ refl
 made (D.no-power d) = made d
 made (D.power _ _ _) = stays _ _ _ _ _ refl
-made (D.power-of-unary _ _ _ _) = stays _ _ _ _ _ refl
-made (D.tier-up l d) = made d
-made (D.operation _ _ _ _) = tier-stays _ _ _ _ _
+made (D.no-operation l d) = made d
+made (D.operation l _ _ _) = rw (line l .row-is) (tier-stays _ _ _ _ _)
 made (D.head-coalesce _) = tt
 made (D.head-or _) = tt
 made (D.coalesce _ _ _) = stays _ _ _ _ _ refl
-made (D.coalesce-mixed _ _ _ _) = stays _ _ _ _ _ refl
 made (D.short-circuit-or d) = made d
 made (D.short-circuit-coalesce d) = made d
 made (D.short-circuit d) = made d
@@ -911,8 +910,6 @@ made (D.conditional _ _ _ _ _) = stays _ _ _ _ _ refl
 made (D.no-assignment d) = made d
 made (D.arrow _ _ _ _) = stays _ _ _ _ _ refl
 made (D.async-arrow _ _ _ _) = stays _ _ _ _ _ refl
-made (D.arrow-broken _ _ _ _) = stays _ _ _ _ _ refl
-made (D.async-arrow-broken _ _ _ _) = stays _ _ _ _ _ refl
 made (D.assign d t e) = assign-turns d t e
 made (D.compound-assign d t e) = compound-turns d t e
 made (D.target-name _) = tt
@@ -926,24 +923,18 @@ made (D.target-array-rest _ _ _) = tt
 made (D.target-array-list _ _ _) = tt
 made (D.target-array-comma _ _ _ _ _) = tt
 made (D.target-array-list-rest _ _ _ _ _) = tt
-made (D.target-array-rest-comma _ _ _ _ _) = tt
-made (D.target-array-list-rest-comma _ _ _ _ _ _ _) = tt
 made (D.target-object-empty _ _) = tt
 made (D.target-object-rest _ _ _) = tt
 made (D.target-object-list _ _ _) = tt
 made (D.target-object-comma _ _ _ _) = tt
 made (D.target-object-list-rest _ _ _ _ _) = tt
-made (D.target-object-rest-comma _ _ _ _ _) = tt
-made (D.target-object-list-rest-comma _ _ _ _ _ _ _) = tt
 made (D.target-element _) = tt
 made (D.target-default _ _ _) = tt
-made (D.target-compound _ _ _ _) = tt
 made (D.target-rest _ _) = tt
 made (D.target-shorthand _) = tt
 made (D.target-shorthand-default _ _ _) = tt
 made (D.target-property _ _ _) = tt
 made (D.target-rest-property _ _) = tt
-made (D.target-rest-pattern _ _ _) = tt
 made (D.no-comma d) = made d
 made (D.sequence _) = stays _ _ _ _ _ refl
 made (D.first-comma _ _ _) = tt
@@ -963,7 +954,6 @@ made (D.binding-array-list-rest _ _ _ _ _) = tt
 made (D.no-default _) = tt
 made (D.binding-default _ _ _) = tt
 made (D.binding-rest _ _) = tt
-made (D.binding-rest-default _ _ _) = tt
 made (D.binding-shorthand _) = tt
 made (D.binding-shorthand-default _ _ _) = tt
 made (D.binding-property _ _ _) = tt
@@ -981,21 +971,21 @@ made (D.async-name _ _ _) = tt
 made (D.async-parameters _ _ _) = tt
 
 -- THE STATEMENTS
-module _ {w : Width} {s : Sheet} {i j : ℕ} {t : Tree} where
-  pub unary-simple : Derives w s UnaryExpression i j (one t) → (u : Tree) (records : List Record) → convert-as t simple ≡ turned u records → Fits w records → Derives w s SimpleTarget i j (one u)
+module _ {s : Sheet} {i j : ℕ} {t : Tree} where
+  pub unary-simple : Derives s UnaryExpression i j (one t) → (u : Tree) (records : List Record) → convert-as t simple ≡ turned u records → Silent records → Derives s SimpleTarget i j (one u)
   unfolding first-tree
   unary-simple d u records e f = made d .with as-simple-target u records e f
 
-  pub left-simple : Derives w s LeftHandSideExpression i j (one t) → (u : Tree) (records : List Record) → convert-as t simple ≡ turned u records → Fits w records → Derives w s SimpleTarget i j (one u)
+  pub left-simple : Derives s LeftHandSideExpression i j (one t) → (u : Tree) (records : List Record) → convert-as t simple ≡ turned u records → Silent records → Derives s SimpleTarget i j (one u)
   unfolding first-tree
   left-simple d u records e f = made d .with as-simple-target u records e f
 
-  pub short-circuit-simple : Derives w s ShortCircuitExpression i j (one t) → (u : Tree) (records : List Record) → convert-as t simple ≡ turned u records → Fits w records
-      → Derives w s SimpleTarget i j (one u)
+  pub short-circuit-simple : Derives s ShortCircuitExpression i j (one t) → (u : Tree) (records : List Record) → convert-as t simple ≡ turned u records → Silent records
+      → Derives s SimpleTarget i j (one u)
   unfolding first-tree
   short-circuit-simple d u records e f = made d .with as-simple-target u records e f
 
-  pub short-circuit-any : Derives w s ShortCircuitExpression i j (one t) → (u : Tree) (records : List Record) → convert-as t any ≡ turned u records → Fits w records
-      → Derives w s DestructuringAssignmentTarget i j (one u)
+  pub short-circuit-any : Derives s ShortCircuitExpression i j (one t) → (u : Tree) (records : List Record) → convert-as t any ≡ turned u records → Silent records
+      → Derives s DestructuringAssignmentTarget i j (one u)
   unfolding first-tree
   short-circuit-any d u records e f = made d .with as-target u records e f

@@ -16,7 +16,8 @@ use Rattle.grammar.specs.Update.{is-update-operator}
 use Rattle.grammar.specs.Assignment.{is-async-name}
 use Rattle.laws.specs.Good.{and-left, and-right}
 use Rattle.standard.specs.Derives as D
-use Rattle.standard.specs.Derives.{Tok, Of, Operator, is-prefix, is-update, Chain, PrimaryExpression, ChainExpression, UpdateExpression, UnaryExpression, TierExpression, CoalesceExpression, ShortCircuitExpression, AssignmentExpression, SimpleTarget, AssignmentPattern, DestructuringAssignmentTarget, AssignmentElement, Width, Derives}
+use Rattle.standard.specs.Terminals.{Of, Operator, is-prefix, is-update, name, literal, prefix, update, line, operator}
+use Rattle.standard.specs.Derives.{Tok, one-of, OneOf, identifiers, literals, update-operators, unary-operators, Links, PrimaryExpression, LinkedExpression, UpdateExpression, UnaryExpression, TierExpression, CoalesceExpression, ShortCircuitExpression, AssignmentExpression, SimpleTarget, AssignmentPattern, DestructuringAssignmentTarget, AssignmentElement, Derives}
 use Rattle.standard.specs.Roots.{not-both}
 use Rattle.standard.specs.Brackets.{of-kind, Ends, arguments-group}
 
@@ -135,12 +136,12 @@ start-update : {s : Sheet} {i : ℕ} → Of is-update s i → Start s i
 unfolding is-start
 start-update {s} {i} t = record { starts = or-right (is-operand (token s i)) _ (or-right (is-prefix (token s i)) _ (t .holds)) }
 
-module _ {w : Width} {s : Sheet} where
-  operand-primary : {i j : ℕ} {ts : Forest} → Derives w s PrimaryExpression i j ts → Operand s i
+module _ {s : Sheet} where
+  operand-primary : {i j : ℕ} {ts : Forest} → Derives s PrimaryExpression i j ts → Operand s i
   unfolding is-operand is-name is-literal
   operand-primary (D.this t) = operand-kind _ refl t
-  operand-primary (D.identifier n) = operand-name n
-  operand-primary (D.literal t) = operand-literal t
+  operand-primary (D.identifier n) = operand-name (name n)
+  operand-primary (D.literal t) = operand-literal (literal t)
   operand-primary (D.array (D.array-empty o d c)) = operand-kind _ refl o
   operand-primary (D.array (D.array-list o d c)) = operand-kind _ refl o
   operand-primary (D.array (D.array-comma o d t e c)) = operand-kind _ refl o
@@ -149,90 +150,80 @@ module _ {w : Width} {s : Sheet} where
   operand-primary (D.object (D.object-comma o d t c)) = operand-kind _ refl o
   operand-primary (D.parenthesized o d c) = operand-kind _ refl o
 
-  pub operand-chain : {c : Chain} {i j : ℕ} {ts : Forest} → Derives w s (ChainExpression c) i j ts → Operand s i
+  pub operand-chain : {c : Links} {i j : ℕ} {ts : Forest} → Derives s (LinkedExpression c) i j ts → Operand s i
   operand-chain (D.primary d) = operand-primary d
   operand-chain (D.index d o e c) = operand-chain d
   operand-chain (D.member d o e) = operand-chain d
   operand-chain (D.call d e) = operand-chain d
 
-  pub operand-simple : {i j : ℕ} {ts : Forest} → Derives w s SimpleTarget i j ts → Operand s i
+  pub operand-simple : {i j : ℕ} {ts : Forest} → Derives s SimpleTarget i j ts → Operand s i
   unfolding is-operand is-name is-literal
-  operand-simple (D.target-name n) = operand-name n
+  operand-simple (D.target-name n) = operand-name (name n)
   operand-simple (D.target-index d o e c) = operand-chain d
   operand-simple (D.target-member d o e) = operand-chain d
   operand-simple (D.target-parenthesized o d c) = operand-kind _ refl o
 
-  operand-pattern : {i j : ℕ} {ts : Forest} → Derives w s AssignmentPattern i j ts → Operand s i
+  operand-pattern : {i j : ℕ} {ts : Forest} → Derives s AssignmentPattern i j ts → Operand s i
   unfolding is-operand is-name is-literal
   operand-pattern (D.target-array-empty o _ _) = operand-kind _ refl o
   operand-pattern (D.target-array-rest o _ _) = operand-kind _ refl o
   operand-pattern (D.target-array-list o _ _) = operand-kind _ refl o
   operand-pattern (D.target-array-comma o _ _ _ _) = operand-kind _ refl o
   operand-pattern (D.target-array-list-rest o _ _ _ _) = operand-kind _ refl o
-  operand-pattern (D.target-array-rest-comma _ o _ _ _) = operand-kind _ refl o
-  operand-pattern (D.target-array-list-rest-comma _ o _ _ _ _ _) = operand-kind _ refl o
   operand-pattern (D.target-object-empty o _) = operand-kind _ refl o
   operand-pattern (D.target-object-rest o _ _) = operand-kind _ refl o
   operand-pattern (D.target-object-list o _ _) = operand-kind _ refl o
   operand-pattern (D.target-object-comma o _ _ _) = operand-kind _ refl o
   operand-pattern (D.target-object-list-rest o _ _ _ _) = operand-kind _ refl o
-  operand-pattern (D.target-object-rest-comma _ o _ _ _) = operand-kind _ refl o
-  operand-pattern (D.target-object-list-rest-comma _ o _ _ _ _ _) = operand-kind _ refl o
 
-  pub operand-target : {i j : ℕ} {ts : Forest} → Derives w s DestructuringAssignmentTarget i j ts → Operand s i
+  pub operand-target : {i j : ℕ} {ts : Forest} → Derives s DestructuringAssignmentTarget i j ts → Operand s i
   operand-target (D.target-simple d) = operand-simple d
   operand-target (D.target-pattern d) = operand-pattern d
 
-  start-of-update : {i j : ℕ} {ts : Forest} → Derives w s UpdateExpression i j ts → Start s i
-  start-of-update (D.left-hand-side (D.chain d)) = as-start (operand-chain d)
+  start-of-update : {i j : ℕ} {ts : Forest} → Derives s UpdateExpression i j ts → Start s i
+  start-of-update (D.left-hand-side (D.linked d)) = as-start (operand-chain d)
   start-of-update (D.postfix d t l) = as-start (operand-simple d)
-  start-of-update (D.prefix t d) = start-update t
+  start-of-update (D.prefix t d) = start-update (update t)
 
-  start-of-unary : {i j : ℕ} {ts : Forest} → Derives w s UnaryExpression i j ts → Start s i
+  start-of-unary : {i j : ℕ} {ts : Forest} → Derives s UnaryExpression i j ts → Start s i
   start-of-unary (D.update d) = start-of-update d
-  start-of-unary (D.unary t d) = start-prefix t
+  start-of-unary (D.unary t d) = start-prefix (prefix t)
 
-  start-of-tier : {tier i j : ℕ} {ts : Forest} → Derives w s (TierExpression tier) i j ts → Start s i
+  start-of-tier : {tier i j : ℕ} {ts : Forest} → Derives s (TierExpression tier) i j ts → Start s i
   start-of-tier (D.no-power d) = start-of-unary d
   start-of-tier (D.power d t e) = start-of-update d
-  start-of-tier (D.power-of-unary q d t e) = start-of-unary d
-  start-of-tier (D.tier-up l d) = start-of-tier d
+  start-of-tier (D.no-operation l d) = start-of-tier d
   start-of-tier (D.operation l d t e) = start-of-tier d
 
-  start-of-coalesce : {i j : ℕ} {ts : Forest} → Derives w s CoalesceExpression i j ts → Start s i
+  start-of-coalesce : {i j : ℕ} {ts : Forest} → Derives s CoalesceExpression i j ts → Start s i
   start-of-coalesce (D.coalesce (D.head-coalesce d) t e) = start-of-coalesce d
   start-of-coalesce (D.coalesce (D.head-or d) t e) = start-of-tier d
-  start-of-coalesce (D.coalesce-mixed q (D.short-circuit-or d) t e) = start-of-tier d
-  start-of-coalesce (D.coalesce-mixed q (D.short-circuit-coalesce d) t e) = start-of-coalesce d
 
-  start-of-short-circuit : {i j : ℕ} {ts : Forest} → Derives w s ShortCircuitExpression i j ts → Start s i
+  start-of-short-circuit : {i j : ℕ} {ts : Forest} → Derives s ShortCircuitExpression i j ts → Start s i
   start-of-short-circuit (D.short-circuit-or d) = start-of-tier d
   start-of-short-circuit (D.short-circuit-coalesce d) = start-of-coalesce d
 
-  start-of-parameters : {i j : ℕ} {ts : Forest} → Derives w s D.ArrowParameters i j ts → Start s i
+  start-of-parameters : {i j : ℕ} {ts : Forest} → Derives s D.ArrowParameters i j ts → Start s i
   unfolding is-operand is-name is-literal
-  start-of-parameters (D.arrow-name n) = as-start (operand-name n)
+  start-of-parameters (D.arrow-name n) = as-start (operand-name (name n))
   start-of-parameters (D.arrow-parameters (D.arrow-formal-parameters o d c)) = as-start (operand-kind _ refl o)
 
-  start-of-async : {i j : ℕ} {ts : Forest} → Derives w s D.AsyncArrowHead i j ts → Start s i
+  start-of-async : {i j : ℕ} {ts : Forest} → Derives s D.AsyncArrowHead i j ts → Start s i
   unfolding is-operand is-name is-literal
   start-of-async (D.async-name t n l) = as-start (operand-kind _ refl t)
   start-of-async (D.async-parameters t l d) = as-start (operand-kind _ refl t)
 
-  pub start-of-assignment : {i j : ℕ} {ts : Forest} → Derives w s AssignmentExpression i j ts → Start s i
+  pub start-of-assignment : {i j : ℕ} {ts : Forest} → Derives s AssignmentExpression i j ts → Start s i
   start-of-assignment (D.no-assignment (D.short-circuit d)) = start-of-short-circuit d
   start-of-assignment (D.no-assignment (D.conditional d t e u f)) = start-of-short-circuit d
   start-of-assignment (D.arrow d t l e) = start-of-parameters d
   start-of-assignment (D.async-arrow d t l e) = start-of-async d
-  start-of-assignment (D.arrow-broken q d t e) = start-of-parameters d
-  start-of-assignment (D.async-arrow-broken q d t e) = start-of-async d
   start-of-assignment (D.assign d t e) = as-start (operand-target d)
   start-of-assignment (D.compound-assign d t e) = as-start (operand-simple d)
 
-  pub start-of-element : {i j : ℕ} {ts : Forest} → Derives w s AssignmentElement i j ts → Start s i
+  pub start-of-element : {i j : ℕ} {ts : Forest} → Derives s AssignmentElement i j ts → Start s i
   start-of-element (D.target-element d) = as-start (operand-target d)
   start-of-element (D.target-default d t e) = as-start (operand-target d)
-  start-of-element (D.target-compound q d t e) = as-start (operand-simple d)
 
 -- A NAME AFTER A NAME
 -- where a name begins an expression that goes on, what follows the name is no name
@@ -268,12 +259,12 @@ nameless n test a b c d e t = go (is-name (n)) refl
         let n1 = differs 1 a in let n2 = differs 2 b in let n3 = differs 3 c in let n4 = differs 4 d in let n5 = differs 5 e in
         absurd (omega arith)
 
-module _ {w : Width} {s : Sheet} where
-  second-primary : {i j : ℕ} {ts : Forest} → Derives w s PrimaryExpression i j ts → Second s i j
+module _ {s : Sheet} where
+  second-primary : {i j : ℕ} {ts : Forest} → Derives s PrimaryExpression i j ts → Second s i j
   unfolding is-name is-literal
   second-primary (D.this t) = no-name _ refl t
   second-primary (D.identifier n) = record { alone = λ a b. refl }
-  second-primary (D.literal {i = i} t) = no-name-test (nameless (token s i) is-literal refl refl refl refl refl (t .holds))
+  second-primary (D.literal {i = i} t) = no-name-test (nameless (token s i) (one-of literals) refl refl refl refl refl (t .holds))
   second-primary (D.array (D.array-empty o d c)) = no-name _ refl o
   second-primary (D.array (D.array-list o d c)) = no-name _ refl o
   second-primary (D.array (D.array-comma o d t e c)) = no-name _ refl o
@@ -282,69 +273,60 @@ module _ {w : Width} {s : Sheet} where
   second-primary (D.object (D.object-comma o d t c)) = no-name _ refl o
   second-primary (D.parenthesized o d c) = no-name _ refl o
 
-  second-chain : {c : Chain} {i j : ℕ} {ts : Forest} → Derives w s (ChainExpression c) i j ts → Second s i j
+  second-chain : {c : Links} {i j : ℕ} {ts : Forest} → Derives s (LinkedExpression c) i j ts → Second s i j
   unfolding is-name
   second-chain (D.primary d) = second-primary d
   second-chain (D.index d o e c) = goes-on (second-chain d) (kind-no-name _ refl o)
   second-chain (D.member d o e) = goes-on (second-chain d) (kind-no-name _ refl o)
   second-chain (D.call d e) = goes-on (second-chain d) (kind-no-name _ refl (arguments-group e .1 .opens))
 
-  pub second-simple : {i j : ℕ} {ts : Forest} → Derives w s SimpleTarget i j ts → Second s i j
+  pub second-simple : {i j : ℕ} {ts : Forest} → Derives s SimpleTarget i j ts → Second s i j
   unfolding is-name
   second-simple (D.target-name n) = record { alone = λ a b. refl }
   second-simple (D.target-index d o e c) = goes-on (second-chain d) (kind-no-name _ refl o)
   second-simple (D.target-member d o e) = goes-on (second-chain d) (kind-no-name _ refl o)
   second-simple (D.target-parenthesized o d c) = no-name _ refl o
 
-  second-pattern : {i j : ℕ} {ts : Forest} → Derives w s AssignmentPattern i j ts → Second s i j
+  second-pattern : {i j : ℕ} {ts : Forest} → Derives s AssignmentPattern i j ts → Second s i j
   unfolding is-name
   second-pattern (D.target-array-empty o _ _) = no-name _ refl o
   second-pattern (D.target-array-rest o _ _) = no-name _ refl o
   second-pattern (D.target-array-list o _ _) = no-name _ refl o
   second-pattern (D.target-array-comma o _ _ _ _) = no-name _ refl o
   second-pattern (D.target-array-list-rest o _ _ _ _) = no-name _ refl o
-  second-pattern (D.target-array-rest-comma _ o _ _ _) = no-name _ refl o
-  second-pattern (D.target-array-list-rest-comma _ o _ _ _ _ _) = no-name _ refl o
   second-pattern (D.target-object-empty o _) = no-name _ refl o
   second-pattern (D.target-object-rest o _ _) = no-name _ refl o
   second-pattern (D.target-object-list o _ _) = no-name _ refl o
   second-pattern (D.target-object-comma o _ _ _) = no-name _ refl o
   second-pattern (D.target-object-list-rest o _ _ _ _) = no-name _ refl o
-  second-pattern (D.target-object-rest-comma _ o _ _ _) = no-name _ refl o
-  second-pattern (D.target-object-list-rest-comma _ o _ _ _ _ _) = no-name _ refl o
 
-  pub second-target : {i j : ℕ} {ts : Forest} → Derives w s DestructuringAssignmentTarget i j ts → Second s i j
+  pub second-target : {i j : ℕ} {ts : Forest} → Derives s DestructuringAssignmentTarget i j ts → Second s i j
   second-target (D.target-simple d) = second-simple d
   second-target (D.target-pattern d) = second-pattern d
 
-  second-update : {i j : ℕ} {ts : Forest} → Derives w s UpdateExpression i j ts → Second s i j
-  unfolding is-update
-  second-update (D.left-hand-side (D.chain d)) = second-chain d
-  second-update (D.postfix {p = p} d t l) = goes-on (second-simple d) (nameless (token s p) is-update refl refl refl refl refl (t .holds))
-  second-update (D.prefix {i = i} t d) = no-name-test (nameless (token s i) is-update refl refl refl refl refl (t .holds))
+  second-update : {i j : ℕ} {ts : Forest} → Derives s UpdateExpression i j ts → Second s i j
+  second-update (D.left-hand-side (D.linked d)) = second-chain d
+  second-update (D.postfix {p = p} d t l) = goes-on (second-simple d) (nameless (token s p) (one-of update-operators) refl refl refl refl refl (t .holds))
+  second-update (D.prefix {i = i} t d) = no-name-test (nameless (token s i) (one-of update-operators) refl refl refl refl refl (t .holds))
 
-  second-unary : {i j : ℕ} {ts : Forest} → Derives w s UnaryExpression i j ts → Second s i j
-  unfolding is-prefix
+  second-unary : {i j : ℕ} {ts : Forest} → Derives s UnaryExpression i j ts → Second s i j
   second-unary (D.update d) = second-update d
-  second-unary (D.unary {i = i} t d) = no-name-test (nameless (token s i) is-prefix refl refl refl refl refl (t .holds))
+  second-unary (D.unary {i = i} t d) = no-name-test (nameless (token s i) (one-of unary-operators) refl refl refl refl refl (t .holds))
 
-  second-tier : {tier i j : ℕ} {ts : Forest} → Derives w s (TierExpression tier) i j ts → Second s i j
+  second-tier : {tier i j : ℕ} {ts : Forest} → Derives s (TierExpression tier) i j ts → Second s i j
   unfolding is-name expression-level level
   second-tier (D.no-power d) = second-unary d
   second-tier (D.power d t e) = goes-on (second-update d) (kind-no-name _ refl t)
-  second-tier (D.power-of-unary q d t e) = goes-on (second-unary d) (kind-no-name _ refl t)
-  second-tier (D.tier-up l d) = second-tier d
+  second-tier (D.no-operation l d) = second-tier d
   second-tier (D.operation {p = p} l d t e) =
-      goes-on (second-tier d) (nameless (token s p) (λ k. leb 1 (expression-level k)) refl refl refl refl refl (positive-level (expression-level (token s p)) _ l (t .level-is)))
+      goes-on (second-tier d) (nameless (token s p) (λ k. leb 1 (expression-level k)) refl refl refl refl refl (positive-level (expression-level (token s p)) _ (line l .low) (operator l t .level-is)))
 
-  second-coalesce : {i j : ℕ} {ts : Forest} → Derives w s CoalesceExpression i j ts → Second s i j
+  second-coalesce : {i j : ℕ} {ts : Forest} → Derives s CoalesceExpression i j ts → Second s i j
   unfolding is-name
   second-coalesce (D.coalesce (D.head-coalesce d) t e) = goes-on (second-coalesce d) (kind-no-name _ refl t)
   second-coalesce (D.coalesce (D.head-or d) t e) = goes-on (second-tier d) (kind-no-name _ refl t)
-  second-coalesce (D.coalesce-mixed q (D.short-circuit-or d) t e) = goes-on (second-tier d) (kind-no-name _ refl t)
-  second-coalesce (D.coalesce-mixed q (D.short-circuit-coalesce d) t e) = goes-on (second-coalesce d) (kind-no-name _ refl t)
 
-  pub second-short-circuit : {i j : ℕ} {ts : Forest} → Derives w s ShortCircuitExpression i j ts → Second s i j
+  pub second-short-circuit : {i j : ℕ} {ts : Forest} → Derives s ShortCircuitExpression i j ts → Second s i j
   second-short-circuit (D.short-circuit-or d) = second-tier d
   second-short-circuit (D.short-circuit-coalesce d) = second-coalesce d
 

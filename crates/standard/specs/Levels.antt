@@ -15,7 +15,10 @@ use Rattle.operators.specs.Precedence.{tiers, among, level-from, level, express
 use Rattle.rows.specs.Row as Row
 use Rattle.grammar.specs.Binary.{operation-kind, right-floor}
 use Rattle.laws.specs.Good.{and-left, and-right}
-use Rattle.standard.specs.Derives.{tier-row}
+
+-- the row of a level: `||` and `&&`, 2 and 3, make a Logical row, the levels above a Binary one
+unfoldable pub tier-row : ℕ → ℕ
+tier-row tier = if leb tier 3 then Row.Logical else Row.Binary
 
 -- the tier of the level l + m is the one m further on
 tier-has : (l m : ℕ) (rest : List (List ℕ)) (k : ℕ) → 1 ≤ l → level-from l rest k ≡ l + m → (among (getD rest m []) k ≡ true) × (m < length rest)

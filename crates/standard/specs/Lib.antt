@@ -1,5 +1,6 @@
 pub mod Derives
 pub mod Levels
+pub mod Terminals
 pub mod Roots
 pub mod Means
 pub mod Convert
@@ -12,4 +13,5 @@ pub mod Parts
 pub mod Sources
 pub mod Complete
 pub mod Unambiguous
+pub mod Targets
 pub mod Examples

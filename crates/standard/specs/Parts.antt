@@ -30,10 +30,11 @@ use Rattle.laws.specs.Steady.{Comes, comes-done, comes-fail, settles}
 use Rattle.laws.specs.Bounds.{bounded}
 use Rattle.laws.specs.Good.{inside}
 use Rattle.standard.specs.Derives as D
-use Rattle.standard.specs.Derives.{Tok, Of, SameLine, Operator, is-key, is-prefix, is-update, Elision, ends-in-spread, array-row, object-row, tier-row, standard, Derives}
-use Rattle.standard.specs.Levels.{power-floor, other-floor, row-of-tier}
+use Rattle.standard.specs.Terminals.{Of, Operator, is-key, is-prefix, is-update}
+use Rattle.standard.specs.Derives.{Tok, SameLine, Elision, ends-in-spread, array-row, object-row, Derives}
+use Rattle.standard.specs.Levels.{tier-row, power-floor, other-floor, row-of-tier}
 use Rattle.standard.specs.Roots.{not-both, spread-last, Each, each-one, each-more, Past, past}
-use Rattle.standard.specs.Sound.{sound-wider}
+use Rattle.brackets.specs.Readings as Readings
 use Rattle.standard.specs.Brackets.{Opening, async-opening, other-opening, no-head}
 use Rattle.standard.specs.Follow.{is-closer, Closed, closed-by, test-not, closed-test, Tail, tail-kind, closed-tail, closed-level, operator-tail, is-operand, Operand, operand-name, Second, no-async-name, closed-no-name, positive-level}
 use Rattle.standard.specs.Rules as R
@@ -45,7 +46,7 @@ pub refuses-head : {s : Sheet} {i : ℕ} → Opening s i → Refuses s (J.head i
 refuses-head {s} {i} o = go (settles plain s (J.head i) (omega arith) tt)
   where
     go : Comes plain s (J.head i) tt → Refuses s (J.head i)
-    go (comes-done end trees records after h) = absurd (no-head o (sound-wider plain s (μ s (J.head i)) (J.head i) tt (h .with (μ s (J.head i)) (omega arith))))
+    go (comes-done end trees records after h) = absurd (no-head o (Readings.balanced plain s (μ s (J.head i)) (J.head i) tt (h .with (μ s (J.head i)) (omega arith))))
     go (comes-fail cause after h) = record { cause = cause; settles = h }
 
 pub past-head : {s : Sheet} {i j : ℕ} {ts : Forest} → Opening s i → Reads s (J.value i) j ts → Reads s (J.assignment i) j ts
@@ -116,7 +117,7 @@ abbrev pub properties-from : ℕ → ℕ → Forest → Job
 properties-from first at so-far = J.properties first at (object-row so-far) so-far
 
 -- the holes of an elision, and what comes after them
-pub holes-then : {s : Sheet} {first i p : ℕ} {hs : Forest} → Derives standard s Elision i p hs → (so-far : Forest) {e : ℕ} {out : Forest} → Reads s (elements-from first p (join so-far hs)) e out
+pub holes-then : {s : Sheet} {first i p : ℕ} {hs : Forest} → Derives s Elision i p hs → (so-far : Forest) {e : ℕ} {out : Forest} → Reads s (elements-from first p (join so-far hs)) e out
     → Reads s (elements-from first i so-far) e out
 unfolding array-row kind-of
 holes-then {s} {first} {i} D.no-elision so-far {e} {out} r = subst (λ (v : Forest). Reads s (elements-from first i v) e out) (join-nil so-far) r
@@ -129,7 +130,7 @@ holes-then {s} {first} {i} (D.elision {p = p} {ts = hs} d t) so-far {e} {out} r 
     hole-kind = ap array-row (sym (join-assoc so-far hs (one (leaf Row.Hole p)))) ∙ ap (λ (b : Bool). if b then Row.ArrayRestComma else Row.Array) (spread-last (join so-far hs) (leaf Row.Hole p))
 
 -- one more element of an array, and what comes after it
-pub element-item : {s : Sheet} (first at p : ℕ) (so-far us : Forest) (e : ℕ) (out : Forest) → Past standard s (ItemDone s) at p us → After s (elements-from first) (Closing s RBrack Row.Array first) p (join so-far us) e out
+pub element-item : {s : Sheet} (first at p : ℕ) (so-far us : Forest) (e : ℕ) (out : Forest) → Past s (ItemDone s) at p us → After s (elements-from first) (Closing s RBrack Row.Array first) p (join so-far us) e out
     → Reads s (elements-from first at so-far) e out
 unfolding array-row
 element-item {s} first at p so-far _ e out (past {p = q} {hs = hs} {ts = ts} h x) a = holes-then h so-far (go (subst (λ (v : Forest). After s (elements-from first) (Closing s RBrack Row.Array first) p v e out) (sym (join-assoc so-far hs ts)) a))
@@ -142,18 +143,18 @@ element-item {s} first at p so-far _ e out (past {p = q} {hs = hs} {ts = ts} h x
 
 module _ {s : Sheet} where
   -- [ Elision opt ]
-  pub array-empty-reads : {i p : ℕ} {ts : Forest} → Tok s i LBrack → Derives standard s Elision (i + 1) p ts → Tok s p RBrack → Reads s (J.primary i) (p + 1) (one (node (array-row ts) i i (p + 1) ts))
+  pub array-empty-reads : {i p : ℕ} {ts : Forest} → Tok s i LBrack → Derives s Elision (i + 1) p ts → Tok s p RBrack → Reads s (J.primary i) (p + 1) (one (node (array-row ts) i i (p + 1) ts))
   unfolding join array-row ends-in-spread
   array-empty-reads o d c = R.primary-array o (holes-then d nil (R.elements-end c))
 
   -- [ ElementList ]
-  pub array-list-reads : {i p : ℕ} {ts : Forest} → Tok s i LBrack → Each s (Past standard s (ItemDone s)) (i + 1) p ts → Tok s p RBrack → Reads s (J.primary i) (p + 1) (one (node Row.Array i i (p + 1) ts))
+  pub array-list-reads : {i p : ℕ} {ts : Forest} → Tok s i LBrack → Each s (Past s (ItemDone s)) (i + 1) p ts → Tok s p RBrack → Reads s (J.primary i) (p + 1) (one (node Row.Array i i (p + 1) ts))
   unfolding join array-row ends-in-spread
   array-list-reads {i} {p} {ts} o l c =
       R.primary-array o (loop (elements-from i) (Closing s RBrack Row.Array i) (element-item i) l nil (p + 1) (one (node Row.Array i i (p + 1) ts)) (and-close (closing c)))
 
   -- [ ElementList , Elision opt ]
-  pub array-comma-reads : {i p q : ℕ} {ts us : Forest} → Tok s i LBrack → Each s (Past standard s (ItemDone s)) (i + 1) p ts → Tok s p Comma → Derives standard s Elision (p + 1) q us → Tok s q RBrack
+  pub array-comma-reads : {i p q : ℕ} {ts us : Forest} → Tok s i LBrack → Each s (Past s (ItemDone s)) (i + 1) p ts → Tok s p Comma → Derives s Elision (p + 1) q us → Tok s q RBrack
       → Reads s (J.primary i) (q + 1) (one (node (array-row (join ts us)) i i (q + 1) (join ts us)))
   unfolding join array-row ends-in-spread
   array-comma-reads {i} {q = q} {ts} {us} o l t d c =
@@ -247,14 +248,14 @@ pub record RestPropertyBound (s : Sheet) (i j : ℕ) (ts : Forest) : Type 0 wher
   pub is-name-only : kind-of (first-tree (kids-of (first-tree ts))) is Row.BindingName ≡ true
 
 -- the holes of an elision in a pattern, and what comes after them
-pub binding-holes-then : {s : Sheet} {first i p : ℕ} {hs : Forest} → Derives standard s Elision i p hs → (so-far : Forest) {e : ℕ} {out : Forest} → Reads s (J.binding-elements first p (join so-far hs)) e out
+pub binding-holes-then : {s : Sheet} {first i p : ℕ} {hs : Forest} → Derives s Elision i p hs → (so-far : Forest) {e : ℕ} {out : Forest} → Reads s (J.binding-elements first p (join so-far hs)) e out
     → Reads s (J.binding-elements first i so-far) e out
 binding-holes-then {s} {first} {i} D.no-elision so-far {e} {out} r = subst (λ (v : Forest). Reads s (J.binding-elements first i v) e out) (join-nil so-far) r
 binding-holes-then {s} {first} {i} (D.elision {p = p} {ts = hs} d t) so-far {e} {out} r =
     binding-holes-then d so-far (R.binding-elements-hole t (subst (λ (v : Forest). Reads s (J.binding-elements first (p + 1) v) e out) (sym (join-assoc so-far hs (one (leaf Row.Hole p)))) r))
 
 -- one more element of an array pattern, and what comes after it
-pub bound-item : {s : Sheet} (first at p : ℕ) (so-far us : Forest) (e : ℕ) (out : Forest) → Past standard s (ElementBound s) at p us
+pub bound-item : {s : Sheet} (first at p : ℕ) (so-far us : Forest) (e : ℕ) (out : Forest) → Past s (ElementBound s) at p us
     → After s (J.binding-elements first) (Closing s RBrack Row.BindingArray first) p (join so-far us) e out → Reads s (J.binding-elements first at so-far) e out
 bound-item {s} first at p so-far _ e out (past {p = q} {hs = hs} {ts = ts} h x) a =
     binding-holes-then h so-far (go (subst (λ (v : Forest). After s (J.binding-elements first) (Closing s RBrack Row.BindingArray first) p v e out) (sym (join-assoc so-far hs ts)) a))
@@ -271,26 +272,26 @@ bound-property first at p so-far us _ _ x (and-close (closing t)) = R.binding-pr
 
 module _ {s : Sheet} where
   -- the rest of an array pattern, after holes
-  pub rest-reads : {first i p : ℕ} {us : Forest} (so-far : Forest) → Past standard s (RestBound s) i p us → Tok s p RBrack
+  pub rest-reads : {first i p : ℕ} {us : Forest} (so-far : Forest) → Past s (RestBound s) i p us → Tok s p RBrack
       → Reads s (J.binding-elements first i so-far) (p + 1) (one (node Row.BindingArray first first (p + 1) (join so-far us)))
   rest-reads {first} {i} {p} so-far (past {hs = hs} {ts = ts} h x) c =
       subst (λ (v : Forest). Reads s (J.binding-elements first i so-far) (p + 1) (one (node Row.BindingArray first first (p + 1) v))) (join-assoc so-far hs ts)
       (binding-holes-then h so-far (R.binding-elements-rest (x .dots) (x .reads (closed-bracket c)) c))
 
-  pub bound-array-empty : {i p : ℕ} {ts : Forest} → Tok s i LBrack → Derives standard s Elision (i + 1) p ts → Tok s p RBrack → Reads s (J.binding i) (p + 1) (one (node Row.BindingArray i i (p + 1) ts))
+  pub bound-array-empty : {i p : ℕ} {ts : Forest} → Tok s i LBrack → Derives s Elision (i + 1) p ts → Tok s p RBrack → Reads s (J.binding i) (p + 1) (one (node Row.BindingArray i i (p + 1) ts))
   unfolding join
   bound-array-empty o d c = R.binding-array o (binding-holes-then d nil (R.binding-elements-end c))
 
-  pub bound-array-rest : {i p : ℕ} {ts : Forest} → Tok s i LBrack → Past standard s (RestBound s) (i + 1) p ts → Tok s p RBrack → Reads s (J.binding i) (p + 1) (one (node Row.BindingArray i i (p + 1) ts))
+  pub bound-array-rest : {i p : ℕ} {ts : Forest} → Tok s i LBrack → Past s (RestBound s) (i + 1) p ts → Tok s p RBrack → Reads s (J.binding i) (p + 1) (one (node Row.BindingArray i i (p + 1) ts))
   unfolding join
   bound-array-rest o x c = R.binding-array o (rest-reads nil x c)
 
-  pub bound-array-list : {i p : ℕ} {ts : Forest} → Tok s i LBrack → Each s (Past standard s (ElementBound s)) (i + 1) p ts → Tok s p RBrack → Reads s (J.binding i) (p + 1) (one (node Row.BindingArray i i (p + 1) ts))
+  pub bound-array-list : {i p : ℕ} {ts : Forest} → Tok s i LBrack → Each s (Past s (ElementBound s)) (i + 1) p ts → Tok s p RBrack → Reads s (J.binding i) (p + 1) (one (node Row.BindingArray i i (p + 1) ts))
   unfolding join
   bound-array-list {i} {p} {ts} o l c =
       R.binding-array o (loop (J.binding-elements i) (Closing s RBrack Row.BindingArray i) (bound-item i) l nil (p + 1) (one (node Row.BindingArray i i (p + 1) ts)) (and-close (closing c)))
 
-  pub bound-array-comma : {i p q : ℕ} {ts us : Forest} → Tok s i LBrack → Each s (Past standard s (ElementBound s)) (i + 1) p ts → Tok s p Comma → Derives standard s Elision (p + 1) q us → Tok s q RBrack
+  pub bound-array-comma : {i p q : ℕ} {ts us : Forest} → Tok s i LBrack → Each s (Past s (ElementBound s)) (i + 1) p ts → Tok s p Comma → Derives s Elision (p + 1) q us → Tok s q RBrack
       → Reads s (J.binding i) (q + 1) (one (node Row.BindingArray i i (q + 1) (join ts us)))
   unfolding join
   bound-array-comma {i} {q = q} {ts} {us} o l t d c =
@@ -298,7 +299,7 @@ module _ {s : Sheet} where
       (loop (J.binding-elements i) (Closing s RBrack Row.BindingArray i) (bound-item i) l nil (q + 1) (one (node Row.BindingArray i i (q + 1) (join ts us)))
       (and-comma t (binding-holes-then d ts (R.binding-elements-end c))))
 
-  pub bound-array-list-rest : {i p q : ℕ} {ts us : Forest} → Tok s i LBrack → Each s (Past standard s (ElementBound s)) (i + 1) p ts → Tok s p Comma → Past standard s (RestBound s) (p + 1) q us → Tok s q RBrack
+  pub bound-array-list-rest : {i p q : ℕ} {ts us : Forest} → Tok s i LBrack → Each s (Past s (ElementBound s)) (i + 1) p ts → Tok s p Comma → Past s (RestBound s) (p + 1) q us → Tok s q RBrack
       → Reads s (J.binding i) (q + 1) (one (node Row.BindingArray i i (q + 1) (join ts us)))
   unfolding join
   bound-array-list-rest {i} {q = q} {ts} {us} o l t x c =

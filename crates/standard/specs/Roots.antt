@@ -13,11 +13,13 @@ use Rattle.rows.specs.Row as Row
 use Rattle.rows.proofs.Rows.{join-nil, join-assoc}
 use Rattle.grammar.specs.Sheet.{Sheet, leaf, first-tree}
 use Rattle.standard.specs.Derives as D
-use Rattle.standard.specs.Derives.{Tok, Of, Chain, Nonterminal, ListOf, Elided, Elision, PrimaryExpression, ArrayLiteral, ObjectLiteral, ChainExpression, LeftHandSideExpression, UpdateExpression, UnaryExpression, TierExpression, CoalesceExpression, ShortCircuitExpression, ConditionalExpression, AssignmentExpression, Expression, ends-in-spread, array-row, object-row, tier-row, Width, Derives}
+use Rattle.standard.specs.Levels.{tier-row}
+use Rattle.standard.specs.Terminals.{line}
+use Rattle.standard.specs.Derives.{Tok, OneOf, identifiers, Links, Nonterminal, ListOf, Elided, Elision, PrimaryExpression, ArrayLiteral, ObjectLiteral, LinkedExpression, LeftHandSideExpression, UpdateExpression, UnaryExpression, TierExpression, CoalesceExpression, ShortCircuitExpression, ConditionalExpression, AssignmentExpression, Expression, ends-in-spread, array-row, object-row, Derives}
 
 -- one name stands from i to j
 pub record NameAt (s : Sheet) (i j : ℕ) : Type 0 where
-  pub name : Of is-name s i
+  pub name : OneOf identifiers s i
   pub ends : j ≡ i + 1
 
 pub record Root (s : Sheet) (i j : ℕ) (ts : Forest) : Type 0 where
@@ -59,18 +61,18 @@ tier-other {s} {i} {j} tier mark first end kids = go (leb tier 3)
     go true = other _ mark first end kids refl refl
     go false = other _ mark first end kids refl refl
 
-module _ {w : Width} {s : Sheet} where
-  root-array : {i j : ℕ} {ts : Forest} → Derives w s ArrayLiteral i j ts → Root s i j ts
+module _ {s : Sheet} where
+  root-array : {i j : ℕ} {ts : Forest} → Derives s ArrayLiteral i j ts → Root s i j ts
   root-array (D.array-empty o d c) = other _ _ _ _ _ refl refl
   root-array (D.array-list o d c) = other _ _ _ _ _ refl refl
   root-array (D.array-comma o d t e c) = array-other _ _ _ _
 
-  root-object : {i j : ℕ} {ts : Forest} → Derives w s ObjectLiteral i j ts → Root s i j ts
+  root-object : {i j : ℕ} {ts : Forest} → Derives s ObjectLiteral i j ts → Root s i j ts
   root-object (D.object-empty o c) = other _ _ _ _ _ refl refl
   root-object (D.object-list o d c) = other _ _ _ _ _ refl refl
   root-object (D.object-comma o d t c) = object-other _ _ _ _
 
-  pub root-primary : {i j : ℕ} {ts : Forest} → Derives w s PrimaryExpression i j ts → Root s i j ts
+  pub root-primary : {i j : ℕ} {ts : Forest} → Derives s PrimaryExpression i j ts → Root s i j ts
   unfolding kind-of first-tree
   root-primary (D.this t) = other _ _ _ _ _ refl refl
   root-primary (D.identifier t) = record { lone = refl; no-spread = refl; named = λ e. record { name = t; ends = refl } }
@@ -79,53 +81,49 @@ module _ {w : Width} {s : Sheet} where
   root-primary (D.object d) = root-object d
   root-primary (D.parenthesized o d c) = other _ _ _ _ _ refl refl
 
-  pub root-chain : {c : Chain} {i j : ℕ} {ts : Forest} → Derives w s (ChainExpression c) i j ts → Root s i j ts
+  pub root-chain : {c : Links} {i j : ℕ} {ts : Forest} → Derives s (LinkedExpression c) i j ts → Root s i j ts
   root-chain (D.primary d) = root-primary d
   root-chain (D.index d o e c) = other _ _ _ _ _ refl refl
   root-chain (D.member d o e) = other _ _ _ _ _ refl refl
   root-chain (D.call d e) = other _ _ _ _ _ refl refl
 
-  pub root-left-hand-side : {i j : ℕ} {ts : Forest} → Derives w s LeftHandSideExpression i j ts → Root s i j ts
-  root-left-hand-side (D.chain d) = root-chain d
+  pub root-left-hand-side : {i j : ℕ} {ts : Forest} → Derives s LeftHandSideExpression i j ts → Root s i j ts
+  root-left-hand-side (D.linked d) = root-chain d
 
-  pub root-update : {i j : ℕ} {ts : Forest} → Derives w s UpdateExpression i j ts → Root s i j ts
+  pub root-update : {i j : ℕ} {ts : Forest} → Derives s UpdateExpression i j ts → Root s i j ts
   root-update (D.left-hand-side d) = root-left-hand-side d
   root-update (D.postfix d t l) = other _ _ _ _ _ refl refl
   root-update (D.prefix t d) = other _ _ _ _ _ refl refl
 
-  pub root-unary : {i j : ℕ} {ts : Forest} → Derives w s UnaryExpression i j ts → Root s i j ts
+  pub root-unary : {i j : ℕ} {ts : Forest} → Derives s UnaryExpression i j ts → Root s i j ts
   root-unary (D.update d) = root-update d
   root-unary (D.unary t d) = other _ _ _ _ _ refl refl
 
-  pub root-tier : {tier i j : ℕ} {ts : Forest} → Derives w s (TierExpression tier) i j ts → Root s i j ts
+  pub root-tier : {tier i j : ℕ} {ts : Forest} → Derives s (TierExpression tier) i j ts → Root s i j ts
   root-tier (D.no-power d) = root-unary d
   root-tier (D.power d t e) = other _ _ _ _ _ refl refl
-  root-tier (D.power-of-unary q d t e) = other _ _ _ _ _ refl refl
-  root-tier (D.tier-up l d) = root-tier d
-  root-tier (D.operation l d t e) = tier-other _ _ _ _ _
+  root-tier (D.no-operation l d) = root-tier d
+  root-tier (D.operation l d t e) = rw (line l .row-is) (tier-other _ _ _ _ _)
 
-  pub root-coalesce : {i j : ℕ} {ts : Forest} → Derives w s CoalesceExpression i j ts → Root s i j ts
+  pub root-coalesce : {i j : ℕ} {ts : Forest} → Derives s CoalesceExpression i j ts → Root s i j ts
   root-coalesce (D.coalesce d t e) = other _ _ _ _ _ refl refl
-  root-coalesce (D.coalesce-mixed q d t e) = other _ _ _ _ _ refl refl
 
-  pub root-short-circuit : {i j : ℕ} {ts : Forest} → Derives w s ShortCircuitExpression i j ts → Root s i j ts
+  pub root-short-circuit : {i j : ℕ} {ts : Forest} → Derives s ShortCircuitExpression i j ts → Root s i j ts
   root-short-circuit (D.short-circuit-or d) = root-tier d
   root-short-circuit (D.short-circuit-coalesce d) = root-coalesce d
 
-  pub root-conditional : {i j : ℕ} {ts : Forest} → Derives w s ConditionalExpression i j ts → Root s i j ts
+  pub root-conditional : {i j : ℕ} {ts : Forest} → Derives s ConditionalExpression i j ts → Root s i j ts
   root-conditional (D.short-circuit d) = root-short-circuit d
   root-conditional (D.conditional d t e u f) = other _ _ _ _ _ refl refl
 
-  pub root-assignment : {i j : ℕ} {ts : Forest} → Derives w s AssignmentExpression i j ts → Root s i j ts
+  pub root-assignment : {i j : ℕ} {ts : Forest} → Derives s AssignmentExpression i j ts → Root s i j ts
   root-assignment (D.no-assignment d) = root-conditional d
   root-assignment (D.arrow d t l e) = other _ _ _ _ _ refl refl
   root-assignment (D.async-arrow d t l e) = other _ _ _ _ _ refl refl
-  root-assignment (D.arrow-broken q d t e) = other _ _ _ _ _ refl refl
-  root-assignment (D.async-arrow-broken q d t e) = other _ _ _ _ _ refl refl
   root-assignment (D.assign d t e) = other _ _ _ _ _ refl refl
   root-assignment (D.compound-assign d t e) = other _ _ _ _ _ refl refl
 
-  pub root-expression : {i j : ℕ} {ts : Forest} → Derives w s Expression i j ts → Root s i j ts
+  pub root-expression : {i j : ℕ} {ts : Forest} → Derives s Expression i j ts → Root s i j ts
   root-expression (D.no-comma d) = root-assignment d
   root-expression (D.sequence d) = other _ _ _ _ _ refl refl
 
@@ -138,30 +136,30 @@ spread-last (cons u (cons v vs)) t = spread-last (cons v vs) t
 
 -- LISTS BEGUN
 -- a list of x that began at i, up to a place where an x could start
-pub data Begun (w : Width) (s : Sheet) (x : Nonterminal) (i at : ℕ) (so-far : Forest) : Type 0 where
-  none-yet : at ≡ i → so-far ≡ nil → Begun w s x i at so-far
-  after-comma : (p : ℕ) → Derives w s (ListOf x) i p so-far → Tok s p Comma → at ≡ p + 1 → Begun w s x i at so-far
+pub data Begun (s : Sheet) (x : Nonterminal) (i at : ℕ) (so-far : Forest) : Type 0 where
+  none-yet : at ≡ i → so-far ≡ nil → Begun s x i at so-far
+  after-comma : (p : ℕ) → Derives s (ListOf x) i p so-far → Tok s p Comma → at ≡ p + 1 → Begun s x i at so-far
 
-pub one-more : {w : Width} {s : Sheet} {x : Nonterminal} {i at e : ℕ} (so-far us : Forest) → Begun w s x i at so-far → Derives w s x at e us → Derives w s (ListOf x) i e (join so-far us)
+pub one-more : {s : Sheet} {x : Nonterminal} {i at e : ℕ} (so-far us : Forest) → Begun s x i at so-far → Derives s x at e us → Derives s (ListOf x) i e (join so-far us)
 unfolding join
 one-more so-far us (none-yet q r) d = rw r (D.first-of-list (rw q at d))
 one-more so-far us (after-comma p l t q) d = D.next-of-list l t (rw q at d)
 
 -- the same, of a list with elisions
-pub data BegunElided (w : Width) (s : Sheet) (x : Nonterminal) (i at : ℕ) (so-far : Forest) : Type 0 where
-  only-holes : Derives w s Elision i at so-far → BegunElided w s x i at so-far
-  after-list : (p : ℕ) (ts us : Forest) → Derives w s (ListOf (Elided x)) i p ts → Tok s p Comma → Derives w s Elision (p + 1) at us → so-far ≡ join ts us → BegunElided w s x i at so-far
+pub data BegunElided (s : Sheet) (x : Nonterminal) (i at : ℕ) (so-far : Forest) : Type 0 where
+  only-holes : Derives s Elision i at so-far → BegunElided s x i at so-far
+  after-list : (p : ℕ) (ts us : Forest) → Derives s (ListOf (Elided x)) i p ts → Tok s p Comma → Derives s Elision (p + 1) at us → so-far ≡ join ts us → BegunElided s x i at so-far
 
-module _ {w : Width} {s : Sheet} {x : Nonterminal} {i at : ℕ} where
-  pub one-hole-more : (so-far : Forest) → BegunElided w s x i at so-far → Tok s at Comma → BegunElided w s x i (at + 1) (join so-far (one (leaf Row.Hole at)))
+module _ {s : Sheet} {x : Nonterminal} {i at : ℕ} where
+  pub one-hole-more : (so-far : Forest) → BegunElided s x i at so-far → Tok s at Comma → BegunElided s x i (at + 1) (join so-far (one (leaf Row.Hole at)))
   one-hole-more so-far (only-holes d) t = only-holes (D.elision d t)
   one-hole-more so-far (after-list p ts us l c d q) t = after-list p ts (join us (one (leaf Row.Hole at))) l c (D.elision d t) (rw q (join-assoc ts us (one (leaf Row.Hole at))))
 
-  pub one-element-more : {e : ℕ} (so-far us : Forest) → BegunElided w s x i at so-far → Derives w s x at e us → Derives w s (ListOf (Elided x)) i e (join so-far us)
+  pub one-element-more : {e : ℕ} (so-far us : Forest) → BegunElided s x i at so-far → Derives s x at e us → Derives s (ListOf (Elided x)) i e (join so-far us)
   one-element-more so-far us (only-holes h) d = D.first-of-list (D.elided h d)
   one-element-more so-far us (after-list p ts vs l c h q) d = rw (q, join-assoc ts vs us) (D.next-of-list l c (D.elided h d))
 
-pub list-and-comma : {w : Width} {s : Sheet} {x : Nonterminal} {i p : ℕ} (ts : Forest) → Derives w s (ListOf (Elided x)) i p ts → Tok s p Comma → BegunElided w s x i (p + 1) ts
+pub list-and-comma : {s : Sheet} {x : Nonterminal} {i p : ℕ} (ts : Forest) → Derives s (ListOf (Elided x)) i p ts → Tok s p Comma → BegunElided s x i (p + 1) ts
 list-and-comma {p = p} ts l t = after-list p ts nil l t D.no-elision (sym (join-nil ts))
 
 -- WHAT HOLDS OF EACH ITEM OF A LIST
@@ -171,5 +169,5 @@ pub data Each (s : Sheet) (P : ℕ → ℕ → Forest → Type 0) (i : ℕ) : �
   each-more : {p j : ℕ} {ts us : Forest} → Each s P i p ts → Tok s p Comma → P (p + 1) j us → Each s P i j (join ts us)
 
 -- P of what follows an elision
-pub data Past (w : Width) (s : Sheet) (P : ℕ → ℕ → Forest → Type 0) (i j : ℕ) : Forest → Type 0 where
-  past : {p : ℕ} {hs ts : Forest} → Derives w s Elision i p hs → P p j ts → Past w s P i j (join hs ts)
+pub data Past (s : Sheet) (P : ℕ → ℕ → Forest → Type 0) (i j : ℕ) : Forest → Type 0 where
+  past : {p : ℕ} {hs ts : Forest} → Derives s Elision i p hs → P p j ts → Past s P i j (join hs ts)

@@ -30,7 +30,8 @@ use Rattle.grammar.specs.Step.{step, read}
 use Rattle.laws.specs.Settles.{μ, rank, Settles}
 use Rattle.grammar.specs.Reading.{plain}
 use Rattle.laws.specs.Bounds.{bounded}
-use Rattle.standard.specs.Derives.{Tok, Of}
+use Rattle.standard.specs.Terminals.{Of}
+use Rattle.standard.specs.Derives.{Tok}
 
 -- the plain reader reads the nonterminal so, without a record
 pub record Reads (s : Sheet) (job : Job) (j : ℕ) (ts : Forest) : Type 0 where

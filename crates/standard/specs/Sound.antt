@@ -1,4 +1,4 @@
--- SOUND: every reading that is done, under any policy, is derived: in the wider grammar with any records, in the standard's if there are none.
+-- SOUND: every reading that is done with no record, under any policy, is derived.
 -- What a nonterminal of the reader means is `Meant`; the statements stand at the end.
 -- Assumes nothing.
 use Prim.Native.Nat.{ℕ, zero, suc, _+_, _≤_, _<_}
@@ -33,40 +33,36 @@ use Rattle.grammar.specs.Step.{step, read}
 use Rattle.laws.specs.Good.{Reads, Answers, Preserved, good, good-done, Stands, test, token-test, chooses, notes, and-left, and-right}
 use Rattle.laws.specs.Bounds.{Any, Nothing}
 use Rattle.standard.specs.Derives as D
-use Rattle.standard.specs.Derives.{Tok, Of, SameLine, Operator, is-key, is-prefix, is-update, is-compound, Chain, Nonterminal, PrimaryExpression, ArrayLiteral, Elision, SpreadElement, Element, ObjectLiteral, PropertyDefinition, PropertyName, ChainExpression, LeftHandSideExpression, UpdateExpression, UnaryExpression, TierExpression, CoalesceExpressionHead, CoalesceExpression, ShortCircuitExpression, ConditionalExpression, AssignmentExpression, SimpleTarget, DestructuringAssignmentTarget, Commas, Expression, Binding, BindingPattern, BindingElement, BindingRestElement, BindingProperty, BindingRestProperty, FormalParameters, ArrowFormalParameters, ArrowParameters, AsyncArrowHead, ConciseBody, CallExpression, ends-in-spread, array-row, object-row, tier-row, Width, wider, Derives}
-use Rattle.standard.specs.Levels.{levels, is-power, is-coalesce, power-floor, other-floor, row-of-tier}
+use Rattle.standard.specs.Derives.{Tok, OneOf, SameLine, identifiers, assignment-operators, Links, Nonterminal, PrimaryExpression, ArrayLiteral, Elision, SpreadElement, Element, ObjectLiteral, PropertyDefinition, PropertyName, LinkedExpression, LeftHandSideExpression, UpdateExpression, UnaryExpression, TierExpression, CoalesceExpressionHead, CoalesceExpression, ShortCircuitExpression, ConditionalExpression, AssignmentExpression, SimpleTarget, DestructuringAssignmentTarget, Commas, Expression, Binding, BindingPattern, BindingElement, BindingRestElement, BindingProperty, BindingRestProperty, FormalParameters, ArrowFormalParameters, ArrowParameters, AsyncArrowHead, ConciseBody, CallExpression, ends-in-spread, array-row, object-row, Derives}
+use Rattle.standard.specs.Levels.{tier-row, levels, is-power, is-coalesce, power-floor, other-floor, row-of-tier}
+use Rattle.standard.specs.Terminals.{is-key, is-prefix, is-update, is-compound, named, worded, literally, keyed, prefixed, updated, compounded, Operator, line, operator, tier-up, operation}
 use Rattle.standard.specs.Roots.{NameAt, not-both, root-primary, root-chain, root-left-hand-side, root-unary, root-short-circuit, root-assignment, spread-last, Begun, none-yet, after-comma, one-more, BegunElided, only-holes, after-list, one-hole-more, one-element-more, list-and-comma}
-use Rattle.standard.specs.Means.{Fits, any-fit, must-be-wider, Means, follow, trying, saying, giving, none, turning, hence}
+use Rattle.standard.specs.Means.{Silent, silent, said, Means, follow, trying, saying, giving, none, turning, hence}
 use Rattle.standard.specs.Convert.{unary-simple, left-simple, short-circuit-simple, short-circuit-any}
 
 -- WHAT IS MEANT
--- [no LineTerminator here] before the `=>`, but for record 1
-pub data Unbroken (w : Width) (s : Sheet) (p : ℕ) : Type 0 where
-  same-line : SameLine s p → Unbroken w s p
-  broken : w ≡ wider → Unbroken w s p
-
 -- the `=>` at a place and a body, after parameters
-pub record Arrowed (w : Width) (s : Sheet) (kind i p : ℕ) (parameters : Forest) (j : ℕ) (ts : Forest) : Type 0 where
-  pub line : Unbroken w s p
+pub record Arrowed (s : Sheet) (kind i p : ℕ) (parameters : Forest) (j : ℕ) (ts : Forest) : Type 0 where
+  pub line : SameLine s p
   pub inner : Forest
-  pub body : Derives w s ConciseBody (p + 1) j inner
+  pub body : Derives s ConciseBody (p + 1) j inner
   pub is-row : ts ≡ one (node kind p i j (join parameters inner))
 
 -- what the assignment level is past a head: no arrow function with parameters in parentheses
-pub data Value (w : Width) (s : Sheet) (i j : ℕ) (ts : Forest) : Type 0 where
-  value-conditional : Derives w s ConditionalExpression i j ts → Value w s i j ts
-  value-assign : (p : ℕ) (us vs : Forest) → Derives w s DestructuringAssignmentTarget i p us → Tok s p Eq → Derives w s AssignmentExpression (p + 1) j vs
-      → ts ≡ one (node Row.Assign p i j (join us vs)) → Value w s i j ts
-  value-compound : (p : ℕ) (us vs : Forest) → Derives w s SimpleTarget i p us → Of is-compound s p → Derives w s AssignmentExpression (p + 1) j vs
-      → ts ≡ one (node Row.CompoundAssign p i j (join us vs)) → Value w s i j ts
-  value-arrow : Of is-name s i → Tok s (i + 1) Arrow → Arrowed w s Row.Arrow i (i + 1) (one (leaf Row.BindingName i)) j ts → Value w s i j ts
-  value-async-arrow : Tok s i Async → Of is-name s (i + 1) → SameLine s (i + 1) → Tok s (i + 2) Arrow
-      → Arrowed w s Row.AsyncArrow i (i + 2) (one (leaf Row.BindingName (i + 1))) j ts → Value w s i j ts
+pub data Value (s : Sheet) (i j : ℕ) (ts : Forest) : Type 0 where
+  value-conditional : Derives s ConditionalExpression i j ts → Value s i j ts
+  value-assign : (p : ℕ) (us vs : Forest) → Derives s DestructuringAssignmentTarget i p us → Tok s p Eq → Derives s AssignmentExpression (p + 1) j vs
+      → ts ≡ one (node Row.Assign p i j (join us vs)) → Value s i j ts
+  value-compound : (p : ℕ) (us vs : Forest) → Derives s SimpleTarget i p us → OneOf assignment-operators s p → Derives s AssignmentExpression (p + 1) j vs
+      → ts ≡ one (node Row.CompoundAssign p i j (join us vs)) → Value s i j ts
+  value-arrow : OneOf identifiers s i → Tok s (i + 1) Arrow → Arrowed s Row.Arrow i (i + 1) (one (leaf Row.BindingName i)) j ts → Value s i j ts
+  value-async-arrow : Tok s i Async → OneOf identifiers s (i + 1) → SameLine s (i + 1) → Tok s (i + 2) Arrow
+      → Arrowed s Row.AsyncArrow i (i + 2) (one (leaf Row.BindingName (i + 1))) j ts → Value s i j ts
 
 -- a head: parameters in parentheses and the `=>` after them
-pub data Head (w : Width) (s : Sheet) (i j : ℕ) (ts : Forest) : Type 0 where
-  plain-head : Tok s i LParen → Derives w s ArrowFormalParameters i j ts → Tok s j Arrow → Head w s i j ts
-  async-head : Tok s i Async → SameLine s (i + 1) → Derives w s ArrowFormalParameters (i + 1) j ts → Tok s j Arrow → Head w s i j ts
+pub data Head (s : Sheet) (i j : ℕ) (ts : Forest) : Type 0 where
+  plain-head : Tok s i LParen → Derives s ArrowFormalParameters i j ts → Tok s j Arrow → Head s i j ts
+  async-head : Tok s i Async → SameLine s (i + 1) → Derives s ArrowFormalParameters (i + 1) j ts → Tok s j Arrow → Head s i j ts
 
 -- the nonterminal of what is read above a level
 abbrev pub above : ℕ → Nonterminal
@@ -74,66 +70,66 @@ above zero = ShortCircuitExpression
 above (suc floor) = TierExpression (suc (suc floor))
 
 -- a derivation up to where no operator above the level follows
-pub record Upto (w : Width) (s : Sheet) (floor i j : ℕ) (ts : Forest) : Type 0 where
-  pub part : Derives w s (above floor) i j ts
+pub record Upto (s : Sheet) (floor i j : ℕ) (ts : Forest) : Type 0 where
+  pub part : Derives s (above floor) i j ts
   pub rest : expression-level (token s j) ≤ floor
 
 -- what stands left of operators above a level, and which operators may follow it
-pub data Left (w : Width) (s : Sheet) (floor i at : ℕ) (ts : Forest) : Type 0 where
-  left-unary : Derives w s UnaryExpression i at ts → Left w s floor i at ts
-  left-tier : (l : ℕ) → 2 ≤ l → floor < l → l ≤ 12 → expression-level (token s at) ≤ l → expression-level (token s at) ≤ 11 → Derives w s (TierExpression l) i at ts → Left w s floor i at ts
-  left-coalesce : floor ≡ 0 → expression-level (token s at) ≤ 1 → Derives w s CoalesceExpression i at ts → Left w s floor i at ts
+pub data Left (s : Sheet) (floor i at : ℕ) (ts : Forest) : Type 0 where
+  left-unary : Derives s UnaryExpression i at ts → Left s floor i at ts
+  left-tier : (l : ℕ) → 2 ≤ l → floor < l → l ≤ 12 → expression-level (token s at) ≤ l → expression-level (token s at) ≤ 11 → Derives s (TierExpression l) i at ts → Left s floor i at ts
+  left-coalesce : floor ≡ 0 → expression-level (token s at) ≤ 1 → Derives s CoalesceExpression i at ts → Left s floor i at ts
 
 -- the parts of a Sequence so far: the first, before its comma, or two and more
-pub data Parts (w : Width) (s : Sheet) (i comma at : ℕ) (ts : Forest) : Type 0 where
-  one-part : Derives w s AssignmentExpression i comma ts → Tok s comma Comma → at ≡ comma → Parts w s i comma at ts
-  more-parts : Derives w s (Commas comma) i at ts → Parts w s i comma at ts
+pub data Parts (s : Sheet) (i comma at : ℕ) (ts : Forest) : Type 0 where
+  one-part : Derives s AssignmentExpression i comma ts → Tok s comma Comma → at ≡ comma → Parts s i comma at ts
+  more-parts : Derives s (Commas comma) i at ts → Parts s i comma at ts
 
 -- a callee, its `(`, and the arguments so far
-pub record Calling (w : Width) (s : Sheet) (i at : ℕ) (so-far : Forest) : Type 0 where
-  pub links : Chain
+pub record Calling (s : Sheet) (i at : ℕ) (so-far : Forest) : Type 0 where
+  pub links : Links
   pub place : ℕ
   pub callee : Forest
   pub given : Forest
-  pub is-callee : Derives w s (ChainExpression links) i place callee
+  pub is-callee : Derives s (LinkedExpression links) i place callee
   pub opens : Tok s place LParen
-  pub begun : Begun w s Element (place + 1) at given
+  pub begun : Begun s Element (place + 1) at given
   pub are : so-far ≡ join callee given
 
-module _ (w : Width) (s : Sheet) where
+module _ (s : Sheet) where
   abbrev pub Meant : Job → ℕ → Forest → Type 0
-  Meant (J.expression at) p ts = Derives w s Expression at p ts
-  Meant (J.sequence first comma at so-far) p ts = Parts w s first comma at so-far → Derives w s Expression first p ts
-  Meant (J.assignment at) p ts = Derives w s AssignmentExpression at p ts
-  Meant (J.value at) p ts = Value w s at p ts
-  Meant (J.assign first at left) p ts = is-assignment-operator (token s at) ≡ true → Derives w s ShortCircuitExpression first at (one left) → Value w s first p ts
-  Meant (J.conditional first at test) p ts = Tok s at Question → Derives w s ShortCircuitExpression first at (one test) → Derives w s ConditionalExpression first p ts
-  Meant (J.binary floor at) p ts = floor ≤ 11 → Upto w s floor at p ts
-  Meant (J.operators floor first at left) p ts = floor ≤ 11 → Left w s floor first at (one left) → Upto w s floor first p ts
-  Meant (J.unary at) p ts = Derives w s UnaryExpression at p ts
-  Meant (J.postfix at) p ts = Derives w s UpdateExpression at p ts
-  Meant (J.left-hand-side at) p ts = Derives w s LeftHandSideExpression at p ts
-  Meant (J.links first at left) p ts = (c : Chain) → Derives w s (ChainExpression c) first at (one left) → Derives w s LeftHandSideExpression first p ts
-  Meant (J.arguments first at so-far) p ts = Calling w s first at so-far → Derives w s CallExpression first p ts
-  Meant (J.primary at) p ts = Derives w s PrimaryExpression at p ts
-  Meant (J.elements first at kind so-far) p ts = Tok s first LBrack → BegunElided w s Element (first + 1) at so-far → kind ≡ array-row so-far → Derives w s ArrayLiteral first p ts
-  Meant (J.properties first at kind so-far) p ts = Tok s first LCurly → Begun w s PropertyDefinition (first + 1) at so-far → kind ≡ object-row so-far → Derives w s ObjectLiteral first p ts
-  Meant (J.property at) p ts = Derives w s PropertyDefinition at p ts
-  Meant (J.key at) p ts = Derives w s PropertyName at p ts
-  Meant (J.spread at) p ts = Tok s at Dot3 → Derives w s SpreadElement at p ts
-  Meant (J.binding at) p ts = Derives w s Binding at p ts
-  Meant (J.binding-element at) p ts = Derives w s BindingElement at p ts
-  Meant (J.binding-elements first at so-far) p ts = Tok s first LBrack → BegunElided w s BindingElement (first + 1) at so-far → Derives w s BindingPattern first p ts
-  Meant (J.binding-properties first at so-far) p ts = Tok s first LCurly → Begun w s BindingProperty (first + 1) at so-far → Derives w s BindingPattern first p ts
-  Meant (J.binding-property at) p ts = Derives w s BindingProperty at p ts
-  Meant (J.binding-rest at) p ts = Tok s at Dot3 → Derives w s BindingRestElement at p ts
-  Meant (J.head at) p ts = Head w s at p ts
-  Meant (J.parameters at so-far) p ts = (i : ℕ) → Tok s i LParen → Begun w s BindingElement (i + 1) at so-far → Derives w s ArrowFormalParameters i p ts
-  Meant (J.body kind first at so-far) p ts = Arrowed w s kind first at so-far p ts
+  Meant (J.expression at) p ts = Derives s Expression at p ts
+  Meant (J.sequence first comma at so-far) p ts = Parts s first comma at so-far → Derives s Expression first p ts
+  Meant (J.assignment at) p ts = Derives s AssignmentExpression at p ts
+  Meant (J.value at) p ts = Value s at p ts
+  Meant (J.assign first at left) p ts = is-assignment-operator (token s at) ≡ true → Derives s ShortCircuitExpression first at (one left) → Value s first p ts
+  Meant (J.conditional first at test) p ts = Tok s at Question → Derives s ShortCircuitExpression first at (one test) → Derives s ConditionalExpression first p ts
+  Meant (J.binary floor at) p ts = floor ≤ 11 → Upto s floor at p ts
+  Meant (J.operators floor first at left) p ts = floor ≤ 11 → Left s floor first at (one left) → Upto s floor first p ts
+  Meant (J.unary at) p ts = Derives s UnaryExpression at p ts
+  Meant (J.postfix at) p ts = Derives s UpdateExpression at p ts
+  Meant (J.left-hand-side at) p ts = Derives s LeftHandSideExpression at p ts
+  Meant (J.links first at left) p ts = (c : Links) → Derives s (LinkedExpression c) first at (one left) → Derives s LeftHandSideExpression first p ts
+  Meant (J.arguments first at so-far) p ts = Calling s first at so-far → Derives s CallExpression first p ts
+  Meant (J.primary at) p ts = Derives s PrimaryExpression at p ts
+  Meant (J.elements first at kind so-far) p ts = Tok s first LBrack → BegunElided s Element (first + 1) at so-far → kind ≡ array-row so-far → Derives s ArrayLiteral first p ts
+  Meant (J.properties first at kind so-far) p ts = Tok s first LCurly → Begun s PropertyDefinition (first + 1) at so-far → kind ≡ object-row so-far → Derives s ObjectLiteral first p ts
+  Meant (J.property at) p ts = Derives s PropertyDefinition at p ts
+  Meant (J.key at) p ts = Derives s PropertyName at p ts
+  Meant (J.spread at) p ts = Tok s at Dot3 → Derives s SpreadElement at p ts
+  Meant (J.binding at) p ts = Derives s Binding at p ts
+  Meant (J.binding-element at) p ts = Derives s BindingElement at p ts
+  Meant (J.binding-elements first at so-far) p ts = Tok s first LBrack → BegunElided s BindingElement (first + 1) at so-far → Derives s BindingPattern first p ts
+  Meant (J.binding-properties first at so-far) p ts = Tok s first LCurly → Begun s BindingProperty (first + 1) at so-far → Derives s BindingPattern first p ts
+  Meant (J.binding-property at) p ts = Derives s BindingProperty at p ts
+  Meant (J.binding-rest at) p ts = Tok s at Dot3 → Derives s BindingRestElement at p ts
+  Meant (J.head at) p ts = Head s at p ts
+  Meant (J.parameters at so-far) p ts = (i : ℕ) → Tok s i LParen → Begun s BindingElement (i + 1) at so-far → Derives s ArrowFormalParameters i p ts
+  Meant (J.body kind first at so-far) p ts = Arrowed s kind first at so-far p ts
 
   -- good: what is meant, where the records fit
   abbrev pub GoodMeant : Job → ℕ → Forest → List Record → Type 0
-  GoodMeant job = Means w (Meant job)
+  GoodMeant job = Means (Meant job)
 
 -- TOKENS
 tok : {s : Sheet} {at kind : ℕ} → Stands s at kind → Tok s at kind
@@ -141,9 +137,6 @@ tok t = record { kind-is = t .kind-is }
 
 tok-eq : {s : Sheet} (at kind : ℕ) → token s at is kind ≡ true → Tok s at kind
 tok-eq at kind e = record { kind-is = eqb-true _ _ e }
-
-of : {s : Sheet} {at : ℕ} (holds : ℕ → Bool) → holds (token s at) ≡ true → Of holds s at
-of holds e = record { holds = e }
 
 -- a token is not there and there
 clash : {s : Sheet} {at kind : ℕ} → Tok s at kind → token s at is kind ≡ false → ⊥
@@ -154,22 +147,14 @@ not-true false e = refl
 not-true true e = sym e
 
 -- ARROWS
-arrow-of-name : {w : Width} {s : Sheet} {i p j : ℕ} {params ts : Forest} → Derives w s ArrowParameters i p params → Tok s p Arrow → Arrowed w s Row.Arrow i p params j ts → Derives w s AssignmentExpression i j ts
-arrow-of-name {w} {s} {i} {p} {j} {params} {ts} d t a = rw (a .is-row) (go (a .line))
-  where
-    go : Unbroken w s p → Derives w s AssignmentExpression i j (one (node Row.Arrow p i j (join params (a .inner))))
-    go (same-line l) = D.arrow d t l (a .body)
-    go (broken q) = D.arrow-broken q d t (a .body)
+arrow-of-name : {s : Sheet} {i p j : ℕ} {params ts : Forest} → Derives s ArrowParameters i p params → Tok s p Arrow → Arrowed s Row.Arrow i p params j ts → Derives s AssignmentExpression i j ts
+arrow-of-name d t a = rw (a .is-row) (D.arrow d t (a .line) (a .body))
 
-arrow-of-async : {w : Width} {s : Sheet} {i p j : ℕ} {params ts : Forest} → Derives w s AsyncArrowHead i p params → Tok s p Arrow → Arrowed w s Row.AsyncArrow i p params j ts → Derives w s AssignmentExpression i j ts
-arrow-of-async {w} {s} {i} {p} {j} {params} {ts} d t a = rw (a .is-row) (go (a .line))
-  where
-    go : Unbroken w s p → Derives w s AssignmentExpression i j (one (node Row.AsyncArrow p i j (join params (a .inner))))
-    go (same-line l) = D.async-arrow d t l (a .body)
-    go (broken q) = D.async-arrow-broken q d t (a .body)
+arrow-of-async : {s : Sheet} {i p j : ℕ} {params ts : Forest} → Derives s AsyncArrowHead i p params → Tok s p Arrow → Arrowed s Row.AsyncArrow i p params j ts → Derives s AssignmentExpression i j ts
+arrow-of-async d t a = rw (a .is-row) (D.async-arrow d t (a .line) (a .body))
 
 -- what is past a head is an AssignmentExpression
-pub as-assignment : {w : Width} {s : Sheet} {i j : ℕ} {ts : Forest} → Value w s i j ts → Derives w s AssignmentExpression i j ts
+pub as-assignment : {s : Sheet} {i j : ℕ} {ts : Forest} → Value s i j ts → Derives s AssignmentExpression i j ts
 as-assignment (value-conditional d) = D.no-assignment d
 as-assignment (value-assign p us vs d t e q) = rw q (D.assign d t e)
 as-assignment (value-compound p us vs d t e q) = rw q (D.compound-assign d t e)
@@ -178,31 +163,31 @@ as-assignment (value-async-arrow t n l u a) = arrow-of-async (D.async-name t n l
 
 -- OPERATORS
 -- a tier holds of every looser one
-pub lower : {w : Width} {s : Sheet} {i j : ℕ} {ts : Forest} (l m : ℕ) → 2 ≤ l → l ≤ m → Derives w s (TierExpression m) i j ts → Derives w s (TierExpression l) i j ts
-lower l zero h le d = absurd (omega arith)
-lower {w} {s} {i} {j} {ts} l (suc m) h le d = go (ℕ-discrete (suc m) l) (λ k. lower l m h k)
+pub lower : {s : Sheet} {i j : ℕ} {ts : Forest} (l m : ℕ) → 2 ≤ l → l ≤ m → m ≤ 12 → Derives s (TierExpression m) i j ts → Derives s (TierExpression l) i j ts
+lower l zero h le top d = absurd (omega arith)
+lower {s} {i} {j} {ts} l (suc m) h le top d = go (ℕ-discrete (suc m) l) (λ k. lower l m h k (omega arith))
   where
-    go : Dec (suc m ≡ l) → (l ≤ m → Derives w s (TierExpression m) i j ts → Derives w s (TierExpression l) i j ts) → Derives w s (TierExpression l) i j ts
+    go : Dec (suc m ≡ l) → (l ≤ m → Derives s (TierExpression m) i j ts → Derives s (TierExpression l) i j ts) → Derives s (TierExpression l) i j ts
     go (yes e) f = rw e at d
-    go (no e) f = f (omega arith) (D.tier-up (omega arith) d)
+    go (no e) f = f (omega arith) (tier-up (omega arith) (omega arith) d)
 
-module _ {w : Width} {s : Sheet} {i at : ℕ} {ts : Forest} where
+module _ {s : Sheet} {i at : ℕ} {ts : Forest} where
   -- what stands left of an operator of a tier
-  left-of-tier : {floor : ℕ} (l : ℕ) → 2 ≤ l → l ≤ 11 → expression-level (token s at) ≡ l → Left w s floor i at ts → Derives w s (TierExpression l) i at ts
-  left-of-tier l h k e (left-unary d) = lower l 12 h (omega arith) (D.no-power d)
-  left-of-tier l h k e (left-tier m a b c x y d) = lower l m h (omega arith) d
+  left-of-tier : {floor : ℕ} (l : ℕ) → 2 ≤ l → l ≤ 11 → expression-level (token s at) ≡ l → Left s floor i at ts → Derives s (TierExpression l) i at ts
+  left-of-tier l h k e (left-unary d) = lower l 12 h (omega arith) (omega arith) (D.no-power d)
+  left-of-tier l h k e (left-tier m a b c x y d) = lower l m h (omega arith) c d
   left-of-tier l h k e (left-coalesce z x d) = absurd (omega arith)
 
   -- all that stands left
-  whole-left : Left w s 0 i at ts → Derives w s ShortCircuitExpression i at ts
-  whole-left (left-unary d) = D.short-circuit-or (lower 2 12 (omega arith) (omega arith) (D.no-power d))
-  whole-left (left-tier m a b c x y d) = D.short-circuit-or (lower 2 m (omega arith) a d)
+  whole-left : Left s 0 i at ts → Derives s ShortCircuitExpression i at ts
+  whole-left (left-unary d) = D.short-circuit-or (lower 2 12 (omega arith) (omega arith) (omega arith) (D.no-power d))
+  whole-left (left-tier m a b c x y d) = D.short-circuit-or (lower 2 m (omega arith) a c d)
   whole-left (left-coalesce z x d) = D.short-circuit-coalesce d
 
-  left-stop : (floor : ℕ) → floor ≤ 11 → expression-level (token s at) ≤ floor → Left w s floor i at ts → Upto w s floor i at ts
+  left-stop : (floor : ℕ) → floor ≤ 11 → expression-level (token s at) ≤ floor → Left s floor i at ts → Upto s floor i at ts
   left-stop zero h e l = record { part = whole-left l; rest = e }
-  left-stop (suc floor) h e (left-unary d) = record { part = lower (suc (suc floor)) 12 (omega arith) (omega arith) (D.no-power d); rest = e }
-  left-stop (suc floor) h e (left-tier m a b c x y d) = record { part = lower (suc (suc floor)) m (omega arith) b d; rest = e }
+  left-stop (suc floor) h e (left-unary d) = record { part = lower (suc (suc floor)) 12 (omega arith) (omega arith) (omega arith) (D.no-power d); rest = e }
+  left-stop (suc floor) h e (left-tier m a b c x y d) = record { part = lower (suc (suc floor)) m (omega arith) b c d; rest = e }
   left-stop (suc floor) h e (left-coalesce z x d) = absurd (omega arith)
 
 -- a tree that is no `||` and no `&&` is a BitwiseORExpression
@@ -210,112 +195,106 @@ or-and-tier : (s : Sheet) (tier p first end : ℕ) (kids : Forest) → 2 ≤ tie
 unfolding is-or-and kind-of mark-of tier-row expression-level level
 or-and-tier s tier p first end kids h k o = rw (le-leb tier 3 k, ne-eqb (token s p) Question2 (λ e. let z : expression-level (token s p) ≡ 1 = ap expression-level e in omega (arith, o .level-is)))
 
-bare : {w : Width} {s : Sheet} {tier i j : ℕ} {ts : Forest} → Derives w s (TierExpression tier) i j ts → 2 ≤ tier → tier ≤ 4 → is-or-and s (first-tree ts) ≡ false
-    → Derives w s D.BitwiseORExpression i j ts
+bare : {s : Sheet} {tier i j : ℕ} {ts : Forest} → Derives s (TierExpression tier) i j ts → 2 ≤ tier → tier ≤ 4 → is-or-and s (first-tree ts) ≡ false
+    → Derives s D.BitwiseORExpression i j ts
 unfolding first-tree
 bare (D.no-power d) h k e = absurd (omega arith)
 bare (D.power d t f) h k e = absurd (omega arith)
-bare (D.power-of-unary q d t f) h k e = absurd (omega arith)
-bare {w} {s} {tier} {i} {j} {ts} (D.tier-up l d) h k e = go (ℕ-discrete tier 4) (λ x. bare d (omega arith) x e)
+bare {s} {tier} {i} {j} {ts} (D.no-operation l d) h k e = go (ℕ-discrete tier 4) (λ x. bare d (omega (arith, line l .next)) (omega (arith, line l .next)) e)
   where
-    go : Dec (tier ≡ 4) → (suc tier ≤ 4 → Derives w s (TierExpression 4) i j ts) → Derives w s (TierExpression 4) i j ts
-    go (yes q) f = let x : Derives w s (TierExpression tier) i j ts = D.tier-up l d in rw q at x
+    go : Dec (tier ≡ 4) → (suc tier ≤ 4 → Derives s (TierExpression 4) i j ts) → Derives s (TierExpression 4) i j ts
+    go (yes q) f = let x : Derives s (TierExpression tier) i j ts = D.no-operation l d in rw q at x
     go (no q) f = f (omega arith)
-bare {w} {s} {tier} {i} {j} {ts} (D.operation {p = p} l d t f) h k e = go (ℕ-discrete tier 4)
+bare {s} {tier} {i} {j} {ts} (D.operation {p = p} l d t f) h k e = go (ℕ-discrete tier 4)
   where
-    go : Dec (tier ≡ 4) → Derives w s (TierExpression 4) i j ts
-    go (yes q) = let x : Derives w s (TierExpression tier) i j ts = D.operation l d t f in subst (λ (n : ℕ). Derives w s (TierExpression n) i j ts) q x
-    go (no q) = absurd (not-both (or-and-tier s tier p i j _ l (omega arith) t) e)
+    go : Dec (tier ≡ 4) → Derives s (TierExpression 4) i j ts
+    go (yes q) = let x : Derives s (TierExpression tier) i j ts = D.operation l d t f in subst (λ (n : ℕ). Derives s (TierExpression n) i j ts) q x
+    go (no q) = absurd (not-both (or-and-tier s tier p i j _ h (omega arith) (operator l t)) (rw (line l .row-is) at e))
 
 -- the record of an operator's row, or none
 pub record Unmixed (s : Sheet) (left right : Tree) : Type 0 where
   pub left-is-bare : is-or-and s left ≡ false
   pub right-is-bare : is-or-and s right ≡ false
 
--- `??` either mixes, which is record 6, or does not
-data Mixed (w : Width) (s : Sheet) (left right : Tree) : Type 0 where
-  mixed : w ≡ wider → Mixed w s left right
-  unmixed : Unmixed s left right → Mixed w s left right
-
-coalesce-record : (w : Width) (s : Sheet) (at : ℕ) (left right : Tree) → Tok s at Question2 → Fits w (operation-records s at left right) → Mixed w s left right
+-- a `??` that mixes is record 6
+coalesce-record : (s : Sheet) (at : ℕ) (left right : Tree) → Tok s at Question2 → Silent (operation-records s at left right) → Unmixed s left right
 unfolding operation-records
-coalesce-record w s at left right t f = go (is-or-and s left) (is-or-and s right) refl refl (rw (t .kind-is) at f)
+coalesce-record s at left right t f = go (is-or-and s left) (is-or-and s right) refl refl (rw (t .kind-is) at f)
   where
-    go : (a b : Bool) → is-or-and s left ≡ a → is-or-and s right ≡ b → Fits w ((if a or b then mixed-coalesce at ∷ [] else []) ++ []) → Mixed w s left right
-    go true b x y f = mixed (must-be-wider w f)
-    go false true x y f = mixed (must-be-wider w f)
-    go false false x y f = unmixed (record { left-is-bare = x; right-is-bare = y })
+    go : (a b : Bool) → is-or-and s left ≡ a → is-or-and s right ≡ b → Silent ((if a or b then mixed-coalesce at ∷ [] else []) ++ []) → Unmixed s left right
+    go true b x y f = absurd (said f)
+    go false true x y f = absurd (said f)
+    go false false x y f = record { left-is-bare = x; right-is-bare = y }
 
 -- `**` after a bare Unary is record 7
-unary-record : (w : Width) (s : Sheet) (at : ℕ) (left right : Tree) → Tok s at Star2 → kind-of left is Row.Unary ≡ true → Fits w (operation-records s at left right) → w ≡ wider
+unary-record : (s : Sheet) (at : ℕ) (left right : Tree) → Tok s at Star2 → kind-of left is Row.Unary ≡ true → Silent (operation-records s at left right) → ⊥
 unfolding operation-records
-unary-record w s at left right t k f = must-be-wider w (rw (t .kind-is, k) at f)
+unary-record s at left right t k f = said (rw (t .kind-is, k) at f)
 
-module _ {w : Width} {s : Sheet} {floor i at q : ℕ} {left : Tree} where
+module _ {s : Sheet} {floor i at q : ℕ} {left : Tree} where
   -- a `??` and its operands
-  after-coalesce : {us : Forest} → floor ≡ 0 → Tok s at Question2 → Left w s floor i at (one left) → Derives w s D.LogicalORExpression (at + 1) q us → Fits w (operation-records s at left (first-tree us))
-      → expression-level (token s q) ≤ 1 → Left w s floor i q (one (node Row.Logical at i q (cons left us)))
+  after-coalesce : {us : Forest} → floor ≡ 0 → Tok s at Question2 → Left s floor i at (one left) → Derives s D.LogicalORExpression (at + 1) q us → Silent (operation-records s at left (first-tree us))
+      → expression-level (token s q) ≤ 1 → Left s floor i q (one (node Row.Logical at i q (cons left us)))
   unfolding join first-tree
-  after-coalesce {us} z t l e f h = left-coalesce z h (go (coalesce-record w s at left (first-tree us) t f) (whole-left (rw z at l)))
+  after-coalesce {us} z t l e f h = left-coalesce z h (go (coalesce-record s at left (first-tree us) t f) (whole-left (rw z at l)))
     where
-      bare-head : Derives w s ShortCircuitExpression i at (one left) → is-or-and s left ≡ false → Derives w s CoalesceExpressionHead i at (one left)
+      bare-head : Derives s ShortCircuitExpression i at (one left) → is-or-and s left ≡ false → Derives s CoalesceExpressionHead i at (one left)
       bare-head d b = by d refl
         where
-          by : {ts : Forest} → Derives w s ShortCircuitExpression i at ts → ts ≡ one left → Derives w s CoalesceExpressionHead i at (one left)
+          by : {ts : Forest} → Derives s ShortCircuitExpression i at ts → ts ≡ one left → Derives s CoalesceExpressionHead i at (one left)
           by (D.short-circuit-or d) q = rw q at (D.head-or (bare d (omega arith) (omega arith) (rw q b)))
           by (D.short-circuit-coalesce d) q = rw q at (D.head-coalesce d)
 
-      go : Mixed w s left (first-tree us) → Derives w s ShortCircuitExpression i at (one left) → Derives w s CoalesceExpression i q (one (node Row.Logical at i q (cons left us)))
-      go (mixed x) d = D.coalesce-mixed x d t e
-      go (unmixed x) d = D.coalesce (bare-head d (x .left-is-bare)) t (bare e (omega arith) (omega arith) (x .right-is-bare))
+      go : Unmixed s left (first-tree us) → Derives s ShortCircuitExpression i at (one left) → Derives s CoalesceExpression i q (one (node Row.Logical at i q (cons left us)))
+      go x d = D.coalesce (bare-head d (x .left-is-bare)) t (bare e (omega arith) (omega arith) (x .right-is-bare))
 
   -- a `**` and its operands
-  after-power : {us : Forest} → floor ≤ 11 → Tok s at Star2 → Left w s floor i at (one left) → expression-level (token s at) ≡ 12 → Derives w s D.ExponentiationExpression (at + 1) q us
-      → Fits w (operation-records s at left (first-tree us)) → expression-level (token s q) ≤ 11 → Left w s floor i q (one (node Row.Binary at i q (cons left us)))
+  after-power : {us : Forest} → floor ≤ 11 → Tok s at Star2 → Left s floor i at (one left) → expression-level (token s at) ≡ 12 → Derives s D.ExponentiationExpression (at + 1) q us
+      → Silent (operation-records s at left (first-tree us)) → expression-level (token s q) ≤ 11 → Left s floor i q (one (node Row.Binary at i q (cons left us)))
   unfolding join kind-of first-tree
   after-power {us} h t (left-tier m a b c x y d) l e f r = absurd (omega arith)
   after-power {us} h t (left-coalesce z x d) l e f r = absurd (omega arith)
   after-power {us} h t (left-unary d) l e f r = left-tier 12 (omega arith) (omega arith) (omega arith) (omega arith) r (by d refl)
     where
-      by : {ts : Forest} → Derives w s UnaryExpression i at ts → ts ≡ one left → Derives w s D.ExponentiationExpression i q (one (node Row.Binary at i q (cons left us)))
+      by : {ts : Forest} → Derives s UnaryExpression i at ts → ts ≡ one left → Derives s D.ExponentiationExpression i q (one (node Row.Binary at i q (cons left us)))
       by (D.update d) x = D.power (rw x at d) t e
       by (D.unary {ts = vs} n d) x =
           let k : kind-of left is Row.Unary ≡ true = ap (λ (ts : Forest). kind-of (first-tree ts) is Row.Unary) (sym x) in
-          D.power-of-unary (unary-record w s at left (first-tree us) t k f) (rw x at (D.unary n d)) t e
+          absurd (unary-record s at left (first-tree us) t k f)
 
   -- an operator of one of the other tiers
-  after-operator : {us : Forest} (l : ℕ) → 2 ≤ l → l ≤ 11 → floor < l → expression-level (token s at) ≡ l → Left w s floor i at (one left) → Derives w s (TierExpression (suc l)) (at + 1) q us
-      → expression-level (token s q) ≤ l → Left w s floor i q (one (node (tier-row l) at i q (cons left us)))
+  after-operator : {us : Forest} (l : ℕ) → 2 ≤ l → l ≤ 11 → floor < l → expression-level (token s at) ≡ l → Left s floor i at (one left) → Derives s (TierExpression (suc l)) (at + 1) q us
+      → expression-level (token s q) ≤ l → Left s floor i q (one (node (tier-row l) at i q (cons left us)))
   unfolding join
-  after-operator l h k b x d e r = left-tier l h b (omega arith) r (omega arith) (D.operation h (left-of-tier l h k x d) (record { level-is = x }) e)
+  after-operator l h k b x d e r = left-tier l h b (omega arith) r (omega arith) (operation h k (left-of-tier l h k x d) (record { level-is = x }) e)
 
 -- an operator that is read, its right operand, and what comes after
-step-over : {w : Width} {s : Sheet} {floor i at q : ℕ} (left : Tree) (us : Forest) → floor ≤ 11 → floor < expression-level (token s at) → Left w s floor i at (one left)
-    → (right-floor (token s at) ≤ 11 → Upto w s (right-floor (token s at)) (at + 1) q us) → Fits w (operation-records s at left (first-tree us))
-    → Left w s floor i q (one (node (operation-kind (token s at)) at i q (cons left us)))
+step-over : {s : Sheet} {floor i at q : ℕ} (left : Tree) (us : Forest) → floor ≤ 11 → floor < expression-level (token s at) → Left s floor i at (one left)
+    → (right-floor (token s at) ≤ 11 → Upto s (right-floor (token s at)) (at + 1) q us) → Silent (operation-records s at left (first-tree us))
+    → Left s floor i q (one (node (operation-kind (token s at)) at i q (cons left us)))
 unfolding tier-row
-step-over {w} {s} {floor} {i} {at} {q} left us h lt l up f = rw (row-of-tier (token s at) (omega arith)) (go (expression-level (token s at)) refl)
+step-over {s} {floor} {i} {at} {q} left us h lt l up f = rw (row-of-tier (token s at) (omega arith)) (go (expression-level (token s at)) refl)
   where
     over : ℕ → Type 0
-    over o = Left w s floor i q (one (node (tier-row o) at i q (cons left us)))
+    over o = Left s floor i q (one (node (tier-row o) at i q (cons left us)))
 
     go : (o : ℕ) → expression-level (token s at) ≡ o → over (expression-level (token s at))
     go zero e = absurd (omega arith)
     go (suc o) e = by (ℕ-discrete (suc o) 12) (ℕ-discrete (suc o) 1)
       where
-        upto : (suc o ≡ 12 → ⊥) → Upto w s (suc o) (at + 1) q us
+        upto : (suc o ≡ 12 → ⊥) → Upto s (suc o) (at + 1) q us
         upto n = let b = levels (token s at) in let c : right-floor (token s at) ≡ suc o = other-floor (token s at) (omega arith) ∙ e in rw c at (up (omega arith))
 
         power : suc o ≡ 12 → over 12
         power x =
             let k : token s at ≡ Star2 = is-power (token s at) (e ∙ x) in
             let c : right-floor (token s at) ≡ 11 = ap right-floor k ∙ power-floor in
-            let u : Upto w s 11 (at + 1) q us = rw c at (up (omega arith)) in
+            let u : Upto s 11 (at + 1) q us = rw c at (up (omega arith)) in
             after-power h (record { kind-is = k }) l (e ∙ x) (u .part) f (u .rest)
 
         coalesced : suc o ≡ 1 → (suc o ≡ 12 → ⊥) → over 1
         coalesced y x =
-            let u : Upto w s 1 (at + 1) q us = rw y at (upto x) in
+            let u : Upto s 1 (at + 1) q us = rw y at (upto x) in
             after-coalesce (omega arith) (record { kind-is = is-coalesce (token s at) (e ∙ y) }) l (u .part) f (u .rest)
 
         by : Dec (suc o ≡ 12) → Dec (suc o ≡ 1) → over (expression-level (token s at))
@@ -324,12 +303,12 @@ step-over {w} {s} {floor} {i} {at} {q} left us h lt l up f = rw (row-of-tier (to
         by (no x) (no y) = let u = upto x in let b = levels (token s at) in rw e (after-operator (suc o) (omega arith) (omega arith) (omega arith) e l (u .part) (u .rest))
 
 -- THE PRODUCTIONS
-module _ {w : Width} {s : Sheet} {N : Type 0} {ask : Asks N} (h : Answers Any (GoodMeant w s) Nothing ask) where
-  asked : (job : Job) → Reads (GoodMeant w s job) Nothing (ask job)
+module _ {s : Sheet} {N : Type 0} {ask : Asks N} (h : Answers Any (GoodMeant s) Nothing ask) where
+  asked : (job : Job) → Reads (GoodMeant s job) Nothing (ask job)
   asked job = h .with job tt
 
   -- 13.16
-  sound-expression : (at : ℕ) → Reads (GoodMeant w s (J.expression at)) Nothing (expression-of s ask at)
+  sound-expression : (at : ℕ) → Reads (GoodMeant s (J.expression at)) Nothing (expression-of s ask at)
   unfolding expression-of
   sound-expression at =
       follow (asked (J.assignment at))
@@ -337,12 +316,12 @@ module _ {w : Width} {s : Sheet} {N : Type 0} {ask : Asks N} (h : Answers Any (G
       (λ t. hence (asked (J.sequence at (part .end) (part .end) (part .trees))) (λ end trees m. m (one-part d (tok t) refl)))
       (giving _ _ (D.no-comma d)))
 
-  one-part-more : {first comma at end : ℕ} {so-far us : Forest} → Parts w s first comma at so-far → Tok s at Comma → Derives w s AssignmentExpression (at + 1) end us
-      → Derives w s (Commas comma) first end (join so-far us)
+  one-part-more : {first comma at end : ℕ} {so-far us : Forest} → Parts s first comma at so-far → Tok s at Comma → Derives s AssignmentExpression (at + 1) end us
+      → Derives s (Commas comma) first end (join so-far us)
   one-part-more (one-part d t q) u e = D.first-comma d t (rw q at e)
   one-part-more (more-parts d) u e = D.next-comma d u e
 
-  sound-sequence : (first comma at : ℕ) (so-far : Forest) → Reads (GoodMeant w s (J.sequence first comma at so-far)) Nothing (sequence-of s ask first comma at so-far)
+  sound-sequence : (first comma at : ℕ) (so-far : Forest) → Reads (GoodMeant s (J.sequence first comma at so-far)) Nothing (sequence-of s ask first comma at so-far)
   unfolding sequence-of
   sound-sequence first comma at so-far =
       test (token s at is Comma)
@@ -350,12 +329,12 @@ module _ {w : Width} {s : Sheet} {N : Type 0} {ask : Asks N} (h : Answers Any (G
       (λ part d. hence (asked (J.sequence first comma (part .end) (join so-far (part .trees)))) (λ end trees m b. m (more-parts (one-part-more b (tok-eq at Comma t) d)))))
       (λ n. giving _ _ (λ b. all b n))
     where
-      all : Parts w s first comma at so-far → token s at is Comma ≡ false → Derives w s Expression first at (one (node Row.Sequence comma first at so-far))
+      all : Parts s first comma at so-far → token s at is Comma ≡ false → Derives s Expression first at (one (node Row.Sequence comma first at so-far))
       all (one-part d t q) n = absurd (clash t (rw q at n))
       all (more-parts d) n = D.sequence d
 
   -- 13.15 and 13.14
-  sound-conditional : (first at : ℕ) (left : Tree) → Reads (GoodMeant w s (J.conditional first at left)) Nothing (conditional-of s ask first at left)
+  sound-conditional : (first at : ℕ) (left : Tree) → Reads (GoodMeant s (J.conditional first at left)) Nothing (conditional-of s ask first at left)
   unfolding conditional-of join
   sound-conditional first at left =
       follow (asked (J.assignment (at + 1)))
@@ -371,26 +350,26 @@ module _ {w : Width} {s : Sheet} {N : Type 0} {ask : Asks N} (h : Answers Any (G
       let b : k ≡ Eq → ⊥ = eqb-false k Eq n in
       rw (le-leb PlusEq k (omega arith)) (and-right (leb Eq k) (leb k Star2Eq) e)
 
-  sound-assign : (first at : ℕ) (left : Tree) → Reads (GoodMeant w s (J.assign first at left)) Nothing (assign-of s ask first at left)
+  sound-assign : (first at : ℕ) (left : Tree) → Reads (GoodMeant s (J.assign first at left)) Nothing (assign-of s ask first at left)
   unfolding assign-of
   sound-assign first at left = go (token s at is Eq) refl
     where
       go : (b : Bool) → token s at is Eq ≡ b
-          → Reads (GoodMeant w s (J.assign first at left)) Nothing
+          → Reads (GoodMeant s (J.assign first at left)) Nothing
           (converted (if b then any else simple) at left >>= λ target. ask (J.assignment (at + 1)) >>= λ right.
           yield (right .end) (one (node (if b then Row.Assign else Row.CompoundAssign) at first (right .end) (join (target .trees) (right .trees)))))
       go true t =
-          follow {Q = λ end trees. (end ≡ at) × (Derives w s ShortCircuitExpression first at (one left) → Derives w s DestructuringAssignmentTarget first at trees)}
+          follow {Q = λ end trees. (end ≡ at) × (Derives s ShortCircuitExpression first at (one left) → Derives s DestructuringAssignmentTarget first at trees)}
           (turning any at left (λ u rs e f. (refl, λ d. short-circuit-any d u rs e f)))
           (λ target q. follow (asked (J.assignment (at + 1)))
           (λ right d. giving _ _ (λ o l. value-assign at (target .trees) (right .trees) (q .1 l) (tok-eq at Eq t) d refl)))
       go false t =
-          follow {Q = λ end trees. (end ≡ at) × (Derives w s ShortCircuitExpression first at (one left) → Derives w s SimpleTarget first at trees)}
+          follow {Q = λ end trees. (end ≡ at) × (Derives s ShortCircuitExpression first at (one left) → Derives s SimpleTarget first at trees)}
           (turning simple at left (λ u rs e f. (refl, λ d. short-circuit-simple d u rs e f)))
           (λ target q. follow (asked (J.assignment (at + 1)))
-          (λ right d. giving _ _ (λ o l. value-compound at (target .trees) (right .trees) (q .1 l) (of is-compound (operator-left (token s at) o t)) d refl)))
+          (λ right d. giving _ _ (λ o l. value-compound at (target .trees) (right .trees) (q .1 l) (compounded (operator-left (token s at) o t)) d refl)))
 
-  sound-after-binary : (first : ℕ) (left : Part) → Derives w s ShortCircuitExpression first (left .end) (left .trees) → Reads (Means w (Value w s first)) Nothing (after-binary s ask first left)
+  sound-after-binary : (first : ℕ) (left : Part) → Derives s ShortCircuitExpression first (left .end) (left .trees) → Reads (Means (Value s first)) Nothing (after-binary s ask first left)
   unfolding after-binary
   sound-after-binary first left d =
       let r = root-short-circuit d in
@@ -402,10 +381,10 @@ module _ {w : Width} {s : Sheet} {N : Type 0} {ask : Asks N} (h : Answers Any (G
       (λ t. hence (asked (J.conditional first (left .end) (tree left))) (λ end trees m. value-conditional (m (tok t) (rw (r .lone) at d))))
       (giving _ _ (value-conditional (D.short-circuit d)))))
     where
-      named : {p end : ℕ} {trees : Forest} → NameAt s first p → token s p is Arrow ≡ true → Arrowed w s Row.Arrow first p (one (leaf Row.BindingName first)) end trees → Value w s first end trees
+      named : {p end : ℕ} {trees : Forest} → NameAt s first p → token s p is Arrow ≡ true → Arrowed s Row.Arrow first p (one (leaf Row.BindingName first)) end trees → Value s first end trees
       named {p} n e a = value-arrow (n .name) (rw (n .ends) at (tok-eq {s = s} p Arrow e)) (rw (n .ends) at a)
 
-  sound-value : (at : ℕ) → Reads (GoodMeant w s (J.value at)) Nothing (value-of s ask at)
+  sound-value : (at : ℕ) → Reads (GoodMeant s (J.value at)) Nothing (value-of s ask at)
   unfolding value-of is-async-name
   sound-value at =
       let c = token s (at + 2) is Arrow in
@@ -415,17 +394,17 @@ module _ {w : Width} {s : Sheet} {N : Type 0} {ask : Asks N} (h : Answers Any (G
       (λ e. let x : a ≡ true = and-right (token s at is Async) a e in
       let y : b ≡ true = and-right (is-name (token s (at + 1))) b x in
       hence (asked (J.body Row.AsyncArrow at (at + 2) (one (leaf Row.BindingName (at + 1)))))
-      (λ end trees m. value-async-arrow (tok-eq at Async (and-left (token s at is Async) a e)) (of is-name (and-left (is-name (token s (at + 1))) b x))
+      (λ end trees m. value-async-arrow (tok-eq at Async (and-left (token s at is Async) a e)) (named (and-left (is-name (token s (at + 1))) b x))
       (record { unbroken = not-true (break-before s (at + 1)) (and-left (not (break-before s (at + 1))) c y) }) (tok-eq (at + 2) Arrow (and-right (not (break-before s (at + 1))) c y)) m))
       (λ _. follow (asked (J.binary 0 at)) (λ left u. sound-after-binary at left (u (omega arith) .part)))
 
   -- 13.6 to 13.13
-  sound-binary : (floor at : ℕ) → Reads (GoodMeant w s (J.binary floor at)) Nothing (binary-of s ask floor at)
+  sound-binary : (floor at : ℕ) → Reads (GoodMeant s (J.binary floor at)) Nothing (binary-of s ask floor at)
   unfolding binary-of
   sound-binary floor at =
       follow (asked (J.unary at)) (λ left d. hence (asked (J.operators floor at (left .end) (tree left))) (λ end trees m l. m l (left-unary (rw (root-unary d .lone) at d))))
 
-  sound-operators : (floor first at : ℕ) (left : Tree) → Reads (GoodMeant w s (J.operators floor first at left)) Nothing (operators-of s ask floor first at left)
+  sound-operators : (floor first at : ℕ) (left : Tree) → Reads (GoodMeant s (J.operators floor first at left)) Nothing (operators-of s ask floor first at left)
   unfolding operators-of
   sound-operators floor first at left =
       test (ltb floor (expression-level (token s at)))
@@ -435,41 +414,41 @@ module _ {w : Width} {s : Sheet} {N : Type 0} {ask : Asks N} (h : Answers Any (G
       (λ n. giving _ _ (λ l d. left-stop floor l (ltb-false _ _ n) d))
 
   -- 13.5 and 13.4
-  sound-unary : (at : ℕ) → Reads (GoodMeant w s (J.unary at)) Nothing (unary-of s ask at)
+  sound-unary : (at : ℕ) → Reads (GoodMeant s (J.unary at)) Nothing (unary-of s ask at)
   unfolding unary-of is-unary-operator is-update-operator is-prefix is-update
   sound-unary at =
       test (is-prefix (token s at))
-      (λ t. follow (asked (J.unary (at + 1))) (λ operand d. giving _ _ (D.unary (of is-prefix t) d)))
+      (λ t. follow (asked (J.unary (at + 1))) (λ operand d. giving _ _ (D.unary (prefixed t) d)))
       (λ _. test (is-update (token s at))
       (λ t. follow (asked (J.unary (at + 1)))
-      (λ operand d. follow {Q = λ end trees. Derives w s SimpleTarget (at + 1) end trees} (turning simple (operand .end) (tree operand) (λ u rs e f. unary-simple (rw (root-unary d .lone) at d) u rs e f))
-      (λ target e. giving _ _ (D.update (D.prefix (of is-update t) e)))))
+      (λ operand d. follow {Q = λ end trees. Derives s SimpleTarget (at + 1) end trees} (turning simple (operand .end) (tree operand) (λ u rs e f. unary-simple (rw (root-unary d .lone) at d) u rs e f))
+      (λ target e. giving _ _ (D.update (D.prefix (updated t) e)))))
       (λ _. hence (asked (J.postfix at)) (λ end trees d. D.update d)))
 
-  sound-postfix : (at : ℕ) → Reads (GoodMeant w s (J.postfix at)) Nothing (postfix-of s ask at)
+  sound-postfix : (at : ℕ) → Reads (GoodMeant s (J.postfix at)) Nothing (postfix-of s ask at)
   unfolding postfix-of is-update-operator is-update
   sound-postfix at =
       follow (asked (J.left-hand-side at))
       (λ operand d. test (is-update (token s (operand .end)) and not (break-before s (operand .end)))
       (λ t. let u = and-left (is-update (token s (operand .end))) (not (break-before s (operand .end))) t in
       let l = and-right (is-update (token s (operand .end))) (not (break-before s (operand .end))) t in
-      follow {Q = λ end trees. (end ≡ operand .end) × Derives w s SimpleTarget at (operand .end) trees}
+      follow {Q = λ end trees. (end ≡ operand .end) × Derives s SimpleTarget at (operand .end) trees}
       (turning simple (operand .end) (tree operand) (λ v rs e f. (refl, left-simple (rw (root-left-hand-side d .lone) at d) v rs e f)))
-      (λ target e. giving _ _ (rw (e .0) (D.postfix (e .1) (of is-update u) (record { unbroken = not-true _ l })))))
+      (λ target e. giving _ _ (rw (e .0) (D.postfix (e .1) (updated u) (record { unbroken = not-true _ l })))))
       (λ _. giving _ _ (D.left-hand-side d)))
 
   -- 13.3
-  sound-left-hand-side : (at : ℕ) → Reads (GoodMeant w s (J.left-hand-side at)) Nothing (left-hand-side-of s ask at)
+  sound-left-hand-side : (at : ℕ) → Reads (GoodMeant s (J.left-hand-side at)) Nothing (left-hand-side-of s ask at)
   unfolding left-hand-side-of
   sound-left-hand-side at =
       follow (asked (J.primary at)) (λ base d. hence (asked (J.links at (base .end) (tree base))) (λ end trees m. m D.members (D.primary (rw (root-primary d .lone) at d))))
 
-  sound-links : (first at : ℕ) (left : Tree) → Reads (GoodMeant w s (J.links first at left)) Nothing (links-of s ask first at left)
+  sound-links : (first at : ℕ) (left : Tree) → Reads (GoodMeant s (J.links first at left)) Nothing (links-of s ask first at left)
   unfolding links-of join
   sound-links first at left =
       token-test s _ _
       (λ t. test (is-word (token s (at + 1)))
-      (λ u. hence (asked (J.links first (at + 2) (node Row.Member (at + 1) first (at + 2) (one left)))) (λ end trees m c d. m c (D.member d (tok t) (of is-word u))))
+      (λ u. hence (asked (J.links first (at + 2) (node Row.Member (at + 1) first (at + 2) (one left)))) (λ end trees m c d. m c (D.member d (tok t) (worded u))))
       (λ _. none _))
       (token-test s _ _
       (λ t. follow (asked (J.expression (at + 1)))
@@ -480,36 +459,36 @@ module _ {w : Width} {s : Sheet} {N : Type 0} {ask : Asks N} (h : Answers Any (G
       (λ t. follow (asked (J.arguments first (at + 1) (one left)))
       (λ call m. hence (asked (J.links first (call .end) (tree call)))
       (λ end trees n c d. let e = m (begin c d (tok t)) in n D.calls (rw (root-chain e .lone) at e))))
-      (giving _ _ (λ c d. D.chain d))))
+      (giving _ _ (λ c d. D.linked d))))
     where
-      begin : (c : Chain) → Derives w s (ChainExpression c) first at (one left) → Tok s at LParen → Calling w s first (at + 1) (one left)
+      begin : (c : Links) → Derives s (LinkedExpression c) first at (one left) → Tok s at LParen → Calling s first (at + 1) (one left)
       begin c d t = record { links = c; place = at; callee = one left; given = nil; is-callee = d; opens = t; begun = none-yet refl refl; are = sym (join-nil (one left)) }
 
   -- an element or an argument: AssignmentExpression or SpreadElement, by its first token
   record Item (at end : ℕ) (us : Forest) : Type 0 where
-    element : Derives w s Element at end us
+    element : Derives s Element at end us
     spreads : (ts : Forest) → ends-in-spread (join ts us) ≡ token s at is Dot3
 
-  item : (at : ℕ) → Reads (Means w (Item at)) Nothing (ask (if token s at is Dot3 then J.spread at else J.assignment at))
+  item : (at : ℕ) → Reads (Means (Item at)) Nothing (ask (if token s at is Dot3 then J.spread at else J.assignment at))
   unfolding kind-of
   item at = go (token s at is Dot3) refl
     where
-      spread-item : {end : ℕ} {us : Forest} → token s at is Dot3 ≡ true → Derives w s SpreadElement at end us → Item at end us
+      spread-item : {end : ℕ} {us : Forest} → token s at is Dot3 ≡ true → Derives s SpreadElement at end us → Item at end us
       spread-item e (D.spread t d) = record { element = D.spread-element (D.spread t d); spreads = λ ts. spread-last ts _ ∙ sym e }
 
-      plain-item : {end : ℕ} {us : Forest} → token s at is Dot3 ≡ false → Derives w s AssignmentExpression at end us → Item at end us
+      plain-item : {end : ℕ} {us : Forest} → token s at is Dot3 ≡ false → Derives s AssignmentExpression at end us → Item at end us
       plain-item {end} {us} e d =
           let r = root-assignment d in
           record { element = D.plain-element d; spreads = λ ts. ap (λ (vs : Forest). ends-in-spread (join ts vs)) (r .lone) ∙ spread-last ts (first-tree us) ∙ r .no-spread ∙ sym e }
 
-      go : (b : Bool) → token s at is Dot3 ≡ b → Reads (Means w (Item at)) Nothing (ask (if b then J.spread at else J.assignment at))
+      go : (b : Bool) → token s at is Dot3 ≡ b → Reads (Means (Item at)) Nothing (ask (if b then J.spread at else J.assignment at))
       go true e = hence (asked (J.spread at)) (λ end trees m. spread-item e (m (tok-eq at Dot3 e)))
       go false e = hence (asked (J.assignment at)) (λ end trees d. plain-item e d)
 
-  close-call : {first at : ℕ} {so-far : Forest} → Calling w s first at so-far → Tok s at RParen → Derives w s CallExpression first (at + 1) (one (node Row.Call first first (at + 1) so-far))
+  close-call : {first at : ℕ} {so-far : Forest} → Calling s first at so-far → Tok s at RParen → Derives s CallExpression first (at + 1) (one (node Row.Call first first (at + 1) so-far))
   close-call {first} {at} {so-far} c t = go (c .begun)
     where
-      go : Begun w s Element (c .place + 1) at (c .given) → Derives w s CallExpression first (at + 1) (one (node Row.Call first first (at + 1) so-far))
+      go : Begun s Element (c .place + 1) at (c .given) → Derives s CallExpression first (at + 1) (one (node Row.Call first first (at + 1) so-far))
       go (none-yet q r) =
           let e : at + 1 ≡ c .place + 2 = omega arith in
           let f : so-far ≡ join (c .callee) nil = c .are ∙ ap (join (c .callee)) r in
@@ -518,7 +497,7 @@ module _ {w : Width} {s : Sheet} {N : Type 0} {ask : Asks N} (h : Answers Any (G
           let e : at + 1 ≡ p + 2 = omega arith in
           rw (e, c .are) (D.call (c .is-callee) (D.arguments-comma (c .opens) l u (rw q at t)))
 
-  sound-arguments : (first at : ℕ) (so-far : Forest) → Reads (GoodMeant w s (J.arguments first at so-far)) Nothing (arguments-of s ask first at so-far)
+  sound-arguments : (first at : ℕ) (so-far : Forest) → Reads (GoodMeant s (J.arguments first at so-far)) Nothing (arguments-of s ask first at so-far)
   unfolding arguments-of
   sound-arguments first at so-far =
       token-test s _ _ (λ t. giving _ _ (λ c. close-call c (tok t)))
@@ -527,7 +506,7 @@ module _ {w : Width} {s : Sheet} {N : Type 0} {ask : Asks N} (h : Answers Any (G
       (λ t. hence (asked (J.arguments first (argument .end + 1) (join so-far (argument .trees)))) (λ end trees m c. m (more c i (tok t))))
       (token-test s _ _ (λ t. giving _ _ (λ c. last c i (tok t))) (none _))))
     where
-      more : {end : ℕ} {us : Forest} → Calling w s first at so-far → Item at end us → Tok s end Comma → Calling w s first (end + 1) (join so-far us)
+      more : {end : ℕ} {us : Forest} → Calling s first at so-far → Item at end us → Tok s end Comma → Calling s first (end + 1) (join so-far us)
       more {end} {us} c i t =
           record {
             links = c .links;
@@ -540,30 +519,30 @@ module _ {w : Width} {s : Sheet} {N : Type 0} {ask : Asks N} (h : Answers Any (G
             are = ap (λ (ts : Forest). join ts us) (c .are) ∙ join-assoc (c .callee) (c .given) us;
           }
 
-      last : {end : ℕ} {us : Forest} → Calling w s first at so-far → Item at end us → Tok s end RParen → Derives w s CallExpression first (end + 1) (one (node Row.Call first first (end + 1) (join so-far us)))
+      last : {end : ℕ} {us : Forest} → Calling s first at so-far → Item at end us → Tok s end RParen → Derives s CallExpression first (end + 1) (one (node Row.Call first first (end + 1) (join so-far us)))
       last {end} {us} c i t =
           let f : join so-far us ≡ join (c .callee) (join (c .given) us) = ap (λ (ts : Forest). join ts us) (c .are) ∙ join-assoc (c .callee) (c .given) us in
           rw f (D.call (c .is-callee) (D.arguments (c .opens) (one-more (c .given) us (c .begun) (i .element)) t))
 
   -- 13.2
-  sound-primary : (at : ℕ) → Reads (GoodMeant w s (J.primary at)) Nothing (primary-of s ask at)
+  sound-primary : (at : ℕ) → Reads (GoodMeant s (J.primary at)) Nothing (primary-of s ask at)
   unfolding primary-of parenthesized-of array-row object-row ends-in-spread
   sound-primary at =
-      test (is-name (token s at)) (λ t. giving _ _ (D.identifier (of is-name t)))
+      test (is-name (token s at)) (λ t. giving _ _ (D.identifier (named t)))
       (λ _. token-test s _ _ (λ t. giving _ _ (D.this (tok t)))
-      (test (is-literal (token s at)) (λ t. giving _ _ (D.literal (of is-literal t)))
+      (test (is-literal (token s at)) (λ t. giving _ _ (D.literal (literally t)))
       (λ _. token-test s _ _
       (λ t. follow (asked (J.expression (at + 1))) (λ inner d. token-test s _ _ (λ u. giving _ _ (D.parenthesized (tok t) d (tok u))) (none _)))
       (token-test s _ _ (λ t. hence (asked (J.elements at (at + 1) Row.Array nil)) (λ end trees m. D.array (m (tok t) (only-holes D.no-elision) refl)))
       (token-test s _ _ (λ t. hence (asked (J.properties at (at + 1) Row.Object nil)) (λ end trees m. D.object (m (tok t) (none-yet refl refl) refl)))
       (none _))))))
 
-  sound-spread : (at : ℕ) → Reads (GoodMeant w s (J.spread at)) Nothing (spread-of s ask at)
+  sound-spread : (at : ℕ) → Reads (GoodMeant s (J.spread at)) Nothing (spread-of s ask at)
   unfolding spread-of
   sound-spread at = follow (asked (J.assignment (at + 1))) (λ argument d. giving _ _ (λ t. D.spread t d))
 
   -- holes alone end in no spread
-  holes-row : {i j : ℕ} {ts : Forest} → Derives w s Elision i j ts → array-row ts ≡ Row.Array
+  holes-row : {i j : ℕ} {ts : Forest} → Derives s Elision i j ts → array-row ts ≡ Row.Array
   unfolding array-row ends-in-spread kind-of
   holes-row D.no-elision = refl
   holes-row (D.elision {p = p} {ts = ts} d t) = rw (spread-last ts (leaf Row.Hole p))
@@ -572,7 +551,7 @@ module _ {w : Width} {s : Sheet} {N : Type 0} {ask : Asks N} (h : Answers Any (G
   unfolding array-row kind-of
   hole-row ts at = rw (spread-last ts (leaf Row.Hole at))
 
-  sound-elements : (first at kind : ℕ) (so-far : Forest) → Reads (GoodMeant w s (J.elements first at kind so-far)) Nothing (elements-of s ask first at kind so-far)
+  sound-elements : (first at kind : ℕ) (so-far : Forest) → Reads (GoodMeant s (J.elements first at kind so-far)) Nothing (elements-of s ask first at kind so-far)
   unfolding elements-of array-row
   sound-elements first at kind so-far =
       token-test s _ _ (λ t. giving _ _ (λ o b q. rw q (close o b (tok t))))
@@ -584,33 +563,33 @@ module _ {w : Width} {s : Sheet} {N : Type 0} {ask : Asks N} (h : Answers Any (G
       (λ end trees m o b q. m o (list-and-comma (join so-far (element .trees)) (one-element-more so-far (element .trees) b (i .element)) (tok t)) (rw (i .spreads so-far))))
       (token-test s _ _ (λ t. giving _ _ (λ o b q. D.array-list o (one-element-more so-far (element .trees) b (i .element)) (tok t))) (none _)))))
     where
-      close : Tok s first LBrack → BegunElided w s Element (first + 1) at so-far → Tok s at RBrack → Derives w s ArrayLiteral first (at + 1) (one (node (array-row so-far) first first (at + 1) so-far))
+      close : Tok s first LBrack → BegunElided s Element (first + 1) at so-far → Tok s at RBrack → Derives s ArrayLiteral first (at + 1) (one (node (array-row so-far) first first (at + 1) so-far))
       close o (only-holes d) t = rw (holes-row d) (D.array-empty o d t)
       close o (after-list p ts us l c d q) t = rw q (D.array-comma o l c d t)
 
   -- a property, or a spread, by its first token
   record Property (at end : ℕ) (us : Forest) : Type 0 where
-    definition : Derives w s PropertyDefinition at end us
+    definition : Derives s PropertyDefinition at end us
     spreads : (ts : Forest) → ends-in-spread (join ts us) ≡ token s at is Dot3
 
-  property-item : (at : ℕ) → Reads (Means w (Property at)) Nothing (ask (if token s at is Dot3 then J.spread at else J.property at))
+  property-item : (at : ℕ) → Reads (Means (Property at)) Nothing (ask (if token s at is Dot3 then J.spread at else J.property at))
   unfolding kind-of is-name is-key is-word
   property-item at = go (token s at is Dot3) refl
     where
-      spread-item : {end : ℕ} {us : Forest} → token s at is Dot3 ≡ true → Derives w s SpreadElement at end us → Property at end us
+      spread-item : {end : ℕ} {us : Forest} → token s at is Dot3 ≡ true → Derives s SpreadElement at end us → Property at end us
       spread-item e (D.spread t d) = record { definition = D.spread-property (D.spread t d); spreads = λ ts. spread-last ts _ ∙ sym e }
 
-      plain-item : {end : ℕ} {us : Forest} → token s at is Dot3 ≡ false → Derives w s PropertyDefinition at end us → Property at end us
+      plain-item : {end : ℕ} {us : Forest} → token s at is Dot3 ≡ false → Derives s PropertyDefinition at end us → Property at end us
       plain-item e (D.shorthand n) = record { definition = D.shorthand n; spreads = λ ts. spread-last ts _ ∙ sym e }
       plain-item e (D.cover-initialized n t d) = record { definition = D.cover-initialized n t d; spreads = λ ts. spread-last ts _ ∙ sym e }
       plain-item e (D.property k t d) = record { definition = D.property k t d; spreads = λ ts. spread-last ts _ ∙ sym e }
       plain-item e (D.spread-property (D.spread t d)) = absurd (clash t e)
 
-      go : (b : Bool) → token s at is Dot3 ≡ b → Reads (Means w (Property at)) Nothing (ask (if b then J.spread at else J.property at))
+      go : (b : Bool) → token s at is Dot3 ≡ b → Reads (Means (Property at)) Nothing (ask (if b then J.spread at else J.property at))
       go true e = hence (asked (J.spread at)) (λ end trees m. spread-item e (m (tok-eq at Dot3 e)))
       go false e = hence (asked (J.property at)) (λ end trees d. plain-item e d)
 
-  sound-properties : (first at kind : ℕ) (so-far : Forest) → Reads (GoodMeant w s (J.properties first at kind so-far)) Nothing (properties-of s ask first at kind so-far)
+  sound-properties : (first at kind : ℕ) (so-far : Forest) → Reads (GoodMeant s (J.properties first at kind so-far)) Nothing (properties-of s ask first at kind so-far)
   unfolding properties-of object-row ends-in-spread
   sound-properties first at kind so-far =
       token-test s _ _ (λ t. giving _ _ (λ o b q. rw q (close o b (tok t))))
@@ -620,57 +599,57 @@ module _ {w : Width} {s : Sheet} {N : Type 0} {ask : Asks N} (h : Answers Any (G
       (λ end trees m o b q. m o (after-comma (part .end) (one-more so-far (part .trees) b (i .definition)) (tok t) refl) (rw (i .spreads so-far))))
       (token-test s _ _ (λ t. giving _ _ (λ o b q. D.object-list o (one-more so-far (part .trees) b (i .definition)) (tok t))) (none _))))
     where
-      close : Tok s first LCurly → Begun w s PropertyDefinition (first + 1) at so-far → Tok s at RCurly → Derives w s ObjectLiteral first (at + 1) (one (node (object-row so-far) first first (at + 1) so-far))
+      close : Tok s first LCurly → Begun s PropertyDefinition (first + 1) at so-far → Tok s at RCurly → Derives s ObjectLiteral first (at + 1) (one (node (object-row so-far) first first (at + 1) so-far))
       close o (none-yet q r) t = let e : at + 1 ≡ first + 2 = omega arith in rw (e, r) (D.object-empty o (rw q at t))
       close o (after-comma p l c q) t = let e : at + 1 ≡ p + 2 = omega arith in rw e (D.object-comma o l c (rw q at t))
 
-  sound-property : (at : ℕ) → Reads (GoodMeant w s (J.property at)) Nothing (property-of s ask at)
+  sound-property : (at : ℕ) → Reads (GoodMeant s (J.property at)) Nothing (property-of s ask at)
   unfolding property-of shorthand-of
   sound-property at =
       test (is-name (token s at) and not (token s (at + 1) is Colon))
-      (λ e. let n = of is-name (and-left (is-name (token s at)) (not (token s (at + 1) is Colon)) e) in
+      (λ e. let n = named (and-left (is-name (token s at)) (not (token s (at + 1) is Colon)) e) in
       token-test s _ _
       (λ t. follow (asked (J.assignment (at + 2))) (λ initializer d. giving _ _ (D.cover-initialized n (tok t) d)))
       (giving _ _ (D.shorthand n)))
       (λ _. follow (asked (J.key at))
       (λ name k. token-test s _ _ (λ t. follow (asked (J.assignment (name .end + 1))) (λ content d. giving _ _ (D.property k (tok t) d))) (none _)))
 
-  sound-key : (at : ℕ) → Reads (GoodMeant w s (J.key at)) Nothing (key-of s ask at)
+  sound-key : (at : ℕ) → Reads (GoodMeant s (J.key at)) Nothing (key-of s ask at)
   unfolding key-of is-key
   sound-key at =
-      test (is-key (token s at)) (λ t. giving _ _ (D.literal-name (of is-key t)))
+      test (is-key (token s at)) (λ t. giving _ _ (D.literal-name (keyed t)))
       (λ _. token-test s _ _
       (λ t. follow (asked (J.assignment (at + 1))) (λ inner d. token-test s _ _ (λ u. giving _ _ (D.computed-name (tok t) d (tok u))) (none _)))
       (none _))
 
   -- 14.3.3
-  sound-binding : (at : ℕ) → Reads (GoodMeant w s (J.binding at)) Nothing (binding-of s ask at)
+  sound-binding : (at : ℕ) → Reads (GoodMeant s (J.binding at)) Nothing (binding-of s ask at)
   unfolding binding-of
   sound-binding at =
-      test (is-name (token s at)) (λ t. giving _ _ (D.binding-name (of is-name t)))
+      test (is-name (token s at)) (λ t. giving _ _ (D.binding-name (named t)))
       (λ _. token-test s _ _ (λ t. hence (asked (J.binding-elements at (at + 1) nil)) (λ end trees m. D.binding-pattern (m (tok t) (only-holes D.no-elision))))
       (token-test s _ _ (λ t. hence (asked (J.binding-properties at (at + 1) nil)) (λ end trees m. D.binding-pattern (m (tok t) (none-yet refl refl))))
       (none _)))
 
-  sound-binding-element : (at : ℕ) → Reads (GoodMeant w s (J.binding-element at)) Nothing (binding-element-of s ask at)
+  sound-binding-element : (at : ℕ) → Reads (GoodMeant s (J.binding-element at)) Nothing (binding-element-of s ask at)
   unfolding binding-element-of
   sound-binding-element at =
       follow (asked (J.binding at))
       (λ target d. token-test s _ _ (λ t. follow (asked (J.assignment (target .end + 1))) (λ initializer e. giving _ _ (D.binding-default d (tok t) e)))
       (giving _ _ (D.no-default d)))
 
-  sound-binding-rest : (at : ℕ) → Reads (GoodMeant w s (J.binding-rest at)) Nothing (binding-rest-of s ask at)
+  sound-binding-rest : (at : ℕ) → Reads (GoodMeant s (J.binding-rest at)) Nothing (binding-rest-of s ask at)
   unfolding binding-rest-of kind-of first-tree
   sound-binding-rest at =
       follow (asked (J.binding-element (at + 1))) (λ argument d. saying _ (λ f. giving _ _ (λ t. rest t d f)))
     where
-      rest : {end : ℕ} {trees : Forest} → Tok s at Dot3 → Derives w s BindingElement (at + 1) end trees
-          → Fits w (if kind-of (first-tree trees) is Row.BindingDefault then rest-initializer (mark-of (first-tree trees)) ∷ [] else [])
-          → Derives w s BindingRestElement at end (one (node Row.BindingRest at at end trees))
+      rest : {end : ℕ} {trees : Forest} → Tok s at Dot3 → Derives s BindingElement (at + 1) end trees
+          → Silent (if kind-of (first-tree trees) is Row.BindingDefault then rest-initializer (mark-of (first-tree trees)) ∷ [] else [])
+          → Derives s BindingRestElement at end (one (node Row.BindingRest at at end trees))
       rest t (D.no-default d) f = D.binding-rest t d
-      rest t (D.binding-default d u e) f = D.binding-rest-default (must-be-wider w f) t (D.binding-default d u e)
+      rest t (D.binding-default d u e) f = absurd (said f)
 
-  sound-binding-elements : (first at : ℕ) (so-far : Forest) → Reads (GoodMeant w s (J.binding-elements first at so-far)) Nothing (binding-elements-of s ask first at so-far)
+  sound-binding-elements : (first at : ℕ) (so-far : Forest) → Reads (GoodMeant s (J.binding-elements first at so-far)) Nothing (binding-elements-of s ask first at so-far)
   unfolding binding-elements-of
   sound-binding-elements first at so-far =
       token-test s _ _ (λ t. giving _ _ (λ o b. close o b (tok t)))
@@ -684,17 +663,17 @@ module _ {w : Width} {s : Sheet} {N : Type 0} {ask : Asks N} (h : Answers Any (G
       (λ end trees m o b. m o (list-and-comma (join so-far (element .trees)) (one-element-more so-far (element .trees) b d) (tok t))))
       (token-test s _ _ (λ t. giving _ _ (λ o b. D.binding-array-list o (one-element-more so-far (element .trees) b d) (tok t))) (none _))))))
     where
-      close : Tok s first LBrack → BegunElided w s BindingElement (first + 1) at so-far → Tok s at RBrack → Derives w s BindingPattern first (at + 1) (one (node Row.BindingArray first first (at + 1) so-far))
+      close : Tok s first LBrack → BegunElided s BindingElement (first + 1) at so-far → Tok s at RBrack → Derives s BindingPattern first (at + 1) (one (node Row.BindingArray first first (at + 1) so-far))
       close o (only-holes d) t = D.binding-array-empty o d t
       close o (after-list p ts us l c d q) t = rw q (D.binding-array-comma o l c d t)
 
-      close-rest : {end : ℕ} {us : Forest} → Tok s first LBrack → BegunElided w s BindingElement (first + 1) at so-far → Derives w s BindingRestElement at end us → Tok s end RBrack
-          → Derives w s BindingPattern first (end + 1) (one (node Row.BindingArray first first (end + 1) (join so-far us)))
+      close-rest : {end : ℕ} {us : Forest} → Tok s first LBrack → BegunElided s BindingElement (first + 1) at so-far → Derives s BindingRestElement at end us → Tok s end RBrack
+          → Derives s BindingPattern first (end + 1) (one (node Row.BindingArray first first (end + 1) (join so-far us)))
       close-rest o (only-holes h) d t = D.binding-array-rest o (D.elided h d) t
       close-rest {us = vs} o (after-list p ts us l c h q) d t = rw (q, join-assoc ts us vs) (D.binding-array-list-rest o l c (D.elided h d) t)
 
   -- a binding whose row is a BindingName is a BindingIdentifier
-  pattern-kind : {i j : ℕ} {ts : Forest} → Derives w s BindingPattern i j ts → kind-of (first-tree ts) is Row.BindingName ≡ false
+  pattern-kind : {i j : ℕ} {ts : Forest} → Derives s BindingPattern i j ts → kind-of (first-tree ts) is Row.BindingName ≡ false
   unfolding kind-of first-tree
   pattern-kind (D.binding-object-empty o c) = refl
   pattern-kind (D.binding-object-rest o d c) = refl
@@ -707,21 +686,19 @@ module _ {w : Width} {s : Sheet} {N : Type 0} {ask : Asks N} (h : Answers Any (G
   pattern-kind (D.binding-array-comma o d t e c) = refl
   pattern-kind (D.binding-array-list-rest o d t e c) = refl
 
-  bare-rest : {at end : ℕ} {ts : Forest} → Tok s at Dot3 → Derives w s Binding (at + 1) end ts → kind-of (first-tree ts) is Row.BindingName ≡ true
-      → Derives w s BindingRestProperty at end (one (node Row.BindingRest at at end ts))
+  bare-rest : {at end : ℕ} {ts : Forest} → Tok s at Dot3 → Derives s Binding (at + 1) end ts → kind-of (first-tree ts) is Row.BindingName ≡ true
+      → Derives s BindingRestProperty at end (one (node Row.BindingRest at at end ts))
   bare-rest {at} t (D.binding-name n) k =
       let e : at + 2 ≡ at + 1 + 1 = omega arith in
-      subst (λ (end : ℕ). Derives w s BindingRestProperty at end (one (node Row.BindingRest at at end (one (leaf Row.BindingName (at + 1)))))) e (D.binding-rest-property t n)
+      subst (λ (end : ℕ). Derives s BindingRestProperty at end (one (node Row.BindingRest at at end (one (leaf Row.BindingName (at + 1)))))) e (D.binding-rest-property t n)
   bare-rest t (D.binding-pattern d) k = absurd (not-both k (pattern-kind d))
 
-  name-only : {at end : ℕ} {us : Forest} → Derives w s BindingRestElement at end us → kind-of (first-tree (kids-of (first-tree us))) is Row.BindingName ≡ true
-      → Derives w s BindingRestProperty at end us
+  name-only : {at end : ℕ} {us : Forest} → Derives s BindingRestElement at end us → kind-of (first-tree (kids-of (first-tree us))) is Row.BindingName ≡ true
+      → Derives s BindingRestProperty at end us
   unfolding kind-of kids-of first-tree
   name-only (D.binding-rest t d) k = bare-rest t d k
-  name-only (D.binding-rest-default q t (D.no-default d)) k = bare-rest t d k
-  name-only (D.binding-rest-default q t (D.binding-default d u e)) k = absurd (not-both k refl)
 
-  sound-binding-properties : (first at : ℕ) (so-far : Forest) → Reads (GoodMeant w s (J.binding-properties first at so-far)) Nothing (binding-properties-of s ask first at so-far)
+  sound-binding-properties : (first at : ℕ) (so-far : Forest) → Reads (GoodMeant s (J.binding-properties first at so-far)) Nothing (binding-properties-of s ask first at so-far)
   unfolding binding-properties-of kind-of kids-of first-tree join
   sound-binding-properties first at so-far =
       token-test s _ _ (λ t. giving _ _ (λ o b. close o b (tok t)))
@@ -736,21 +713,21 @@ module _ {w : Width} {s : Sheet} {N : Type 0} {ask : Asks N} (h : Answers Any (G
       (λ end trees m o b. m o (after-comma (part .end) (one-more so-far (part .trees) b d) (tok t) refl)))
       (token-test s _ _ (λ t. giving _ _ (λ o b. D.binding-object-list o (one-more so-far (part .trees) b d) (tok t))) (none _)))))
     where
-      close : Tok s first LCurly → Begun w s BindingProperty (first + 1) at so-far → Tok s at RCurly → Derives w s BindingPattern first (at + 1) (one (node Row.BindingObject first first (at + 1) so-far))
+      close : Tok s first LCurly → Begun s BindingProperty (first + 1) at so-far → Tok s at RCurly → Derives s BindingPattern first (at + 1) (one (node Row.BindingObject first first (at + 1) so-far))
       close o (none-yet q r) t = let e : at + 1 ≡ first + 2 = omega arith in rw (e, r) (D.binding-object-empty o (rw q at t))
       close o (after-comma p l c q) t = let e : at + 1 ≡ p + 2 = omega arith in rw e (D.binding-object-comma o l c (rw q at t))
 
-      close-rest : {end : ℕ} {us : Forest} → Tok s first LCurly → Begun w s BindingProperty (first + 1) at so-far → Derives w s BindingRestElement at end us
+      close-rest : {end : ℕ} {us : Forest} → Tok s first LCurly → Begun s BindingProperty (first + 1) at so-far → Derives s BindingRestElement at end us
           → kind-of (first-tree (kids-of (first-tree us))) is Row.BindingName ≡ true → Tok s end RCurly
-          → Derives w s BindingPattern first (end + 1) (one (node Row.BindingObject first first (end + 1) (join so-far us)))
+          → Derives s BindingPattern first (end + 1) (one (node Row.BindingObject first first (end + 1) (join so-far us)))
       close-rest o (none-yet q r) d k t = rw r (D.binding-object-rest o (rw q at (name-only d k)) t)
       close-rest o (after-comma p l c q) d k t = D.binding-object-list-rest o l c (rw q at (name-only d k)) t
 
-  sound-binding-property : (at : ℕ) → Reads (GoodMeant w s (J.binding-property at)) Nothing (binding-property-of s ask at)
+  sound-binding-property : (at : ℕ) → Reads (GoodMeant s (J.binding-property at)) Nothing (binding-property-of s ask at)
   unfolding binding-property-of binding-shorthand-of
   sound-binding-property at =
       test (is-name (token s at) and not (token s (at + 1) is Colon))
-      (λ e. let n = of is-name (and-left (is-name (token s at)) (not (token s (at + 1) is Colon)) e) in
+      (λ e. let n = named (and-left (is-name (token s at)) (not (token s (at + 1) is Colon)) e) in
       token-test s _ _
       (λ t. follow (asked (J.assignment (at + 2))) (λ initializer d. giving _ _ (D.binding-shorthand-default n (tok t) d)))
       (giving _ _ (D.binding-shorthand n)))
@@ -758,7 +735,7 @@ module _ {w : Width} {s : Sheet} {N : Type 0} {ask : Asks N} (h : Answers Any (G
       (λ name k. token-test s _ _ (λ t. follow (asked (J.binding-element (name .end + 1))) (λ content d. giving _ _ (D.binding-property k (tok t) d))) (none _)))
 
   -- 15.1, 15.3 and 15.9
-  sound-parameters : (at : ℕ) (so-far : Forest) → Reads (GoodMeant w s (J.parameters at so-far)) Nothing (parameters-of s ask at so-far)
+  sound-parameters : (at : ℕ) (so-far : Forest) → Reads (GoodMeant s (J.parameters at so-far)) Nothing (parameters-of s ask at so-far)
   unfolding parameters-of join
   sound-parameters at so-far =
       token-test s _ _ (λ t. giving _ _ (λ i o b. D.arrow-formal-parameters o (close b) (tok t)))
@@ -770,22 +747,22 @@ module _ {w : Width} {s : Sheet} {N : Type 0} {ask : Asks N} (h : Answers Any (G
       (λ end trees m i o b. m i o (after-comma (parameter .end) (one-more so-far (parameter .trees) b d) (tok t) refl)))
       (token-test s _ _ (λ t. giving _ _ (λ i o b. D.arrow-formal-parameters o (D.parameters (one-more so-far (parameter .trees) b d)) (tok t))) (none _)))))
     where
-      close : {i : ℕ} → Begun w s BindingElement i at so-far → Derives w s FormalParameters i at so-far
+      close : {i : ℕ} → Begun s BindingElement i at so-far → Derives s FormalParameters i at so-far
       close (none-yet q r) = rw (q, r) D.no-parameters
       close (after-comma p l c q) = rw q (D.parameters-comma l c)
 
-      close-rest : {i end : ℕ} {us : Forest} → Begun w s BindingElement i at so-far → Derives w s BindingRestElement at end us → Derives w s FormalParameters i end (join so-far us)
+      close-rest : {i end : ℕ} {us : Forest} → Begun s BindingElement i at so-far → Derives s BindingRestElement at end us → Derives s FormalParameters i end (join so-far us)
       close-rest (none-yet q r) d = rw r (D.rest-parameter (rw q at d))
       close-rest (after-comma p l c q) d = D.parameters-rest l c (rw q at d)
 
-  sound-parenthesized-head : (at : ℕ) → Reads (Means w (λ end trees. Tok s at LParen × Derives w s ArrowFormalParameters at end trees × Tok s end Arrow)) Nothing (parenthesized-head-of s ask at)
+  sound-parenthesized-head : (at : ℕ) → Reads (Means (λ end trees. Tok s at LParen × Derives s ArrowFormalParameters at end trees × Tok s end Arrow)) Nothing (parenthesized-head-of s ask at)
   unfolding parenthesized-head-of
   sound-parenthesized-head at =
       token-test s _ _
       (λ t. follow (asked (J.parameters (at + 1) nil)) (λ list m. token-test s _ _ (λ u. giving _ _ (tok t, m at (tok t) (none-yet refl refl), tok u)) (none _)))
       (none _)
 
-  sound-head : (at : ℕ) → Reads (GoodMeant w s (J.head at)) Nothing (head-of s ask at)
+  sound-head : (at : ℕ) → Reads (GoodMeant s (J.head at)) Nothing (head-of s ask at)
   unfolding head-of
   sound-head at =
       token-test s _ _
@@ -794,7 +771,7 @@ module _ {w : Width} {s : Sheet} {N : Type 0} {ask : Asks N} (h : Answers Any (G
       (λ _. none _))
       (hence (sound-parenthesized-head at) (λ end trees d. plain-head (d .0) (d .1) (d .2)))
 
-  sound-body : (kind first at : ℕ) (so-far : Forest) → Reads (GoodMeant w s (J.body kind first at so-far)) Nothing (body-of s ask kind first at so-far)
+  sound-body : (kind first at : ℕ) (so-far : Forest) → Reads (GoodMeant s (J.body kind first at so-far)) Nothing (body-of s ask kind first at so-far)
   unfolding body-of
   sound-body kind first at so-far =
       saying _ (λ f. test (not (token s (at + 1) is LCurly))
@@ -802,36 +779,36 @@ module _ {w : Width} {s : Sheet} {N : Type 0} {ask : Asks N} (h : Answers Any (G
       (λ inner d. giving _ _ (record { line = line (break-before s at) refl f; inner = inner .trees; body = D.concise-body (record { other = not-true (token s (at + 1) is LCurly) n }) d; is-row = refl })))
       (λ _. none _))
     where
-      line : (b : Bool) → break-before s at ≡ b → Fits w (if b then break-before-arrow at ∷ [] else []) → Unbroken w s at
-      line true e f = broken (must-be-wider w f)
-      line false e f = same-line (record { unbroken = e })
+      line : (b : Bool) → break-before s at ≡ b → Silent (if b then break-before-arrow at ∷ [] else []) → SameLine s at
+      line true e f = absurd (said f)
+      line false e f = (record { unbroken = e })
 
 -- an arrow function from its head and body
-arrow-from : {w : Width} {s : Sheet} {i p j : ℕ} {params ts : Forest} → Head w s i p params → (token s i is Async ≡ true → Arrowed w s Row.AsyncArrow i p params j ts)
-    → (token s i is Async ≡ false → Arrowed w s Row.Arrow i p params j ts) → Derives w s AssignmentExpression i j ts
+arrow-from : {s : Sheet} {i p j : ℕ} {params ts : Forest} → Head s i p params → (token s i is Async ≡ true → Arrowed s Row.AsyncArrow i p params j ts)
+    → (token s i is Async ≡ false → Arrowed s Row.Arrow i p params j ts) → Derives s AssignmentExpression i j ts
 arrow-from {s = s} {i} (plain-head o d t) a b = arrow-of-name (D.arrow-parameters d) t (b (rw (o .kind-is)))
 arrow-from {s = s} {i} (async-head o l d t) a b = arrow-of-async (D.async-parameters o l d) t (a (rw (o .kind-is)))
 
-module _ {w : Width} {s : Sheet} {N : Type 0} {ask : Asks N} (policy : Policy N) (h : Answers Any (GoodMeant w s) Nothing ask) where
-  sound-arrow : (at : ℕ) (list : Part) → Head w s at (list .end) (list .trees) → Reads (GoodMeant w s (J.assignment at)) Nothing (arrow-of policy s ask at list)
+module _ {s : Sheet} {N : Type 0} {ask : Asks N} (policy : Policy N) (h : Answers Any (GoodMeant s) Nothing ask) where
+  sound-arrow : (at : ℕ) (list : Part) → Head s at (list .end) (list .trees) → Reads (GoodMeant s (J.assignment at)) Nothing (arrow-of policy s ask at list)
   unfolding arrow-of
   sound-arrow at list d = go (token s at is Async) refl
     where
-      go : (b : Bool) → token s at is Async ≡ b → Reads (GoodMeant w s (J.assignment at)) Nothing (ask (J.body (if b then Row.AsyncArrow else Row.Arrow) at (list .end) (list .trees)))
+      go : (b : Bool) → token s at is Async ≡ b → Reads (GoodMeant s (J.assignment at)) Nothing (ask (J.body (if b then Row.AsyncArrow else Row.Arrow) at (list .end) (list .trees)))
       go true e = hence (asked h (J.body Row.AsyncArrow at (list .end) (list .trees))) (λ end trees a. arrow-from d (λ _. a) (λ n. absurd (not-both e n)))
       go false e = hence (asked h (J.body Row.Arrow at (list .end) (list .trees))) (λ end trees a. arrow-from d (λ n. absurd (not-both n e)) (λ _. a))
 
-  sound-assignment : (at : ℕ) → Reads (GoodMeant w s (J.assignment at)) Nothing (assignment-of policy s ask at)
+  sound-assignment : (at : ℕ) → Reads (GoodMeant s (J.assignment at)) Nothing (assignment-of policy s ask at)
   unfolding assignment-of
   sound-assignment at =
-      let past : Reads (GoodMeant w s (J.assignment at)) Nothing (ask (J.value at)) = hence (asked h (J.value at)) (λ end trees v. as-assignment v) in
+      let past : Reads (GoodMeant s (J.assignment at)) Nothing (ask (J.value at)) = hence (asked h (J.value at)) (λ end trees v. as-assignment v) in
       test (token s at is LParen or token s at is Async)
       (λ _. chooses (policy .way at) past
       (trying (asked h (J.head at)) (sound-arrow at) (notes (policy .mark at) past))
       (follow (asked h (J.head at)) (sound-arrow at)))
       (λ _. past)
 
-  sound-step : (job : Job) → Reads (GoodMeant w s job) Nothing (step policy s ask job)
+  sound-step : (job : Job) → Reads (GoodMeant s job) Nothing (step policy s ask job)
   unfolding step
   sound-step (J.expression at) = sound-expression h at
   sound-step (J.sequence first comma at so-far) = sound-sequence h first comma at so-far
@@ -864,14 +841,10 @@ module _ {w : Width} {s : Sheet} {N : Type 0} {ask : Asks N} (policy : Policy N)
 
 -- THE STATEMENTS
 module _ {N : Type 0} (policy : Policy N) (s : Sheet) where
-  preserved : (w : Width) → Preserved policy s Any (GoodMeant w s) Nothing
-  preserved w = record { with = λ ask h. record { with = λ job _. sound-step policy h job } }
+  preserved : Preserved policy s Any (GoodMeant s) Nothing
+  preserved = record { with = λ ask h. record { with = λ job _. sound-step policy h job } }
 
-  -- what is done means what it should, in the standard's grammar if there is no record, and in the wider one with any
-  pub sound : (w : Width) (steps : ℕ) (job : Job) (before : N) {end : ℕ} {trees : Forest} {records : List Record} {after : N}
-      → read policy s steps job before ≡ done end trees records after → Fits w records → Meant w s job end trees
-  sound w steps job before e = good-done policy s Any (GoodMeant w s) Nothing steps (good policy s Any (GoodMeant w s) Nothing (preserved w) steps) job tt before e
-
-  pub sound-wider : (steps : ℕ) (job : Job) (before : N) {end : ℕ} {trees : Forest} {records : List Record} {after : N}
-      → read policy s steps job before ≡ done end trees records after → Meant wider s job end trees
-  sound-wider steps job before {records = records} e = sound wider steps job before e (any-fit records)
+  -- what is done with no record means what it should
+  pub sound : (steps : ℕ) (job : Job) (before : N) {end : ℕ} {trees : Forest} {after : N} → read policy s steps job before ≡ done end trees [] after → Meant s job end trees
+  sound steps job before e =
+      good-done policy s Any (GoodMeant s) Nothing steps (good policy s Any (GoodMeant s) Nothing preserved steps) job tt before e silent

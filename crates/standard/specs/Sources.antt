@@ -22,7 +22,8 @@ use Rattle.grammar.specs.Job as J
 use Rattle.grammar.specs.Assignment.{is-assignment-operator}
 use Rattle.laws.specs.Good.{inside, and-left, and-right}
 use Rattle.standard.specs.Derives as D
-use Rattle.standard.specs.Derives.{Tok, Of, is-compound, is-prefix, is-update, Elision, ends-in-spread, array-row, object-row, standard, Derives}
+use Rattle.standard.specs.Terminals.{Of, is-prefix, is-update, is-compound}
+use Rattle.standard.specs.Derives.{Tok, Elision, ends-in-spread, array-row, object-row, Derives}
 use Rattle.standard.specs.Levels.{past-levels}
 use Rattle.standard.specs.Roots.{not-both, spread-last, Each, each-one, each-more, Past, past}
 use Rattle.standard.specs.Convert.{Expected, as-target, as-simple-target, as-content, as-middle, as-last, simple-kind, alike, followed, followed-property, Holey, holey-middle, hole-stays, holey, same-stays, Two, two}
@@ -63,13 +64,13 @@ join-turns (cons t ts) us vs ws f g h a b = go (two (convert-as t (g (count ts))
         rw (c, d) (ap (λ (x : Forest). turned x []) m)
 
 -- holes stay
-pub holes-turn : {s : Sheet} {i p : ℕ} {hs : Forest} → Derives standard s Elision i p hs → (f : ℕ → Role) → ((n : ℕ) → Holey (f n)) → convert-kids hs f ≡ turned hs []
+pub holes-turn : {s : Sheet} {i p : ℕ} {hs : Forest} → Derives s Elision i p hs → (f : ℕ → Role) → ((n : ℕ) → Holey (f n)) → convert-kids hs f ≡ turned hs []
 unfolding convert-kids count
 holes-turn D.no-elision f h = refl
 holes-turn (D.elision {p = p} {ts = hs} d t) f h =
     join-turns hs (one (leaf Row.Hole p)) hs (one (leaf Row.Hole p)) f (λ n. f (n + 1)) (λ n. refl) (holes-turn d (λ n. f (n + 1)) (λ n. h (n + 1))) (one-turns f (leaf Row.Hole p) (leaf Row.Hole p) (hole-stays p (h 0)))
 
-pub holes-array : {s : Sheet} {i p : ℕ} {hs : Forest} → Derives standard s Elision i p hs → array-row hs ≡ Row.Array
+pub holes-array : {s : Sheet} {i p : ℕ} {hs : Forest} → Derives s Elision i p hs → array-row hs ≡ Row.Array
 unfolding array-row ends-in-spread kind-of
 holes-array D.no-elision = refl
 holes-array (D.elision {p = p} {ts = hs} d t) = rw (spread-last hs (leaf Row.Hole p))
@@ -361,7 +362,7 @@ module _ {s : Sheet} where
 -- a list of elements, read as an ElementList
 pub record ListSource (s : Sheet) (i p : ℕ) (us : Forest) : Type 0 where
   pub trees : Forest
-  pub items : Each s (Past standard s (ItemDone s)) i p trees
+  pub items : Each s (Past s (ItemDone s)) i p trees
   pub in-the-middle : convert-kids trees (only element) ≡ turned us []
   pub at-the-end : convert-kids trees (elements []) ≡ turned us []
   pub no-spread : ends-in-spread trees ≡ false
@@ -382,14 +383,14 @@ before-more hs t n =
     suc-last n = omega arith
 
 -- one element after holes
-pub past-middle : {s : Sheet} {i p : ℕ} (hs : Forest) (t u : Tree) → Derives standard s Elision i p hs → convert-as t element ≡ turned u [] → convert-kids (join hs (one t)) (only element) ≡ turned (join hs (one u)) []
+pub past-middle : {s : Sheet} {i p : ℕ} (hs : Forest) (t u : Tree) → Derives s Elision i p hs → convert-as t element ≡ turned u [] → convert-kids (join hs (one t)) (only element) ≡ turned (join hs (one u)) []
 past-middle hs t u h e = join-turns hs (one t) hs (one u) (only element) (only element) (λ n. refl) (holes-turn h (only element) (λ n. holey-middle)) (one-turns (only element) t u e)
 
-pub past-last : {s : Sheet} {i p : ℕ} (hs : Forest) (t u : Tree) → Derives standard s Elision i p hs → convert-as t (last-element []) ≡ turned u [] → convert-kids (join hs (one t)) (elements []) ≡ turned (join hs (one u)) []
+pub past-last : {s : Sheet} {i p : ℕ} (hs : Forest) (t u : Tree) → Derives s Elision i p hs → convert-as t (last-element []) ≡ turned u [] → convert-kids (join hs (one t)) (elements []) ≡ turned (join hs (one u)) []
 past-last hs t u h e = join-turns hs (one t) hs (one u) (elements []) (only element) (before-last t) (holes-turn h (only element) (λ n. holey-middle)) (one-turns (elements []) t u e)
 
 module _ {s : Sheet} where
-  pub elements-source : {i p : ℕ} {us : Forest} → Each s (Past standard s (ElementDone s)) i p us → ListSource s i p us
+  pub elements-source : {i p : ℕ} {us : Forest} → Each s (Past s (ElementDone s)) i p us → ListSource s i p us
   elements-source {i} {p} (each-one (past {hs = hs} {ts = ts} h x)) =
       subst (λ (v : Forest). ListSource s i p (join hs v)) (sym (x .is-one))
       (record {
@@ -412,19 +413,19 @@ module _ {s : Sheet} where
       })
 
   -- ARRAY PATTERNS
-  pub array-empty-source : {i p : ℕ} {ts : Forest} → Tok s i LBrack → Derives standard s Elision (i + 1) p ts → Tok s p RBrack → PatternDone s i (p + 1) (one (node Row.TargetArray i i (p + 1) ts))
+  pub array-empty-source : {i p : ℕ} {ts : Forest} → Tok s i LBrack → Derives s Elision (i + 1) p ts → Tok s p RBrack → PatternDone s i (p + 1) (one (node Row.TargetArray i i (p + 1) ts))
   array-empty-source {i} {p} {ts} o d c =
       array-pattern ts ts o (subst (λ (k : ℕ). Reads s (J.primary i) (p + 1) (one (node k i i (p + 1) ts))) (holes-array d) (array-empty-reads o d c)) (holes-turn d (elements []) (holey []))
 
-  pub array-rest-source : {i p : ℕ} {ts : Forest} → Tok s i LBrack → Past standard s (RestDone s) (i + 1) p ts → Tok s p RBrack → PatternDone s i (p + 1) (one (node Row.TargetArray i i (p + 1) ts))
+  pub array-rest-source : {i p : ℕ} {ts : Forest} → Tok s i LBrack → Past s (RestDone s) (i + 1) p ts → Tok s p RBrack → PatternDone s i (p + 1) (one (node Row.TargetArray i i (p + 1) ts))
   array-rest-source {i} {p} o (past {hs = hs} {ts = ts} h x) c =
       subst (λ (v : Forest). PatternDone s i (p + 1) (one (node Row.TargetArray i i (p + 1) (join hs v)))) (sym (x .is-one))
       (array-pattern (join hs (one (x .tree))) (join hs (one (x .into))) o (array-list-reads o (each-one (past h (x .item))) c) (past-last hs (x .tree) (x .into) h (x .turns)))
 
-  pub array-list-source : {i p : ℕ} {ts : Forest} → Tok s i LBrack → Each s (Past standard s (ElementDone s)) (i + 1) p ts → Tok s p RBrack → PatternDone s i (p + 1) (one (node Row.TargetArray i i (p + 1) ts))
+  pub array-list-source : {i p : ℕ} {ts : Forest} → Tok s i LBrack → Each s (Past s (ElementDone s)) (i + 1) p ts → Tok s p RBrack → PatternDone s i (p + 1) (one (node Row.TargetArray i i (p + 1) ts))
   array-list-source {i} {p} {ts} o l c = let y = elements-source l in array-pattern (y .trees) ts o (array-list-reads o (y .items) c) (y .at-the-end)
 
-  pub array-comma-source : {i p q : ℕ} {ts us : Forest} → Tok s i LBrack → Each s (Past standard s (ElementDone s)) (i + 1) p ts → Tok s p Comma → Derives standard s Elision (p + 1) q us → Tok s q RBrack
+  pub array-comma-source : {i p q : ℕ} {ts us : Forest} → Tok s i LBrack → Each s (Past s (ElementDone s)) (i + 1) p ts → Tok s p Comma → Derives s Elision (p + 1) q us → Tok s q RBrack
       → PatternDone s i (q + 1) (one (node Row.TargetArray i i (q + 1) (join ts us)))
   unfolding array-row kind-of count
   array-comma-source {i} {p} {q} {ts} {us} o l t d c =
@@ -433,16 +434,16 @@ module _ {s : Sheet} where
       y : ListSource s (i + 1) p ts
       y = elements-source l
 
-      row : {a b : ℕ} {hs : Forest} → Derives standard s Elision a b hs → array-row (join (y .trees) hs) ≡ Row.Array
+      row : {a b : ℕ} {hs : Forest} → Derives s Elision a b hs → array-row (join (y .trees) hs) ≡ Row.Array
       row D.no-elision = rw (join-nil (y .trees), y .no-spread)
       row (D.elision {p = r} {ts = hs} h u) = rw (sym (join-assoc (y .trees) hs (one (leaf Row.Hole r))), spread-last (join (y .trees) hs) (leaf Row.Hole r))
 
-      turn-all : {a b : ℕ} {hs : Forest} → Derives standard s Elision a b hs → convert-kids (join (y .trees) hs) (elements []) ≡ turned (join ts hs) []
+      turn-all : {a b : ℕ} {hs : Forest} → Derives s Elision a b hs → convert-kids (join (y .trees) hs) (elements []) ≡ turned (join ts hs) []
       turn-all D.no-elision = rw (join-nil (y .trees), join-nil ts) (y .at-the-end)
       turn-all (D.elision {p = r} {ts = hs} h u) =
           join-turns (y .trees) (join hs (one (leaf Row.Hole r))) ts (join hs (one (leaf Row.Hole r))) (elements []) (only element) (before-more hs (leaf Row.Hole r)) (y .in-the-middle) (holes-turn (D.elision h u) (elements []) (holey []))
 
-  pub array-list-rest-source : {i p q : ℕ} {ts us : Forest} → Tok s i LBrack → Each s (Past standard s (ElementDone s)) (i + 1) p ts → Tok s p Comma → Past standard s (RestDone s) (p + 1) q us → Tok s q RBrack
+  pub array-list-rest-source : {i p q : ℕ} {ts us : Forest} → Tok s i LBrack → Each s (Past s (ElementDone s)) (i + 1) p ts → Tok s p Comma → Past s (RestDone s) (p + 1) q us → Tok s q RBrack
       → PatternDone s i (q + 1) (one (node Row.TargetArray i i (q + 1) (join ts us)))
   array-list-rest-source {i} {p} {q} {ts = vs} o l t (past {hs = hs} {ts = ts} h x) c =
       let y = elements-source l in

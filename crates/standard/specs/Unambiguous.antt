@@ -11,7 +11,7 @@ use Rattle.grammar.specs.Sheet.{Sheet, first-tree}
 use Rattle.grammar.specs.Job.{Job}
 use Rattle.grammar.specs.Reading.{whole, plain, plain-reading, plain-pattern}
 use Rattle.laws.specs.Steady.{one-outcome}
-use Rattle.standard.specs.Derives.{Nonterminal, Expression, BindingElement, standard, Derives, Derived}
+use Rattle.standard.specs.Derives.{Nonterminal, Expression, BindingElement, Derives, Derived}
 use Rattle.standard.specs.Clean.{Standard, clean-expression, clean-binding}
 use Rattle.standard.specs.Rules.{Reads}
 use Rattle.standard.specs.Complete.{complete, at-the-end, not-comma, complete-expression, complete-binding}
@@ -22,11 +22,11 @@ one-reading a b = let e = one-outcome (a .settles) (b .settles) in cc
 
 module _ {s : Sheet} {ts us : Forest} where
   -- two derivations of an Expression over the same list have the same tree
-  pub one-expression : Derives standard s Expression 0 (length (s .kinds)) ts → Derives standard s Expression 0 (length (s .kinds)) us → ts ≡ us
+  pub one-expression : Derives s Expression 0 (length (s .kinds)) ts → Derives s Expression 0 (length (s .kinds)) us → ts ≡ us
   one-expression d e = one-reading (complete d .reads (at-the-end s) (not-comma s)) (complete e .reads (at-the-end s) (not-comma s))
 
   -- and so have two derivations of a BindingElement
-  pub one-binding : Derives standard s BindingElement 0 (length (s .kinds)) ts → Derives standard s BindingElement 0 (length (s .kinds)) us → ts ≡ us
+  pub one-binding : Derives s BindingElement 0 (length (s .kinds)) ts → Derives s BindingElement 0 (length (s .kinds)) us → ts ≡ us
   one-binding d e = one-reading (complete d .reads (at-the-end s)) (complete e .reads (at-the-end s))
 
 one-tree : {s : Sheet} {x : Nonterminal} {t : Tree} → Standard s x (one t) → Derived s x 0 (length (s .kinds)) t
