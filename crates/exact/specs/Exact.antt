@@ -1,6 +1,6 @@
 -- Demand 2 in the standard's own terms, of the entries. Past the checks 1 to 7: where an entry answers Read with no record, ECMA-262 derives the whole list, and the rows
 -- are those of its tree. In a list without the early commit, what ECMA-262 derives an entry answers so, with those rows.
--- The statements: `clean-reading`, `clean-pattern`; of the entries `read-is-derived`, `derived-is-read`, `pattern-is-derived`, `derived-is-pattern`. Assumes nothing.
+-- The statements: `clean-reading`, `clean-pattern`; of the entries `read-is-derived`, `derived-is-read`, `pattern-is-derived`, `derived-is-pattern`, `clean-targets`. Assumes nothing.
 use Prim.Native.Nat.{ℕ}
 use mathlib.Core.Path.{_≡_, refl, ap, _∙_}
 use mathlib.Core.Logic.{_↔_}
@@ -22,6 +22,7 @@ use Rattle.agreement.specs.Answers.{Shows, entry-read, read-agrees, pattern-agr
 use Rattle.standard.specs.Derives.{Nonterminal, Expression, BindingElement, Derived}
 use Rattle.standard.specs.Clean.{Standard, clean-expression, clean-binding}
 use Rattle.standard.specs.Unambiguous.{clean-is-derived, clean-is-bound}
+use Rattle.standard.specs.Targets.{Own, In, target-rows}
 
 -- what the plain reader reads, whatever the notes after: it has none
 plainly : {out : Whole (Unit {0})} {t : Tree} → ReadAs out (one t) [] → out ≡ whole (one t) [] tt
@@ -79,3 +80,7 @@ module _ (sheet : Sheet) (rows records : List ℕ) (fine : checks sheet rows rec
 
   pub derived-is-pattern : NoEarly sheet → (t : Tree) → Derived sheet BindingElement 0 (length (sheet .kinds)) t → Shows (pattern-entry sheet rows records) rows records (one t) []
   derived-is-pattern none t d = pattern-agrees sheet rows records fine none (one t) [] (record { after = tt; is-whole = clean-is-bound .1 d })
+
+-- In a tree that an entry shows with no record, every row of a target's kind is derived by the standard as a target, over its own tokens.
+pub clean-targets : {x : Nonterminal} {sheet : Sheet} {given : Given} {rows records : List ℕ} {u : Tree} (d : ShowsDerived x sheet given rows records) → In u (d .tree) → Own sheet u
+clean-targets d a = target-rows (d .derived .derivation) a
