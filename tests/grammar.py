@@ -15,12 +15,12 @@ import grammar  # noqa: E402
 
 # Where the types do not have the symbol that the standard prints. A remark after a comma says which other nonterminal stands for the printed one.
 REMARKS = {
-    # 13.4.1, 13.15.1, 13.15.5.1: an early error unless the AssignmentTargetType (8.6.4) of what is printed is simple
-    'of a simple target': {'LeftHandSideExpression': 'SimpleTarget', 'UnaryExpression': 'SimpleTarget', 'Expression': 'SimpleTarget'},
+    # 13.4.1, 13.15.1, 13.15.5.1: an early error unless its AssignmentTargetType (8.6.4) is simple
+    'of a simple target': {'LeftHandSideExpression': 'SimpleTarget'},
+    # 13.4.1: likewise
+    'which is a simple target': {'UnaryExpression': 'SimpleTarget'},
     # 13.15.1: or it is an ObjectLiteral or ArrayLiteral, and covers an AssignmentPattern
     'of a simple target or an AssignmentPattern': {'LeftHandSideExpression': 'DestructuringAssignmentTarget'},
-    # 13.15.5.1: likewise, the second case alone
-    'of an AssignmentPattern': {'LeftHandSideExpression': 'AssignmentPattern'},
     # 13.15.5.1: an early error for the rest of an object
     'which is no ArrayLiteral or ObjectLiteral': {'DestructuringAssignmentTarget': 'SimpleTarget'},
 }
@@ -166,7 +166,7 @@ def listed(comment):
     if ' but not ' in text:
         every, without = text.split(' but not ')
         return [kind for kind in kinds([every]) if kind not in kinds([without])]
-    words = re.sub(r'^one of ', '', text).split() + [word for part in more for word in re.sub(r'^and ', '', part).split()]
+    words = re.sub(r'^one of ', '', text).split() + [word for part in more if part.startswith('and ') for word in part.split()[1:]]
     return kinds([word for word in words if word != '|'] + ([remark] if remark else []))
 
 

@@ -24,7 +24,8 @@ HEAD = """\
 
 This is the grammar of `{derives}` as BNF, made by `tools/grammar.py > docs/GRAMMAR.md` from the types there; a test holds this page and that file's comments to
 the types (`tests/grammar.py`). The theorems are about that file, not about this page. The standard is ECMA-262, 16th edition, June 2025.
-- Left out: functions, classes, methods, templates, `new`, `?.`, `await` and `yield`, the last two as names also. The rest is the standard's with [+In, ~Yield, ~Await].
+- Left out: functions but arrows, bodies in braces, classes, methods, private names, templates, `new`, `super`, `import`, `?.`, `await` and `yield`, the last two as names also.
+  The rest is the standard's with [+In, ~Yield, ~Await], and in 15.9 with [+Await], which is the same where nothing is awaited.
 - Lists and elisions are said once in that file and written out here. `Elision` may be empty, for *Elision opt*; Initializer is written `= AssignmentExpression`.
 - For cover grammars their refined grammars stand here: AssignmentPattern, ArrowFormalParameters, AsyncArrowHead. A CoverInitializedName is derived; `Derived` asks that none be left.
 - `SimpleTarget` stands where the standard has a LeftHandSideExpression or a UnaryExpression, and an early error unless its AssignmentTargetType is simple (8.6.4).

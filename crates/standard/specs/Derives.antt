@@ -1,9 +1,11 @@
 -- The grammar of expressions as ECMA-262 prints it (16th edition, June 2025): what is derived, from which place to which, and the rows that stand for it.
--- One constructor a production, in the order of clauses 13.2 to 13.16, 14.3.3, 15.1, 15.3 and 15.9, as far as docs/RULES.md goes: no functions, classes, methods,
--- templates, `new`, `?.`, await or yield. All productions are those with [+In, ~Yield, ~Await]. Where the standard reads by a cover grammar and refines afterwards, the
--- refined grammar stands here: an AssignmentPattern (13.15.5) has target rows, ArrowFormalParameters (15.3) have binding rows.
+-- One constructor a production, in the order of clauses 13.2 to 13.16, 14.3.3, 15.1, 15.3 and 15.9, as far as docs/RULES.md goes: no functions but arrows, no bodies
+-- in braces, classes, methods, private names, templates, `new`, `super`, `import`, `?.`, await or yield. All productions are those with [+In, ~Yield, ~Await], and in 15.9
+-- with [+Await], which is the same where nothing is awaited. Where the standard reads by a cover grammar and refines afterwards, the refined grammar stands here:
+-- an AssignmentPattern (13.15.5) has target rows, ArrowFormalParameters (15.3) have binding rows.
 -- `Derives s x i j ts` is a derivation. An Expression of it is the standard's if no CoverInitializedName is left in it (`Derived`, at the end). Early errors that
--- need the text of names (15.1.1 duplicate parameters, strict mode's words) are not judged: a token's kind does not tell a name's text.
+-- need the text of a token (15.1.1 a parameter twice, 13.2.5.1 `__proto__` twice, 13.2.7.1 inside a regular expression) and those of strict mode are not judged: a kind does
+-- not tell a token's text, and the code is not strict.
 -- Nothing here converts, looks ahead, notes or counts steps, and no class or table of the reader is used: every terminal of every production is listed here.
 -- What is shared with the reader is the numbers of tokens (tokens/specs/Kind.antt) and rows (rows/specs/Row.antt), and what a tree is.
 -- Assumes nothing: these are definitions.
@@ -49,7 +51,7 @@ abbrev pub reserved-words : List ℕ
 reserved-words =
     Await ∷ Const ∷ Delete ∷ Extends ∷ False ∷ In ∷ Instanceof ∷ New ∷ Null ∷ This ∷ True ∷ Typeof ∷ Void ∷ Yield ∷ Reserved ∷ []
 
--- 12.7 IdentifierName : Identifier | ReservedWord
+-- 12.7 IdentifierName : Identifier | ReservedWord; as 13.1 divides them
 abbrev pub identifier-names : List ℕ
 identifier-names = identifiers ++ reserved-words
 
@@ -353,7 +355,7 @@ pub data Derives (s : Sheet) : Nonterminal → ℕ → ℕ → Forest → Type 0
   -- UpdateExpression : LeftHandSideExpression [no LineTerminator here] ++ | LeftHandSideExpression [no LineTerminator here] --, of a simple target (13.4.1)
   postfix : {i p : ℕ} {ts : Forest} → Derives s SimpleTarget i p ts → OneOf update-operators s p → SameLine s p
       → Derives s UpdateExpression i (p + 1) (one (node Row.PostfixUpdate p i (p + 1) ts))
-  -- UpdateExpression : ++ UnaryExpression | -- UnaryExpression, of a simple target (13.4.1)
+  -- UpdateExpression : ++ UnaryExpression | -- UnaryExpression, which is a simple target (13.4.1)
   prefix : {i j : ℕ} {ts : Forest} → OneOf update-operators s i → Derives s SimpleTarget (i + 1) j ts
       → Derives s UpdateExpression i j (one (node Row.PrefixUpdate i i j ts))
   -- 13.5 UnaryExpression : UpdateExpression
@@ -428,13 +430,15 @@ pub data Derives (s : Sheet) : Nonterminal → ℕ → ℕ → Forest → Type 0
   target-member : {l : Links} {i p : ℕ} {ts : Forest} → Derives s (LinkedExpression l) i p ts → Tok s p Dot
       → OneOf identifier-names s (p + 1)
       → Derives s SimpleTarget i (p + 2) (one (node Row.TargetMember (p + 1) i (p + 2) ts))
-  -- SimpleTarget : ( Expression ), of a simple target
+  -- for ( Expression ), where the Expression's is simple
+  -- SimpleTarget : ( SimpleTarget )
   target-parenthesized : {i p : ℕ} {ts : Forest} → Tok s i LParen → Derives s SimpleTarget (i + 1) p ts
       → Tok s p RParen → Derives s SimpleTarget i (p + 1) (one (node Row.TargetParen i i (p + 1) ts))
   -- 13.15.5 DestructuringAssignmentTarget : LeftHandSideExpression, of a simple target (13.15.5.1)
   target-simple : {i j : ℕ} {ts : Forest} → Derives s SimpleTarget i j ts
       → Derives s DestructuringAssignmentTarget i j ts
-  -- DestructuringAssignmentTarget : LeftHandSideExpression, of an AssignmentPattern (13.15.5.1)
+  -- for LeftHandSideExpression, where it is an ObjectLiteral or ArrayLiteral and covers an AssignmentPattern (13.15.5.1)
+  -- DestructuringAssignmentTarget : AssignmentPattern
   target-pattern : {i j : ℕ} {ts : Forest} → Derives s AssignmentPattern i j ts
       → Derives s DestructuringAssignmentTarget i j ts
   -- AssignmentPattern : ArrayAssignmentPattern; ArrayAssignmentPattern : [ Elision opt ]
