@@ -1,9 +1,11 @@
 -- The grammar of expressions as ECMA-262 prints it (16th edition, June 2025): what is derived, from which place to which, and the rows that stand for it.
--- One constructor a production, in the order of clauses 13.2 to 13.16, 14.3.3, 15.1, 15.3 and 15.9, as far as docs/RULES.md goes: no functions, classes, methods,
--- templates, `new`, `?.`, await or yield. All productions are those with [+In, ~Yield, ~Await]. Where the standard reads by a cover grammar and refines afterwards, the
--- refined grammar stands here: an AssignmentPattern (13.15.5) has target rows, ArrowFormalParameters (15.3) have binding rows.
+-- One constructor a production, in the order of clauses 13.2 to 13.16, 14.3.3, 15.1, 15.3 and 15.9, as far as docs/RULES.md goes: no functions but arrows, no bodies
+-- in braces, classes, methods, private names, templates, `new`, `super`, `import`, `?.`, await or yield. All productions are those with [+In, ~Yield, ~Await], and in 15.9
+-- with [+Await], which is the same where nothing is awaited. Where the standard reads by a cover grammar and refines afterwards, the refined grammar stands here:
+-- an AssignmentPattern (13.15.5) has target rows, ArrowFormalParameters (15.3) have binding rows.
 -- `Derives s x i j ts` is a derivation. An Expression of it is the standard's if no CoverInitializedName is left in it (`Derived`, at the end). Early errors that
--- need the text of names (15.1.1 duplicate parameters, strict mode's words) are not judged: a token's kind does not tell a name's text.
+-- need the text of a token (15.1.1 a parameter twice, 13.2.5.1 `__proto__` twice, 13.2.7.1 inside a regular expression) and those of strict mode are not judged: a kind does
+-- not tell a token's text, and the code is not strict.
 -- Nothing here converts, looks ahead, notes or counts steps, and no class or table of the reader is used: every terminal of every production is listed here.
 -- What is shared with the reader is the numbers of tokens (tokens/specs/Kind.antt) and rows (rows/specs/Row.antt), and what a tree is.
 -- Assumes nothing: these are definitions.
@@ -40,16 +42,16 @@ pub record SameLine (s : Sheet) (at : ℕ) : Type 0 where
 pub record Not (s : Sheet) (at kind : ℕ) : Type 0 where
   pub other : getD (s .kinds) at 0 is kind ≡ false
 
--- 12.7 Identifier : IdentifierName but not ReservedWord; 13.1 IdentifierReference and BindingIdentifier are Identifiers (yield and await are left out)
+-- 13.1 Identifier : IdentifierName but not ReservedWord; an IdentifierReference or BindingIdentifier is an Identifier (the yield and await of [~Yield, ~Await] are left out)
 abbrev pub identifiers : List ℕ
 identifiers = Ident ∷ Async ∷ As ∷ Satisfies ∷ Modifier ∷ []
 
--- 12.7.2 ReservedWord : await const delete extends false in instanceof new null this true typeof void yield, and those that no production here names
+-- 12.7.2 ReservedWord : one of await const delete extends false in instanceof new null this true typeof void yield, and those that no production here names
 abbrev pub reserved-words : List ℕ
 reserved-words =
     Await ∷ Const ∷ Delete ∷ Extends ∷ False ∷ In ∷ Instanceof ∷ New ∷ Null ∷ This ∷ True ∷ Typeof ∷ Void ∷ Yield ∷ Reserved ∷ []
 
--- 12.7 IdentifierName : the Identifiers and the ReservedWords
+-- 12.7 IdentifierName : Identifier | ReservedWord; as 13.1 divides them
 abbrev pub identifier-names : List ℕ
 identifier-names = identifiers ++ reserved-words
 
@@ -61,11 +63,11 @@ literals = Null ∷ True ∷ False ∷ Number ∷ Str ∷ RegExp ∷ []
 abbrev pub literal-property-names : List ℕ
 literal-property-names = identifier-names ++ Str ∷ Number ∷ []
 
--- 13.4 ++ --
+-- 13.4 one of ++ --
 abbrev pub update-operators : List ℕ
 update-operators = Plus2 ∷ Minus2 ∷ []
 
--- 13.5 delete void typeof + - ~ !
+-- 13.5 one of delete void typeof + - ~ !
 abbrev pub unary-operators : List ℕ
 unary-operators = Delete ∷ Void ∷ Typeof ∷ Plus ∷ Minus ∷ Tilde ∷ Bang ∷ []
 
@@ -268,7 +270,7 @@ pub data Derives (s : Sheet) : Nonterminal → ℕ → ℕ → Forest → Type 0
   array : {i j : ℕ} {ts : Forest} → Derives s ArrayLiteral i j ts → Derives s PrimaryExpression i j ts
   -- PrimaryExpression : ObjectLiteral
   object : {i j : ℕ} {ts : Forest} → Derives s ObjectLiteral i j ts → Derives s PrimaryExpression i j ts
-  -- ParenthesizedExpression : ( Expression )
+  -- PrimaryExpression : ParenthesizedExpression; ParenthesizedExpression : ( Expression )
   parenthesized : {i p : ℕ} {ts : Forest} → Tok s i LParen → Derives s Expression (i + 1) p ts → Tok s p RParen
       → Derives s PrimaryExpression i (p + 1) (one (node Row.Paren i i (p + 1) ts))
   -- 13.2.4 ArrayLiteral : [ Elision opt ]
@@ -281,15 +283,19 @@ pub data Derives (s : Sheet) : Nonterminal → ℕ → ℕ → Forest → Type 0
   array-comma : {i p q : ℕ} {ts us : Forest} → Tok s i LBrack → Derives s ElementList (i + 1) p ts → Tok s p Comma
       → Derives s Elision (p + 1) q us → Tok s q RBrack
       → Derives s ArrayLiteral i (q + 1) (one (node (array-row (join ts us)) i i (q + 1) (join ts us)))
-  -- Elision : , | Elision ,    and none at all, for Elision opt
+  -- none at all, for Elision opt
+  -- Elision : [empty]
   no-elision : {i : ℕ} → Derives s Elision i i nil
+  -- Elision : , | Elision ,
   elision : {i p : ℕ} {ts : Forest} → Derives s Elision i p ts → Tok s p Comma
       → Derives s Elision i (p + 1) (join ts (one (leaf Row.Hole p)))
   -- SpreadElement : ... AssignmentExpression
   spread : {i j : ℕ} {ts : Forest} → Tok s i Dot3 → Derives s AssignmentExpression (i + 1) j ts
       → Derives s SpreadElement i j (one (node Row.Spread i i j ts))
-  -- what an ElementList and an ArgumentList are lists of: AssignmentExpression | SpreadElement
+  -- what an ElementList and an ArgumentList are lists of
+  -- Element : AssignmentExpression
   plain-element : {i j : ℕ} {ts : Forest} → Derives s AssignmentExpression i j ts → Derives s Element i j ts
+  -- Element : SpreadElement
   spread-element : {i j : ℕ} {ts : Forest} → Derives s SpreadElement i j ts → Derives s Element i j ts
   -- 13.2.5 ObjectLiteral : { }
   object-empty : {i : ℕ} → Tok s i LCurly → Tok s (i + 1) RCurly
@@ -321,11 +327,11 @@ pub data Derives (s : Sheet) : Nonterminal → ℕ → ℕ → Forest → Type 0
       → Tok s p RBrack → Derives s PropertyName i (p + 1) (one (node Row.ComputedKey i i (p + 1) ts))
   -- 13.3 MemberExpression : PrimaryExpression
   primary : {i j : ℕ} {ts : Forest} → Derives s PrimaryExpression i j ts → Derives s MemberExpression i j ts
-  -- MemberExpression : MemberExpression [ Expression ]    CallExpression : CallExpression [ Expression ]
+  -- MemberExpression : MemberExpression [ Expression ]; CallExpression : CallExpression [ Expression ]
   index : {l : Links} {i p q : ℕ} {ts us : Forest} → Derives s (LinkedExpression l) i p ts → Tok s p LBrack
       → Derives s Expression (p + 1) q us → Tok s q RBrack
       → Derives s (LinkedExpression l) i (q + 1) (one (node Row.Index i i (q + 1) (join ts us)))
-  -- MemberExpression : MemberExpression . IdentifierName    CallExpression : CallExpression . IdentifierName
+  -- MemberExpression : MemberExpression . IdentifierName; CallExpression : CallExpression . IdentifierName
   member : {l : Links} {i p : ℕ} {ts : Forest} → Derives s (LinkedExpression l) i p ts → Tok s p Dot
       → OneOf identifier-names s (p + 1)
       → Derives s (LinkedExpression l) i (p + 2) (one (node Row.Member (p + 1) i (p + 2) ts))
@@ -349,12 +355,13 @@ pub data Derives (s : Sheet) : Nonterminal → ℕ → ℕ → Forest → Type 0
   -- UpdateExpression : LeftHandSideExpression [no LineTerminator here] ++ | LeftHandSideExpression [no LineTerminator here] --, of a simple target (13.4.1)
   postfix : {i p : ℕ} {ts : Forest} → Derives s SimpleTarget i p ts → OneOf update-operators s p → SameLine s p
       → Derives s UpdateExpression i (p + 1) (one (node Row.PostfixUpdate p i (p + 1) ts))
-  -- UpdateExpression : ++ UnaryExpression | -- UnaryExpression, of a simple target (13.4.1)
+  -- UpdateExpression : ++ UnaryExpression | -- UnaryExpression, which is a simple target (13.4.1)
   prefix : {i j : ℕ} {ts : Forest} → OneOf update-operators s i → Derives s SimpleTarget (i + 1) j ts
       → Derives s UpdateExpression i j (one (node Row.PrefixUpdate i i j ts))
   -- 13.5 UnaryExpression : UpdateExpression
   update : {i j : ℕ} {ts : Forest} → Derives s UpdateExpression i j ts → Derives s UnaryExpression i j ts
-  -- UnaryExpression : delete UnaryExpression | void .. | typeof .. | + .. | - .. | ~ .. | ! ..
+  -- UnaryExpression : delete UnaryExpression | void UnaryExpression | typeof UnaryExpression | + UnaryExpression | - UnaryExpression
+  -- | ~ UnaryExpression | ! UnaryExpression
   unary : {i j : ℕ} {ts : Forest} → OneOf unary-operators s i → Derives s UnaryExpression (i + 1) j ts
       → Derives s UnaryExpression i j (one (node Row.Unary i i j ts))
   -- 13.6 ExponentiationExpression : UnaryExpression
@@ -399,7 +406,7 @@ pub data Derives (s : Sheet) : Nonterminal → ℕ → ℕ → Forest → Type 0
   arrow : {i p j : ℕ} {ts us : Forest} → Derives s ArrowParameters i p ts → Tok s p Arrow → SameLine s p
       → Derives s ConciseBody (p + 1) j us
       → Derives s AssignmentExpression i j (one (node Row.Arrow p i j (join ts us)))
-  -- AssignmentExpression : AsyncArrowFunction; 15.9 AsyncArrowFunction : async .. [no LineTerminator here] => AsyncConciseBody
+  -- AssignmentExpression : AsyncArrowFunction; 15.9 AsyncArrowFunction : AsyncArrowHead [no LineTerminator here] => AsyncConciseBody
   async-arrow : {i p j : ℕ} {ts us : Forest} → Derives s AsyncArrowHead i p ts → Tok s p Arrow → SameLine s p
       → Derives s ConciseBody (p + 1) j us
       → Derives s AssignmentExpression i j (one (node Row.AsyncArrow p i j (join ts us)))
@@ -407,26 +414,31 @@ pub data Derives (s : Sheet) : Nonterminal → ℕ → ℕ → Forest → Type 0
   assign : {i p j : ℕ} {ts us : Forest} → Derives s DestructuringAssignmentTarget i p ts → Tok s p Eq
       → Derives s AssignmentExpression (p + 1) j us
       → Derives s AssignmentExpression i j (one (node Row.Assign p i j (join ts us)))
-  -- AssignmentExpression : LeftHandSideExpression AssignmentOperator AssignmentExpression | .. &&= .. | .. ||= .. | .. ??= .., of a simple target (13.15.1)
+  -- AssignmentExpression : LeftHandSideExpression AssignmentOperator AssignmentExpression | LeftHandSideExpression &&= AssignmentExpression
+  -- | LeftHandSideExpression ||= AssignmentExpression | LeftHandSideExpression ??= AssignmentExpression, of a simple target (13.15.1)
   compound-assign : {i p j : ℕ} {ts us : Forest} → Derives s SimpleTarget i p ts → OneOf assignment-operators s p
       → Derives s AssignmentExpression (p + 1) j us
       → Derives s AssignmentExpression i j (one (node Row.CompoundAssign p i j (join ts us)))
-  -- 8.6.4 AssignmentTargetType simple: IdentifierReference
+  -- 8.6.4 what has AssignmentTargetType simple
+  -- SimpleTarget : IdentifierReference
   target-name : {i : ℕ} → OneOf identifiers s i → Derives s SimpleTarget i (i + 1) (one (leaf Row.TargetName i))
-  -- MemberExpression [ Expression ], CallExpression [ Expression ]
+  -- SimpleTarget : MemberExpression [ Expression ] | CallExpression [ Expression ]
   target-index : {l : Links} {i p q : ℕ} {ts us : Forest} → Derives s (LinkedExpression l) i p ts → Tok s p LBrack
       → Derives s Expression (p + 1) q us → Tok s q RBrack
       → Derives s SimpleTarget i (q + 1) (one (node Row.TargetIndex i i (q + 1) (join ts us)))
-  -- MemberExpression . IdentifierName, CallExpression . IdentifierName
+  -- SimpleTarget : MemberExpression . IdentifierName | CallExpression . IdentifierName
   target-member : {l : Links} {i p : ℕ} {ts : Forest} → Derives s (LinkedExpression l) i p ts → Tok s p Dot
       → OneOf identifier-names s (p + 1)
       → Derives s SimpleTarget i (p + 2) (one (node Row.TargetMember (p + 1) i (p + 2) ts))
-  -- ( Expression ), where the Expression's is simple
+  -- for ( Expression ), where the Expression's is simple
+  -- SimpleTarget : ( SimpleTarget )
   target-parenthesized : {i p : ℕ} {ts : Forest} → Tok s i LParen → Derives s SimpleTarget (i + 1) p ts
       → Tok s p RParen → Derives s SimpleTarget i (p + 1) (one (node Row.TargetParen i i (p + 1) ts))
-  -- 13.15.5 DestructuringAssignmentTarget : LeftHandSideExpression, a simple target or an AssignmentPattern
+  -- 13.15.5 DestructuringAssignmentTarget : LeftHandSideExpression, of a simple target (13.15.5.1)
   target-simple : {i j : ℕ} {ts : Forest} → Derives s SimpleTarget i j ts
       → Derives s DestructuringAssignmentTarget i j ts
+  -- for LeftHandSideExpression, where it is an ObjectLiteral or ArrayLiteral and covers an AssignmentPattern (13.15.5.1)
+  -- DestructuringAssignmentTarget : AssignmentPattern
   target-pattern : {i j : ℕ} {ts : Forest} → Derives s AssignmentPattern i j ts
       → Derives s DestructuringAssignmentTarget i j ts
   -- AssignmentPattern : ArrayAssignmentPattern; ArrayAssignmentPattern : [ Elision opt ]
@@ -490,15 +502,20 @@ pub data Derives (s : Sheet) : Nonterminal → ℕ → ℕ → Forest → Type 0
       → Derives s AssignmentRestProperty i j (one (node Row.TargetRest i i j ts))
   -- 13.16 Expression : AssignmentExpression
   no-comma : {i j : ℕ} {ts : Forest} → Derives s AssignmentExpression i j ts → Derives s Expression i j ts
-  -- Expression : Expression , AssignmentExpression: one row over all the parts, whose mark is the first comma
+  -- for Expression : Expression , AssignmentExpression, one row over all the parts, whose mark is the first comma: an Expression with a comma is Commas
+  -- Expression : Commas
   sequence : {comma i j : ℕ} {ts : Forest} → Derives s (Commas comma) i j ts
       → Derives s Expression i j (one (node Row.Sequence comma i j ts))
+  -- Commas : AssignmentExpression , AssignmentExpression
   first-comma : {comma i j : ℕ} {ts us : Forest} → Derives s AssignmentExpression i comma ts → Tok s comma Comma
       → Derives s AssignmentExpression (comma + 1) j us → Derives s (Commas comma) i j (join ts us)
+  -- Commas : Commas , AssignmentExpression
   next-comma : {comma i p j : ℕ} {ts us : Forest} → Derives s (Commas comma) i p ts → Tok s p Comma
       → Derives s AssignmentExpression (p + 1) j us → Derives s (Commas comma) i j (join ts us)
-  -- 14.3.3 what an initializer or a rest may stand with: BindingIdentifier | BindingPattern
+  -- 14.3.3 what an initializer or a rest may stand with
+  -- Binding : BindingIdentifier
   binding-name : {i : ℕ} → OneOf identifiers s i → Derives s Binding i (i + 1) (one (leaf Row.BindingName i))
+  -- Binding : BindingPattern
   binding-pattern : {i j : ℕ} {ts : Forest} → Derives s BindingPattern i j ts → Derives s Binding i j ts
   -- BindingPattern : ObjectBindingPattern; ObjectBindingPattern : { }
   binding-object-empty : {i : ℕ} → Tok s i LCurly → Tok s (i + 1) RCurly
@@ -580,7 +597,8 @@ pub data Derives (s : Sheet) : Nonterminal → ℕ → ℕ → Forest → Type 0
   -- ConciseBody : [lookahead ≠ {] ExpressionBody; ExpressionBody : AssignmentExpression
   concise-body : {i j : ℕ} {ts : Forest} → Not s i LCurly → Derives s AssignmentExpression i j ts
       → Derives s ConciseBody i j ts
-  -- 15.9 AsyncArrowFunction : async [no LineTerminator here] AsyncArrowBindingIdentifier ..
+  -- 15.9 the head before a name, which the standard has in AsyncArrowFunction itself
+  -- AsyncArrowHead : async [no LineTerminator here] AsyncArrowBindingIdentifier; AsyncArrowBindingIdentifier : BindingIdentifier
   async-name : {i : ℕ} → Tok s i Async → OneOf identifiers s (i + 1) → SameLine s (i + 1)
       → Derives s AsyncArrowHead i (i + 2) (one (leaf Row.BindingName (i + 1)))
   -- AsyncArrowHead : async [no LineTerminator here] ArrowFormalParameters
