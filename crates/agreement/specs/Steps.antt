@@ -218,6 +218,42 @@ pub record BoxWork (sheet : Sheet) (m : Counted (List ℕ)) : Type 0 where
   pub by-abandoned : m .steps ≤ (13 * length (sheet .kinds) + 12) * (1 + noted-places (m .notes))
   pub by-nesting : m .steps ≤ 69 * (length (sheet .kinds) * (1 + deepest sheet))
 
+module _ (sheet : Sheet) where
+  -- what the reader comes to, and the counting reader with it: done up to a place, or failed. There is no third way: neither sticks
+  pub data Ended (job : Job) (after : Counted (List ℕ)) : Type 0 where
+    ended-done : (end : ℕ) (trees : Forest) (said : List Record) → count (box sheet) sheet (μ sheet job) job (fresh cleared) ≡ done end trees said after
+        → read (box sheet) sheet (plenty sheet) job cleared ≡ done end trees said (after .notes) → Ended job after
+    ended-fail : (cause : Cause) → count (box sheet) sheet (μ sheet job) job (fresh cleared) ≡ fail cause after
+        → read (box sheet) sheet (plenty sheet) job cleared ≡ fail cause (after .notes) → Ended job after
+
+  -- any list, read or refused: how it ended, and the productions that were applied for it
+  pub record ListWork (job : Job) : Type 0 where
+    pub after : Counted (List ℕ)
+    pub ended : Ended job after
+    pub work : BoxWork sheet after
+
+  -- a list that is read: the numbers of the answer, and the productions that were applied for it
+  pub record ReadWork (job : Job) (trees : Forest) (notes : List ℕ) : Type 0 where
+    pub said : List Record
+    pub after : Counted (List ℕ)
+    pub counted : count (box sheet) sheet (μ sheet job) job (fresh cleared) ≡ done (length (sheet .kinds)) trees said after
+    pub same-notes : after .notes ≡ notes
+    pub by-abandoned : after .steps ≤ (13 * length (sheet .kinds) + 12) * (1 + noted-places notes)
+    pub by-nesting : after .steps ≤ 69 * (length (sheet .kinds) * (1 + deepest sheet))
+
+  -- a list that is refused: it failed so, or was done before the list's end, and 8 is said there
+  pub data Fell (job : Job) (cause : Cause) (after : Counted (List ℕ)) : Type 0 where
+    fell-inside : count (box sheet) sheet (μ sheet job) job (fresh cleared) ≡ fail cause after → Fell job cause after
+    fell-before-end : (end : ℕ) (trees : Forest) (said : List Record) → count (box sheet) sheet (μ sheet job) job (fresh cleared) ≡ done end trees said after
+        → cause ≡ Cause.Unexpected end → Fell job cause after
+
+  -- and the productions that were applied for it; abandoned are the heads noted up to there
+  pub record RefusedWork (job : Job) (cause : Cause) : Type 0 where
+    pub after : Counted (List ℕ)
+    pub fell : Fell job cause after
+    pub by-abandoned : after .steps ≤ (13 * length (sheet .kinds) + 12) * (1 + noted-places (after .notes))
+    pub by-nesting : after .steps ≤ 69 * (length (sheet .kinds) * (1 + deepest sheet))
+
 -- what is refused has one cause
 refused-is : {N : Type 0} {c d : Cause} → _≡_ {A = Whole N} (refused c) (refused d) → c ≡ d
 refused-is e = cc
@@ -271,26 +307,14 @@ module _ (sheet : Sheet) (some-tokens : 1 ≤ length (sheet .kinds)) (small : le
       go (costs-stuck e₂) (both-done _ _ _ _ _ e e′ b s) r = let w : _≡_ {A = ℕ} 0 1 = cc in absurd (omega arith)
       go (costs-stuck e₂) (both-fail _ _ _ _ e e′ b s) r = let w : _≡_ {A = ℕ} 0 1 = cc in absurd (omega arith)
 
-  -- what the reader comes to, and the counting reader with it: done up to a place, or failed. There is no third way: neither sticks
-  pub data Ended (job : Job) (after : Counted (List ℕ)) : Type 0 where
-    ended-done : (end : ℕ) (trees : Forest) (said : List Record) → count (box sheet) sheet (μ sheet job) job (fresh cleared) ≡ done end trees said after
-        → read (box sheet) sheet (plenty sheet) job cleared ≡ done end trees said (after .notes) → Ended job after
-    ended-fail : (cause : Cause) → count (box sheet) sheet (μ sheet job) job (fresh cleared) ≡ fail cause after
-        → read (box sheet) sheet (plenty sheet) job cleared ≡ fail cause (after .notes) → Ended job after
-
-  -- any list, read or refused: how it ended, and the productions that were applied for it
-  pub record ListWork (job : Job) : Type 0 where
-    pub after : Counted (List ℕ)
-    pub ended : Ended job after
-    pub work : BoxWork sheet after
-
-  pub list-work : (job : Job) → Start job → ListWork job
+  -- THE WORK OF A WHOLE LIST, read or refused
+  pub list-work : (job : Job) → Start job → ListWork sheet job
   list-work job start =
       go (box-work job start) (counts-the-same (box sheet) sheet job (starts start) (μ sheet job) (plenty sheet) (omega arith) (in-plenty sheet job) (fresh cleared))
     where
       go : Costs (λ end m. BoxWork sheet m) (BoxWork sheet) (count (box sheet) sheet (μ sheet job) job (fresh cleared))
           → Rel Same _≡_ (Bound (limits sheet job)) (count (box sheet) sheet (μ sheet job) job (fresh cleared)) (read (box sheet) sheet (plenty sheet) job cleared)
-          → ListWork job
+          → ListWork sheet job
       go (costs-done _ _ _ m e₁ w) (both-done end trees said m₂ m′ e₂ e₃ b s) =
           let v : m ≡ m₂ = cc in
           record { after = m₂; ended = ended-done end trees said e₂ (e₃ ∙ ap (done end trees said) (sym (s .same))); work = rw v at w }
@@ -302,22 +326,14 @@ module _ (sheet : Sheet) (some-tokens : 1 ≤ length (sheet .kinds)) (small : le
       go (costs-stuck e₁) (both-done _ _ _ _ _ e₂ e₃ b s) = let z : _≡_ {A = ℕ} 0 1 = cc in absurd (omega arith)
       go (costs-stuck e₁) (both-fail _ _ _ _ e₂ e₃ c s) = let z : _≡_ {A = ℕ} 0 1 = cc in absurd (omega arith)
 
-  -- a list that is read: the numbers of the answer, and the productions that were applied for it
-  pub record ReadWork (job : Job) (trees : Forest) (notes : List ℕ) : Type 0 where
-    pub said : List Record
-    pub after : Counted (List ℕ)
-    pub counted : count (box sheet) sheet (μ sheet job) job (fresh cleared) ≡ done (length (sheet .kinds)) trees said after
-    pub same-notes : after .notes ≡ notes
-    pub by-abandoned : after .steps ≤ (13 * length (sheet .kinds) + 12) * (1 + noted-places notes)
-    pub by-nesting : after .steps ≤ 69 * (length (sheet .kinds) * (1 + deepest sheet))
-
-  pub read-work : (job : Job) → Start job → {trees : Forest} {records : List Record} {notes : List ℕ} → reading (box sheet) sheet job cleared ≡ whole trees records notes → ReadWork job trees notes
+  -- of one that is read
+  pub read-work : (job : Job) → Start job → {trees : Forest} {records : List Record} {notes : List ℕ} → reading (box sheet) sheet job cleared ≡ whole trees records notes → ReadWork sheet job trees notes
   unfolding reading at-end
   read-work job start {trees} {records} {notes} e = go (list-work job start)
     where
       at : (after : Counted (List ℕ)) → BoxWork sheet after → (end : ℕ) (ts : Forest) (said : List Record) → count (box sheet) sheet (μ sheet job) job (fresh cleared) ≡ done end ts said after
           → (b : Bool) → end is length (sheet .kinds) ≡ b
-          → (if b then whole ts (said ++ unconverteds ts) (after .notes) else refused (Cause.Unexpected end)) ≡ whole trees records notes → ReadWork job trees notes
+          → (if b then whole ts (said ++ unconverteds ts) (after .notes) else refused (Cause.Unexpected end)) ≡ whole trees records notes → ReadWork sheet job trees notes
       at after w end ts said c true b f =
           let q : end ≡ length (sheet .kinds) = eqb-true _ _ b in
           let p : ts ≡ trees = cc in
@@ -332,43 +348,31 @@ module _ (sheet : Sheet) (some-tokens : 1 ≤ length (sheet .kinds)) (small : le
           }
       at after w end ts said c false b f = let z : _≡_ {A = ℕ} 0 1 = cc in absurd (omega arith)
 
-      ends : (after : Counted (List ℕ)) → BoxWork sheet after → Ended job after → ReadWork job trees notes
+      ends : (after : Counted (List ℕ)) → BoxWork sheet after → Ended sheet job after → ReadWork sheet job trees notes
       ends after w (ended-done end ts said c r) = at after w end ts said c (end is length (sheet .kinds)) refl (rw r at e)
       ends after w (ended-fail cause c r) = let f : refused cause ≡ whole trees records notes = rw r at e in let z : _≡_ {A = ℕ} 0 1 = cc in absurd (omega arith)
 
-      go : ListWork job → ReadWork job trees notes
+      go : ListWork sheet job → ReadWork sheet job trees notes
       go l = ends (l .after) (l .work) (l .ended)
 
-  -- a list that is refused: it failed so, or was done before the list's end, and 8 is said there
-  pub data Fell (job : Job) (cause : Cause) (after : Counted (List ℕ)) : Type 0 where
-    fell-inside : count (box sheet) sheet (μ sheet job) job (fresh cleared) ≡ fail cause after → Fell job cause after
-    fell-before-end : (end : ℕ) (trees : Forest) (said : List Record) → count (box sheet) sheet (μ sheet job) job (fresh cleared) ≡ done end trees said after
-        → cause ≡ Cause.Unexpected end → Fell job cause after
-
-  -- and the productions that were applied for it; abandoned are the heads noted up to there
-  pub record RefusedWork (job : Job) (cause : Cause) : Type 0 where
-    pub after : Counted (List ℕ)
-    pub fell : Fell job cause after
-    pub by-abandoned : after .steps ≤ (13 * length (sheet .kinds) + 12) * (1 + noted-places (after .notes))
-    pub by-nesting : after .steps ≤ 69 * (length (sheet .kinds) * (1 + deepest sheet))
-
-  pub refused-work : (job : Job) → Start job → {cause : Cause} → reading (box sheet) sheet job cleared ≡ refused cause → RefusedWork job cause
+  -- of one that is refused
+  pub refused-work : (job : Job) → Start job → {cause : Cause} → reading (box sheet) sheet job cleared ≡ refused cause → RefusedWork sheet job cause
   unfolding reading at-end
   refused-work job start {cause} e = go (list-work job start)
     where
-      so : (after : Counted (List ℕ)) → BoxWork sheet after → Fell job cause after → RefusedWork job cause
+      so : (after : Counted (List ℕ)) → BoxWork sheet after → Fell sheet job cause after → RefusedWork sheet job cause
       so after w f = record { after = after; fell = f; by-abandoned = w .by-abandoned; by-nesting = w .by-nesting }
 
       at : (after : Counted (List ℕ)) (end : ℕ) (ts : Forest) (said : List Record) → count (box sheet) sheet (μ sheet job) job (fresh cleared) ≡ done end ts said after
-          → (b : Bool) → (if b then whole ts (said ++ unconverteds ts) (after .notes) else refused (Cause.Unexpected end)) ≡ refused cause → Fell job cause after
+          → (b : Bool) → (if b then whole ts (said ++ unconverteds ts) (after .notes) else refused (Cause.Unexpected end)) ≡ refused cause → Fell sheet job cause after
       at after end ts said c true f = let z : _≡_ {A = ℕ} 0 1 = cc in absurd (omega arith)
       at after end ts said c false f = fell-before-end end ts said c (sym (refused-is f))
 
-      ends : (after : Counted (List ℕ)) → Ended job after → Fell job cause after
+      ends : (after : Counted (List ℕ)) → Ended sheet job after → Fell sheet job cause after
       ends after (ended-done end ts said c r) = at after end ts said c (end is length (sheet .kinds)) (rw r at e)
       ends after (ended-fail other c r) = let q : other ≡ cause = refused-is (rw r at e) in fell-inside (c ∙ ap (λ (x : Cause). fail x after) q)
 
-      go : ListWork job → RefusedWork job cause
+      go : ListWork sheet job → RefusedWork sheet job cause
       go l = so (l .after) (l .work) (ends (l .after) (l .ended))
 
   -- after check 7 at most 4,485 productions a token
