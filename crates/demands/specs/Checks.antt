@@ -1,7 +1,7 @@
 -- The checks 1 to 7: a refusal's number and place, and what is known of a list that passes them.
 -- The statements: `check-numbers`, `three-way-numbers`; `some-tokens`, `shallow`. Assumes nothing.
 use Prim.Native.Nat.{ℕ, zero, suc, _+_, _*_, _≤_}
-use mathlib.Core.Path.{_≡_, refl, sym, ap}
+use mathlib.Core.Path.{_≡_, refl, sym}
 use mathlib.Core.Bool.{Bool, true, false}
 use mathlib.Core.List.{List, [], _∷_}
 use native.Mathlib.Omega.{arith}

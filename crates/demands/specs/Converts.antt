@@ -1,9 +1,9 @@
 -- What vuolmaset_convert gives, by its six ways; a conversion is refused by 9 or 10.
 -- Assumes nothing.
-use Prim.Native.Nat.{ℕ, _+_, _-_, _*_, _≤_, _<_}
-use mathlib.Core.Path.{_≡_, refl, sym, ap, _∙_}
+use Prim.Native.Nat.{ℕ, _*_, _≤_}
+use mathlib.Core.Path.{_≡_, refl, ap, _∙_}
 use mathlib.Core.Bool.{Bool, true, false, not}
-use mathlib.Core.List.{List, [], _∷_}
+use mathlib.Core.List.{List, []}
 use native.Mathlib.Omega.{arith}
 use lib.ListN.{length}
 use Rattle.tokens.specs.Bool.{if_then_else_, _and_, _is_}
@@ -16,8 +16,8 @@ use Rattle.rows.specs.Record.{Record}
 use Rattle.rows.specs.Words.{WellFormed}
 use Rattle.rows.specs.Handed.{Inside, chosen}
 use Rattle.conversion.specs.Conversion.{Outcome, turned, refused, Role, Change, refuse, keep, turn, is-array-or-object, Seen, seen, is-with, is-closed, as-simple, as-any, as-value, as-element, as-last-element, as-property, as-last-property, as-name, change, roles, over, both, convert-as, convert-kids, convert}
-use Rattle.targets.specs.Entry.{Result, Check, holds, fails, Sized, done, Within, Entry}
-use Rattle.vuolmaset.specs.Told.{number-of, first-of, second-of, third-of, Told}
+use Rattle.targets.specs.Entry.{Result, holds, fails, done, Within, Entry}
+use Rattle.vuolmaset.specs.Told.{number-of, first-of, second-of, third-of}
 use Rattle.demands.specs.Terms.{TreeInput, Output, ByConvert, Unchanged, Converted, converted, wrong-size, no-tree, no-row, no-room, no-target}
 
 -- 9 or 10

@@ -1,11 +1,11 @@
 -- The three demands, of the functions of the archive that firmware calls. Each statement is about any output x that the contract of a function allows for an input i: `ByRead i x` is what
--- vuolmaset_read promises, `ByPattern` and `ByConvert` likewise (Terms has the words). Nothing is asked of an input but what a statement names. Assumes nothing.
+-- vuolmaset_read promises, `ByPattern` and `ByConvert` likewise. Terms has the words, to be read beside this file; the other files here are steps of the proofs. Nothing is asked of an input but what a
+-- statement names: `Passes i`, it passes the checks 1 to 7; `NoEarly`, nowhere stand Async, `(` with no line break before it, `...` and kind 1. Assumes nothing.
 use Prim.Native.Nat.{ℕ, _*_, _≤_}
 use mathlib.Core.Path.{_≡_, sym, ap, _∙_}
 use mathlib.Core.Bool.{Bool}
 use mathlib.Core.Logic.{_↔_}
 use mathlib.Core.List.{List}
-use native.Mathlib.Omega.{arith}
 use lib.ListN.{length}
 use Rattle.operators.specs.Precedence.{level, expression-level}
 use Rattle.lookahead.specs.Entry.{three-way-entry}
@@ -15,18 +15,18 @@ use Rattle.rows.specs.Handed.{Inside, chosen}
 use Rattle.rows.proofs.Once.{handed-once}
 use Rattle.conversion.specs.TargetRule.{Target}
 use Rattle.targets.proofs.Once.{answered-once}
-use Rattle.grammar.specs.Job.{Job, expression, binding-element}
+use Rattle.grammar.specs.Job.{expression, binding-element}
 use Rattle.grammar.specs.Reading.{plain-reading, plain-pattern}
 use Rattle.laws.specs.Promises.{refusals-stand, rows-fit, records-fit}
 use Rattle.standard.specs.Derives.{Expression, BindingElement, Derived}
 use Rattle.agreement.specs.Terms.{ReadAs, NoEarly}
-use Rattle.agreement.specs.Agreement.{agreement, pattern-agreement, plain-reads-too, plain-pattern-reads-too}
+use Rattle.agreement.specs.Agreement.{plain-reads-too, plain-pattern-reads-too}
 use Rattle.agreement.specs.Answers.{read-agrees, pattern-agrees}
 use Rattle.agreement.specs.Steps.{whole-list, pattern}
 use Rattle.exact.specs.Exact.{clean-reading, clean-pattern, read-is-derived, pattern-is-derived, derived-is-read, derived-is-pattern}
 use Rattle.vuolmaset.specs.Told.{ToldThreeWay, ToldSubtree}
 use Rattle.demands.specs.Terms.{Input, TreeInput, Output, sheet, Passes, ByRead, ByPattern, ByConvert, Shown, Clean, Answered, Converted, ThreeWayAnswered, Bounded}
-use Rattle.demands.specs.Entries.{told-once, By, by-once, by-answered, by-shown, by-clean, passed, shown-read, clean-shown, shown-clean, clean-convert, by-three-way}
+use Rattle.demands.specs.Entries.{told-once, By, by-once, by-answered, by-shown, by-clean, passed, shown-read, clean-shown, shown-clean, clean-convert, by-subtree, by-three-way}
 use Rattle.demands.specs.Converts.{by-converted}
 use Rattle.demands.specs.Work.{work-bounded}
 
@@ -89,6 +89,10 @@ pub three-way-refused-by-number-and-place : (kinds flags : List ℕ) (is-ts is-j
     → ThreeWayAnswered kinds flags is-ts is-jsx at told number
 three-way-refused-by-number-and-place kinds flags is-ts is-jsx at g = by-three-way kinds flags is-ts is-jsx at g
 
+-- Whatever words and row are handed to vuolmaset_subtree: six for each row of the subtree that the row roots, and 0 where the words are no well-formed tree or have no such row.
+pub subtree-counts-its-words : {tree : List ℕ} {row x : ℕ} → ToldSubtree tree row x → ((i : Inside tree row) → x ≡ 6 * size (chosen i)) × ((Inside tree row → ⊥) → x ≡ 0)
+subtree-counts-its-words g = by-subtree g
+
 -- DEMAND 2: clean exactly if ECMA-262 derives
 -- With no exception: where vuolmaset_read returns 0 and tells no record, ECMA-262 derives the whole list as an Expression, and the rows are those of its tree.
 pub clean-is-derived : {i : Input} {x : Output} → ByRead i x → x .number ≡ 0 → x .second ≡ 0 → (t : Tree) × Derived (sheet i) Expression 0 (length (i .kinds)) t × Clean i x t
@@ -104,7 +108,15 @@ clean-exactly-if-derived {i} g p none t = (
   λ d. shown-clean (by-shown (of-read g) (derived-is-read (sheet i) (i .rows) (i .records) p none t d)),
 )
 
--- The two of vuolmaset_pattern, of a BindingElement.
+-- So there it returns 0 and tells no record exactly if ECMA-262 derives the whole list as an Expression, with some tree.
+pub no-error-exactly-if-derived : {i : Input} {x : Output} → ByRead i x → Passes i → NoEarly (sheet i)
+    → ((x .number ≡ 0) × (x .second ≡ 0)) ↔ ((t : Tree) × Derived (sheet i) Expression 0 (length (i .kinds)) t)
+no-error-exactly-if-derived g p none = (
+  λ c. let d = clean-is-derived g (c .0) (c .1) in (d .0, d .1),
+  λ d. let c = clean-exactly-if-derived g p none (d .0) .1 (d .1) in (c .number, c .no-record),
+)
+
+-- The same three of vuolmaset_pattern, of a BindingElement.
 pub clean-pattern-is-derived : {i : Input} {x : Output} → ByPattern i x → x .number ≡ 0 → x .second ≡ 0
     → (t : Tree) × Derived (sheet i) BindingElement 0 (length (i .kinds)) t × Clean i x t
 clean-pattern-is-derived {i} g z o =
@@ -119,8 +131,15 @@ clean-pattern-exactly-if-derived {i} g p none t = (
   λ d. shown-clean (by-shown (of-pattern g) (derived-is-pattern (sheet i) (i .rows) (i .records) p none t d)),
 )
 
+pub no-pattern-error-exactly-if-derived : {i : Input} {x : Output} → ByPattern i x → Passes i → NoEarly (sheet i)
+    → ((x .number ≡ 0) × (x .second ≡ 0)) ↔ ((t : Tree) × Derived (sheet i) BindingElement 0 (length (i .kinds)) t)
+no-pattern-error-exactly-if-derived g p none = (
+  λ c. let d = clean-pattern-is-derived g (c .0) (c .1) in (d .0, d .1),
+  λ d. let c = clean-pattern-exactly-if-derived g p none (d .0) .1 (d .1) in (c .number, c .no-record),
+)
+
 -- Where the words are a well-formed tree, the row is one of its rows, and two record words are lent for each row of its subtree: vuolmaset_convert returns 0 and tells no record exactly if the subtree
--- is a target by the target rule (conversion, TargetRule: which also says what the rule does not judge again).
+-- is a target by the target rule. What the rule does not judge again stands above it (conversion, TargetRule), with four trees computed (`not-judged-again`, `given-when-read`).
 pub conversion-exactly-if-target : {i : TreeInput} {x : Output} → ByConvert i x → (inside : Inside (i .tree) (i .row)) → 2 * size (chosen inside) ≤ length (i .records)
     → ((x .number ≡ 0) × (x .second ≡ 0)) ↔ Target (chosen inside)
 conversion-exactly-if-target g inside room = clean-convert g inside room
@@ -136,7 +155,7 @@ pub fast-equals-plain : {i : Input} {x : Output} → ByRead i x → Passes i →
 fast-equals-plain {i} g p none trees said =
     (fast-is-plain g trees said, λ r. by-shown (of-read g) (read-agrees (sheet i) (i .rows) (i .records) p none trees said r))
 
--- The two of vuolmaset_pattern.
+-- The same two of vuolmaset_pattern.
 pub fast-pattern-is-plain : {i : Input} {x : Output} → ByPattern i x → (trees : Forest) (said : List Record) → Shown i x trees said → ReadAs (plain-pattern (sheet i)) trees said
 fast-pattern-is-plain {i} g trees said s = plain-pattern-reads-too (sheet i) trees said (shown-read (pattern-refused-by-number-and-place g) s)
 
@@ -150,5 +169,6 @@ fast-pattern-equals-plain {i} g p none trees said =
 pub work-is-bounded : {i : Input} {x : Output} → ByRead i x → Passes i → Bounded (expression 0) i x
 work-is-bounded g p = work-bounded whole-list (refused-by-number-and-place g) p
 
+-- The same of vuolmaset_pattern.
 pub pattern-work-is-bounded : {i : Input} {x : Output} → ByPattern i x → Passes i → Bounded (binding-element 0) i x
 pattern-work-is-bounded g p = work-bounded pattern (pattern-refused-by-number-and-place g) p

@@ -7,7 +7,7 @@ use mathlib.Core.Bool.{Bool}
 use mathlib.Core.List.{List, [], append-nil}
 use native.Mathlib.Omega.{arith}
 use native.Mathlib.Nat.{add-zero}
-use lib.ListN.{length, replicate}
+use lib.ListN.{length}
 use Rattle.tokens.specs.Cause.{number, place}
 use Rattle.tokens.specs.Check.{_and-then_, check-length, check-flag-length, check-flags, check-kinds}
 use Rattle.tokens.specs.declared.cause.Answer.{Answer}
@@ -19,25 +19,24 @@ use Rattle.lookahead.specs.Entry.{check-place, checked as tell, three-way-entry
 use Rattle.lookahead.specs.declared.ThreeWay.{ThreeWay}
 use Rattle.rows.specs.Tree.{Tree, Forest, one, size, sizes, flat, flats}
 use Rattle.rows.specs.Record.{Record, record-words}
-use Rattle.rows.specs.Handed.{Inside, chosen}
-use Rattle.rows.proofs.Flat.{some-row}
-use Rattle.trees.proofs.Whole.{long}
+use Rattle.rows.specs.Part.{subtree}
+use Rattle.rows.specs.Handed.{Inside, chosen, Handed, own, empty}
+use Rattle.rows.proofs.Flat.{length-flat, some-row, well-formed-once}
 use Rattle.conversion.specs.Conversion.{Outcome, turned, refused as not-turned, convert}
 use Rattle.conversion.specs.TargetRule.{Target}
-use Rattle.targets.specs.Entry.{Result, holds, Sized, done, Answered as ConvertAnswered}
-use Rattle.targets.proofs.Once.{entry-once, answered-once}
+use Rattle.targets.specs.Entry.{Result, holds, Sized, done}
+use Rattle.targets.proofs.Once.{entry-once}
 use Rattle.targets.proofs.EntryRule.{no-error}
 use Rattle.grammar.specs.Job.{Job}
-use Rattle.grammar.specs.Reading.{Whole, whole, refused, reading, box, cleared, plain}
+use Rattle.grammar.specs.Reading.{Whole, whole, refused}
 use Rattle.laws.specs.Places.{Inside as Stands}
-use Rattle.laws.specs.Rel.{looked-at}
-use Rattle.making.specs.Lent.{Given, checks, padded, answered, checked, entry}
+use Rattle.making.specs.Lent.{checks, padded, answered, checked, entry}
 use Rattle.frame.specs.Entry.{Answers}
-use Rattle.agreement.specs.Terms.{ReadAs, NoEarly}
-use Rattle.agreement.specs.Answers.{Shows, entry-read, entry-agrees}
-use Rattle.vuolmaset.specs.Told.{number-of, first-of, second-of, third-of, Told, ToldThreeWay}
+use Rattle.agreement.specs.Terms.{ReadAs}
+use Rattle.agreement.specs.Answers.{Shows}
+use Rattle.vuolmaset.specs.Told.{number-of, first-of, second-of, third-of, Told, ToldThreeWay, ToldSubtree}
 use Rattle.demands.specs.Terms as Terms
-use Rattle.demands.specs.Terms.{Input, Output, TreeInput, sheet, Passes, comes-to, ByRead, ByPattern, ByConvert, Shown, Clean, Refused, Answered, ThreeWayAnswered}
+use Rattle.demands.specs.Terms.{Input, Output, TreeInput, sheet, Passes, comes-to, ByConvert, Shown, Clean, Refused, Answered, ThreeWayAnswered}
 use Rattle.demands.specs.Checks.{check-numbers, three-way-numbers}
 use Rattle.demands.specs.Words.{one-forest, one-list}
 
@@ -161,7 +160,7 @@ clean-shown {i} {t = t} c =
     record {
       number = c .number;
       first = c .first ∙ sym (add-zero (size t));
-      second = c .second;
+      second = c .no-record;
       rows = rw (append-nil (flat t)) (c .rows);
       records = rw n (c .records);
     }
@@ -173,7 +172,7 @@ shown-clean {i} {t = t} s =
     record {
       number = s .number;
       first = s .first ∙ add-zero (size t);
-      second = s .second;
+      no-record = s .second;
       rows = rw (append-nil (flat t)) at (s .rows);
       records = rw n at (s .records);
     }
@@ -181,7 +180,7 @@ shown-clean {i} {t = t} s =
 -- CONVERSION
 module _ {i : TreeInput} {x : Output} (g : ByConvert i x) (inside : Inside (i .tree) (i .row)) (room : 2 * size (chosen inside) ≤ length (i .records)) where
   sized : Sized (i .tree)
-  sized = let n = long (inside .whole) in let s = some-row (inside .whole .tree) in let f = inside .whole .few in record { some = omega arith; few = omega arith }
+  sized = let n = ap length (inside .whole .text) ∙ length-flat (inside .whole .tree) in let s = some-row (inside .whole .tree) in let f = inside .whole .few in record { some = omega arith; few = omega arith }
 
   answer-is : g .answer ≡ done (i .tree) (i .records) (i .row) (chosen inside) (convert (chosen inside)) .answer
   answer-is = ap (λ (r : Result). r .answer) (entry-once (g .answers .is) (holds sized (holds (inside .whole) (holds (inside .has-row) (holds room refl)))))
@@ -200,6 +199,17 @@ module _ {i : TreeInput} {x : Output} (g : ByConvert i x) (inside : Inside (i .t
     (λ c. no-error (g .answers) inside room .0 (clean-answer (c .0) (c .1) (convert (chosen inside)) answer-is)),
     (λ d. let e = no-error (g .answers) inside room .1 d in (g .told .number ∙ ap number-of e, g .told .second-is ∙ ap second-of e)),
   )
+
+-- THE SUBTREE
+pub by-subtree : {tree : List ℕ} {row x : ℕ} → ToldSubtree tree row x → ((i : Inside tree row) → x ≡ 6 * size (chosen i)) × ((Inside tree row → ⊥) → x ≡ 0)
+by-subtree {tree} {row} {x} g = go (g .handed) (g .words)
+  where
+    go : {part : List ℕ} → Handed tree row part → x ≡ length part → ((i : Inside tree row) → x ≡ 6 * size (chosen i)) × ((Inside tree row → ⊥) → x ≡ 0)
+    go (own i a b) e = (
+      λ j. e ∙ ap length b ∙ length-flat (chosen i) ∙ ap (λ (t : Tree). 6 * size (subtree t row)) (well-formed-once (i .whole) (j .whole)),
+      λ f. absurd (f i),
+    )
+    go (empty f b) e = (λ i. absurd (f i), λ _. e ∙ ap length b)
 
 -- THE THREE-WAY ENTRY
 module _ (kinds flags : List ℕ) (is-ts is-jsx : Bool) (at : ℕ) {told number′ : ℕ} where

@@ -5,3 +5,4 @@ pub mod Entries
 pub mod Converts
 pub mod Work
 pub mod Demands
+pub mod GivenWhenRead

@@ -81,7 +81,7 @@ pub record Shown (i : Input) (x : Output) (trees : Forest) (said : List Record) 
 pub record Clean (i : Input) (x : Output) (t : Tree) : Type 0 where
   pub number : x .number ≡ 0
   pub first : x .first ≡ size t
-  pub second : x .second ≡ 0
+  pub no-record : x .second ≡ 0
   pub rows : x .rows ≡ padded (flat t) (length (i .rows))
   pub records : x .records ≡ replicate (length (i .records)) 0
 

@@ -1,6 +1,6 @@
 -- Words, and then 0: they are the words of one forest and of one list of records only, if it is known how many of them.
 -- The statements: `one-forest`, `one-list`. Assumes nothing.
-use Prim.Native.Nat.{ℕ, zero, suc, _*_}
+use Prim.Native.Nat.{ℕ, _*_}
 use mathlib.Core.Path.{_≡_, refl, sym, ap, _∙_}
 use mathlib.Core.List.{List, [], _∷_, _++_}
 use native.Mathlib.Omega.{arith}
