@@ -1,6 +1,8 @@
--- Why the early commit is excepted, and that nothing less would do: sheets that are read by both readers, computed. In `async(...a)` the three-way answer commits to a head
--- that is none; the plain reader reads the call. One token otherwise, and both read the call: a line break before the `(`, another name, a unary operator before.
--- Refusals are not compared: `(...a)` is refused by both, for other causes. Assumes nothing.
+-- Why an exception is needed, and that the one in `NoEarly` (Terms) is wider than it would have to be: lists and what both readers come to, computed.
+-- Needed: in `async(...a)`, which has the early commit, the box's reader refuses and the plain one reads a call. The three-way answer commits there to a head that is none.
+-- Wider: `!async(...a)` has the early commit too, and both read it alike, since no head may begin after a unary operator. So a narrower exception is possible; which one would be the narrowest is not
+-- said here. Lists one token away from `async(...a)` that have no early commit, and both read the call: a line break before the `(`, another name.
+-- Which refusal is given is not compared: `(...a)` is refused by both, at other places. The statements, at the end: `excepted-early`, `operand-early`, `differs`. Assumes nothing.
 use Prim.Native.Nat.{ℕ, _+_}
 use mathlib.Core.Path.{_≡_, refl}
 use mathlib.Core.List.{[], _∷_}
@@ -50,6 +52,10 @@ no-head = record { kinds = 18 ∷ 28 ∷ 1 ∷ 19 ∷ []; flags = 0 ∷ 0 ∷ 0 
 -- the excepted list has the early commit, at place 0
 pub excepted-early : Early excepted 0
 excepted-early = record { async = refl; opens = refl; unbroken = refl; dots = refl; name = refl }
+
+-- and so has `!async(...a)`, at place 1
+pub operand-early : Early operand 1
+operand-early = record { async = refl; opens = refl; unbroken = refl; dots = refl; name = refl }
 
 -- THE STATEMENT: where they differ, and where they do not
 pub record Differs : Type 0 where

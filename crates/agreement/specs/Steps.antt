@@ -1,10 +1,12 @@
--- The work is bounded. A reader with any policy applies at most (13 · tokens + 12) · (1 + heads given up) productions, whether it reads or refuses. The box's reader gives up
--- no head twice: at most (13 · tokens + 12) · (1 + abandoned), and at most 69 · tokens · (1 + deepest nesting), which after check 7 is at most 4,485 · tokens.
--- The statements, at the end: `any-work`, `box-work`, `read-work`, `checked-work`. Assumes nothing.
+-- The work is bounded. What is counted: the productions of the definition that a reading applies, one for each nonterminal asked for, in heads that are given up too. Not counted: the steps of the
+-- code (its calls and loop turns), what a conversion costs inside (it is part of the production that converts), the checks before the reading, and the last pass over the rows for the records 8.
+-- A reader with any policy applies at most (13 · tokens + 12) · (1 + heads given up) productions. The box's reader gives up no head twice: at most (13 · tokens + 12) · (1 + abandoned),
+-- and at most 69 · tokens · (1 + deepest nesting), which after check 7 is at most 4,485 · tokens; and it never sticks, whether the list is read or refused.
+-- The statements, at the end: `any-work`, `box-work`, of a counting reader that is done or fails; of a whole list `list-work`, `read-work`, `refused-work`, `checked-work`. Assumes nothing.
 use Prim.Native.Nat.{ℕ, zero, suc, _+_, _-_, _*_, _≤_, _<_, min}
 use mathlib.Core.Path.{_≡_, refl, sym, ap, _∙_}
 use mathlib.Core.Bool.{Bool, true, false}
-use mathlib.Core.List.{List, [], _∷_}
+use mathlib.Core.List.{List, [], _∷_, _++_}
 use native.Mathlib.Omega.{arith}
 use native.Mathlib.Decide.{ℕ-discrete}
 use native.Mathlib.Nat.{mul-suc, suc-mul, mul-le-mul-right, mul-le-mul-left, zero-mul, mul-zero, mul-add, mul-comm}
@@ -14,16 +16,16 @@ use borrow.Author.Tests.{eq-eqb, ne-eqb, lt-ltb, le-ltb, eqb-true}
 use Rattle.tokens.specs.Bool.{_is_, if_then_else_}
 use Rattle.tokens.specs.Kind.{Async, LParen}
 use Rattle.tokens.specs.Check.{check-nesting}
+use Rattle.tokens.specs.declared.cause.Cause.{Cause}
 use Rattle.tokens.specs.declared.check.Checked.{Checked}
 use Rattle.rows.specs.Tree.{Forest}
 use Rattle.rows.specs.Record.{Record}
-use Rattle.grammar.specs.Sheet.{Sheet, token, Out, done}
+use Rattle.grammar.specs.Sheet.{Sheet, token, Out, done, fail}
 use Rattle.grammar.specs.Job.{Job, expression, binding-element}
 use Rattle.grammar.specs.Arrow.{Policy}
 use Rattle.grammar.specs.Step.{read, plenty}
 use Rattle.laws.specs.Settles.{μ, in-plenty}
-use Rattle.grammar.specs.Reading.{box, cleared, noted-places, whole, reading}
-use Rattle.laws.specs.Good.{Came, came}
+use Rattle.grammar.specs.Reading.{box, cleared, noted-places, unconverteds, Whole, whole, refused, at-end, reading}
 use Rattle.laws.specs.Bounds.{limits, Bound}
 use Rattle.laws.specs.Rel.{looked-at, Rel, both-done, both-fail}
 use Rattle.laws.specs.Abandoned.{Log, logging, times, Once, Alike, together}
@@ -191,7 +193,7 @@ raw-work {N} policy sheet (binding-element zero) pattern notes f = go (works pol
     go (costs-fail cause m e p) = costs-fail cause m e (omega (arith, closing-inside sheet 0 0 (omega arith)))
     go (costs-stuck e) = costs-stuck e
 
--- a reader with any policy: so many productions, whether it reads or refuses
+-- a reader with any policy, at any bound on its steps: so many productions, unless the bound was too small for it (`costs-stuck`)
 pub record AnyWork {N : Type 0} (sheet : Sheet) (m : Counted N) : Type 0 where
   pub by-heads : m .steps ≤ (13 * length (sheet .kinds) + 12) * (1 + length (m .dropped))
 
@@ -215,6 +217,46 @@ pub record BoxWork (sheet : Sheet) (m : Counted (List ℕ)) : Type 0 where
   pub once : Once (m .notes) (m .dropped)
   pub by-abandoned : m .steps ≤ (13 * length (sheet .kinds) + 12) * (1 + noted-places (m .notes))
   pub by-nesting : m .steps ≤ 69 * (length (sheet .kinds) * (1 + deepest sheet))
+
+module _ (sheet : Sheet) where
+  -- what the reader comes to, and the counting reader with it: done up to a place, or failed. There is no third way: neither sticks
+  pub data Ended (job : Job) (after : Counted (List ℕ)) : Type 0 where
+    ended-done : (end : ℕ) (trees : Forest) (said : List Record) → count (box sheet) sheet (μ sheet job) job (fresh cleared) ≡ done end trees said after
+        → read (box sheet) sheet (plenty sheet) job cleared ≡ done end trees said (after .notes) → Ended job after
+    ended-fail : (cause : Cause) → count (box sheet) sheet (μ sheet job) job (fresh cleared) ≡ fail cause after
+        → read (box sheet) sheet (plenty sheet) job cleared ≡ fail cause (after .notes) → Ended job after
+
+  -- any list, read or refused: how it ended, and the productions that were applied for it
+  pub record ListWork (job : Job) : Type 0 where
+    pub after : Counted (List ℕ)
+    pub ended : Ended job after
+    pub work : BoxWork sheet after
+
+  -- a list that is read: the numbers of the answer, and the productions that were applied for it
+  pub record ReadWork (job : Job) (trees : Forest) (notes : List ℕ) : Type 0 where
+    pub said : List Record
+    pub after : Counted (List ℕ)
+    pub counted : count (box sheet) sheet (μ sheet job) job (fresh cleared) ≡ done (length (sheet .kinds)) trees said after
+    pub same-notes : after .notes ≡ notes
+    pub by-abandoned : after .steps ≤ (13 * length (sheet .kinds) + 12) * (1 + noted-places notes)
+    pub by-nesting : after .steps ≤ 69 * (length (sheet .kinds) * (1 + deepest sheet))
+
+  -- a list that is refused: it failed so, or was done before the list's end, and 8 is said there
+  pub data Fell (job : Job) (cause : Cause) (after : Counted (List ℕ)) : Type 0 where
+    fell-inside : count (box sheet) sheet (μ sheet job) job (fresh cleared) ≡ fail cause after → Fell job cause after
+    fell-before-end : (end : ℕ) (trees : Forest) (said : List Record) → count (box sheet) sheet (μ sheet job) job (fresh cleared) ≡ done end trees said after
+        → cause ≡ Cause.Unexpected end → Fell job cause after
+
+  -- and the productions that were applied for it; abandoned are the heads noted up to there
+  pub record RefusedWork (job : Job) (cause : Cause) : Type 0 where
+    pub after : Counted (List ℕ)
+    pub fell : Fell job cause after
+    pub by-abandoned : after .steps ≤ (13 * length (sheet .kinds) + 12) * (1 + noted-places (after .notes))
+    pub by-nesting : after .steps ≤ 69 * (length (sheet .kinds) * (1 + deepest sheet))
+
+-- what is refused has one cause
+refused-is : {N : Type 0} {c d : Cause} → _≡_ {A = Whole N} (refused c) (refused d) → c ≡ d
+refused-is e = cc
 
 module _ (sheet : Sheet) (some-tokens : 1 ≤ length (sheet .kinds)) (small : length (sheet .kinds) ≤ 2048) where
   -- beside the reader that logs each head that it gives up
@@ -248,7 +290,7 @@ module _ (sheet : Sheet) (some-tokens : 1 ≤ length (sheet .kinds)) (small : le
   starts whole-list = omega arith
   starts pattern = omega arith
 
-  -- at most so many productions, whether the list is read or refused
+  -- at most so many productions where the counting reader is done, and where it fails; that it is one of the two says `list-work`
   pub box-work : (job : Job) → Start job → Costs (λ end m. BoxWork sheet m) (BoxWork sheet) (count (box sheet) sheet (μ sheet job) job (fresh cleared))
   box-work job start = go (raw-work (box sheet) sheet job start cleared (μ sheet job)) (logged job (starts start)) (together sheet job (starts start) small (μ sheet job) (omega arith))
     where
@@ -265,48 +307,79 @@ module _ (sheet : Sheet) (some-tokens : 1 ≤ length (sheet .kinds)) (small : le
       go (costs-stuck e₂) (both-done _ _ _ _ _ e e′ b s) r = let w : _≡_ {A = ℕ} 0 1 = cc in absurd (omega arith)
       go (costs-stuck e₂) (both-fail _ _ _ _ e e′ b s) r = let w : _≡_ {A = ℕ} 0 1 = cc in absurd (omega arith)
 
-  -- a list that is read: the numbers of the answer, and the productions that were applied for it
-  pub record ReadWork (job : Job) (trees : Forest) (notes : List ℕ) : Type 0 where
-    pub said : List Record
-    pub after : Counted (List ℕ)
-    pub counted : count (box sheet) sheet (μ sheet job) job (fresh cleared) ≡ done (length (sheet .kinds)) trees said after
-    pub same-notes : after .notes ≡ notes
-    pub by-abandoned : after .steps ≤ (13 * length (sheet .kinds) + 12) * (1 + noted-places notes)
-    pub by-nesting : after .steps ≤ 69 * (length (sheet .kinds) * (1 + deepest sheet))
-
-  pub read-work : (job : Job) → Start job → {trees : Forest} {records : List Record} {notes : List ℕ} → reading (box sheet) sheet job cleared ≡ whole trees records notes → ReadWork job trees notes
-  read-work job start {trees} {records} {notes} e =
-      go (came (box sheet) sheet job cleared e) (box-work job start)
-      (counts-the-same (box sheet) sheet job (starts start) (μ sheet job) (plenty sheet) (omega arith) (in-plenty sheet job) (fresh cleared))
+  -- THE WORK OF A WHOLE LIST, read or refused
+  pub list-work : (job : Job) → Start job → ListWork sheet job
+  list-work job start =
+      go (box-work job start) (counts-the-same (box sheet) sheet job (starts start) (μ sheet job) (plenty sheet) (omega arith) (in-plenty sheet job) (fresh cleared))
     where
-      go : Came (box sheet) sheet job cleared trees records notes → Costs (λ end m. BoxWork sheet m) (BoxWork sheet) (count (box sheet) sheet (μ sheet job) job (fresh cleared))
+      go : Costs (λ end m. BoxWork sheet m) (BoxWork sheet) (count (box sheet) sheet (μ sheet job) job (fresh cleared))
           → Rel Same _≡_ (Bound (limits sheet job)) (count (box sheet) sheet (μ sheet job) job (fresh cleared)) (read (box sheet) sheet (plenty sheet) job cleared)
-          → ReadWork job trees notes
-      go c (costs-done _ _ _ m e₁ w) (both-done end ts rs m₂ m′ e₂ e₃ b s) =
-          let d = c .done-at-end in
-          let q : end ≡ length (sheet .kinds) = cc in
-          let p : ts ≡ trees = cc in
+          → ListWork sheet job
+      go (costs-done _ _ _ m e₁ w) (both-done end trees said m₂ m′ e₂ e₃ b s) =
           let v : m ≡ m₂ = cc in
-          let u : m′ ≡ notes = cc in
-          let x : BoxWork sheet m₂ = rw v at w in
-          let y : m₂ .notes ≡ notes = s .same ∙ u in
+          record { after = m₂; ended = ended-done end trees said e₂ (e₃ ∙ ap (done end trees said) (sym (s .same))); work = rw v at w }
+      go (costs-fail _ m e₁ w) (both-fail cause cause′ m₂ m′ e₂ e₃ c s) =
+          let v : m ≡ m₂ = cc in
+          record { after = m₂; ended = ended-fail cause e₂ (e₃ ∙ (λ i. fail (sym c i) (sym (s .same) i))); work = rw v at w }
+      go (costs-done _ _ _ _ e₁ w) (both-fail _ _ _ _ e₂ e₃ c s) = let z : _≡_ {A = ℕ} 0 1 = cc in absurd (omega arith)
+      go (costs-fail _ _ e₁ w) (both-done _ _ _ _ _ e₂ e₃ b s) = let z : _≡_ {A = ℕ} 0 1 = cc in absurd (omega arith)
+      go (costs-stuck e₁) (both-done _ _ _ _ _ e₂ e₃ b s) = let z : _≡_ {A = ℕ} 0 1 = cc in absurd (omega arith)
+      go (costs-stuck e₁) (both-fail _ _ _ _ e₂ e₃ c s) = let z : _≡_ {A = ℕ} 0 1 = cc in absurd (omega arith)
+
+  -- of one that is read
+  pub read-work : (job : Job) → Start job → {trees : Forest} {records : List Record} {notes : List ℕ} → reading (box sheet) sheet job cleared ≡ whole trees records notes → ReadWork sheet job trees notes
+  unfolding reading at-end
+  read-work job start {trees} {records} {notes} e = go (list-work job start)
+    where
+      at : (after : Counted (List ℕ)) → BoxWork sheet after → (end : ℕ) (ts : Forest) (said : List Record) → count (box sheet) sheet (μ sheet job) job (fresh cleared) ≡ done end ts said after
+          → (b : Bool) → end is length (sheet .kinds) ≡ b
+          → (if b then whole ts (said ++ unconverteds ts) (after .notes) else refused (Cause.Unexpected end)) ≡ whole trees records notes → ReadWork sheet job trees notes
+      at after w end ts said c true b f =
+          let q : end ≡ length (sheet .kinds) = eqb-true _ _ b in
+          let p : ts ≡ trees = cc in
+          let y : after .notes ≡ notes = cc in
           record {
-            said = rs;
-            after = m₂;
+            said = said;
+            after = after;
             counted = cc;
             same-notes = y;
-            by-abandoned = rw (sym y) (x .by-abandoned);
-            by-nesting = x .by-nesting;
+            by-abandoned = rw (sym y) (w .by-abandoned);
+            by-nesting = w .by-nesting;
           }
-      go c (costs-fail _ m e₁ w) (both-done _ _ _ _ _ e₂ e₃ b s) = let z : _≡_ {A = ℕ} 0 1 = cc in absurd (omega arith)
-      go c (costs-stuck e₁) (both-done _ _ _ _ _ e₂ e₃ b s) = let z : _≡_ {A = ℕ} 0 1 = cc in absurd (omega arith)
-      go c w (both-fail _ _ _ _ e₂ e₃ b s) = let d = c .done-at-end in let z : _≡_ {A = ℕ} 0 1 = cc in absurd (omega arith)
+      at after w end ts said c false b f = let z : _≡_ {A = ℕ} 0 1 = cc in absurd (omega arith)
+
+      ends : (after : Counted (List ℕ)) → BoxWork sheet after → Ended sheet job after → ReadWork sheet job trees notes
+      ends after w (ended-done end ts said c r) = at after w end ts said c (end is length (sheet .kinds)) refl (rw r at e)
+      ends after w (ended-fail cause c r) = let f : refused cause ≡ whole trees records notes = rw r at e in let z : _≡_ {A = ℕ} 0 1 = cc in absurd (omega arith)
+
+      go : ListWork sheet job → ReadWork sheet job trees notes
+      go l = ends (l .after) (l .work) (l .ended)
+
+  -- of one that is refused
+  pub refused-work : (job : Job) → Start job → {cause : Cause} → reading (box sheet) sheet job cleared ≡ refused cause → RefusedWork sheet job cause
+  unfolding reading at-end
+  refused-work job start {cause} e = go (list-work job start)
+    where
+      so : (after : Counted (List ℕ)) → BoxWork sheet after → Fell sheet job cause after → RefusedWork sheet job cause
+      so after w f = record { after = after; fell = f; by-abandoned = w .by-abandoned; by-nesting = w .by-nesting }
+
+      at : (after : Counted (List ℕ)) (end : ℕ) (ts : Forest) (said : List Record) → count (box sheet) sheet (μ sheet job) job (fresh cleared) ≡ done end ts said after
+          → (b : Bool) → (if b then whole ts (said ++ unconverteds ts) (after .notes) else refused (Cause.Unexpected end)) ≡ refused cause → Fell sheet job cause after
+      at after end ts said c true f = let z : _≡_ {A = ℕ} 0 1 = cc in absurd (omega arith)
+      at after end ts said c false f = fell-before-end end ts said c (sym (refused-is f))
+
+      ends : (after : Counted (List ℕ)) → Ended sheet job after → Fell sheet job cause after
+      ends after (ended-done end ts said c r) = at after end ts said c (end is length (sheet .kinds)) (rw r at e)
+      ends after (ended-fail other c r) = let q : other ≡ cause = refused-is (rw r at e) in fell-inside (c ∙ ap (λ (x : Cause). fail x after) q)
+
+      go : ListWork sheet job → RefusedWork sheet job cause
+      go l = so (l .after) (l .work) (ends (l .after) (l .ended))
 
   -- after check 7 at most 4,485 productions a token
-  pub checked-work : check-nesting (sheet .kinds) ≡ Checked.Fine → (m : Counted (List ℕ)) → BoxWork sheet m → m .steps ≤ 4485 * length (sheet .kinds)
-  checked-work fine m w =
+  pub checked-work : check-nesting (sheet .kinds) ≡ Checked.Fine → (m : Counted (List ℕ)) → m .steps ≤ 69 * (length (sheet .kinds) * (1 + deepest sheet)) → m .steps ≤ 4485 * length (sheet .kinds)
+  checked-work fine m by-nesting =
       let n = length (sheet .kinds) in
-      omega (arith, w .by-nesting, mul-le-mul-left n (deep fine), mul-comm n 65)
+      omega (arith, by-nesting, mul-le-mul-left n (deep fine), mul-comm n 65)
     where
       deep : check-nesting (sheet .kinds) ≡ Checked.Fine → 1 + deepest sheet ≤ 65
       deep fine = omega (arith, nesting-64 sheet fine)

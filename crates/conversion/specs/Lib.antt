@@ -8,3 +8,4 @@ pub mod Shapes
 pub mod Relabelled
 pub mod Relabelling
 pub mod Examples
+pub mod NotJudgedAgain

@@ -2,6 +2,10 @@
 -- 13.15.1: where the left side is an ObjectLiteral or an ArrayLiteral it must cover an AssignmentPattern (13.15.5), and
 -- otherwise its AssignmentTargetType (8.6.4) must be simple. A literal of kind 6 or 8 has a comma after its closing spread: no
 -- production of an AssignmentPattern has that, and so no rule here has those kinds.
+-- What it does not judge again: it goes down to the targets of a literal and stops at rows whose inside was judged when they were read. An Assign as an element is an initialized element, whatever
+-- records its own left side got when it was read; the kids of a Member and of an Index are not looked into; nor are keys and initializers. So the trees of `[{...[a]} = b]`, `[[...a,] = b]`,
+-- `[[a += 1] = b]` and `[{a = 1}.x]` are targets by this rule, and converted as trees they give no record, though ECMA-262 has no such target: the record (3, 4, 5, 8) was given when that part was
+-- read. `not-judged-again` (NotJudgedAgain) computes the four.
 -- Assumes nothing: these are definitions.
 use Prim.Native.Nat.{ℕ}
 use Rattle.rows.specs.Row as row

@@ -8,6 +8,6 @@ mod Turning
 mod ShortCuts
 mod Converting
 mod Entering
-mod Once
-mod EntryRule
+pub mod Once
+pub mod EntryRule
 mod Reading
