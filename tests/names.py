@@ -17,13 +17,13 @@ WORDS = {'Async': 'async', 'As': 'as', 'Satisfies': 'satisfies', 'Const': 'const
          'False': 'false', 'Await': 'await', 'Yield': 'yield', 'Extends': 'extends'}
 
 code = re.findall(r'^pub const ([A-Z0-9_]+): u8 = (\d+); // (.*)$', open(CODE, encoding='utf-8').read(), re.M)
-definitions = re.findall(r'^-- (.*)\nabbrev pub (\S+) : ℕ\n\2 = (\d+)$', open(DEFINITIONS, encoding='utf-8').read(), re.M)
+definitions = re.findall(r'^abbrev pub (\S+) : ℕ  -- (.*)\n\1 = (\d+)$', open(DEFINITIONS, encoding='utf-8').read(), re.M)
 wrong = []
 if [int(number) for _, number, _ in code] != list(range(1, LAST + 1)):
     wrong.append('crates/tokens/src/kind.rt does not number the kinds from 1 to %d' % LAST)
 if [int(number) for _, _, number in definitions] != list(range(1, LAST + 1)):
     wrong.append('crates/tokens/specs/Kind.antt does not number the kinds from 1 to %d' % LAST)
-for (name, number, text), (same, other, _), word in zip(code, definitions, ORDER):
+for (name, number, text), (other, same, _), word in zip(code, definitions, ORDER):
     if name.replace('_', '').lower() != other.lower():
         wrong.append('kind %s is %s in the code and %s in the definitions' % (number, name, other))
     if text != same:

@@ -142,13 +142,15 @@ def constructor(comment, text):
     return Constructor(name, comment, variables, parts[:-1], parts[-1])
 
 
-# The abbreviations of a type, with the comment above each.
+# The abbreviations of a type, with the comment above or beside each.
 def abbreviations(text, kind):
     found = {}
-    for comment, name, same, what in re.findall(r'((?:^-- .*\n)*)^abbrev pub (\S+) : %s\n(\S+) =((?:.|\n)*?)\n(?=\n|$)' % kind, text, re.M):
+    form = r'((?:^-- .*\n)*)^abbrev pub (\S+) : %s(?:  -- (.*))?\n(\S+) =((?:.|\n)*?)\n(?=\n|$)' % kind
+    for comment, name, beside, same, what in re.findall(form, text + '\n', re.M):
         if name != same:
             fail('%s is defined as %s' % (name, same))
-        found[name] = ([line[2:].strip() for line in comment.splitlines()], term(what))
+        above = [line[2:].strip() for line in comment.splitlines()]
+        found[name] = (above + [beside] if beside else above, term(what))
     return found
 
 

@@ -1,10 +1,8 @@
--- A whole reading: the checks, then one Expression up to the end of the list, and what is answered. The pattern entry's: one binding with an
--- optional initializer in the Expression's place.
+-- A whole reading: one Expression up to the end of the list, and what is answered. The pattern entry's: one binding with an optional initializer
+-- in the Expression's place. The checks before it, and what is left in lent memory after it, are in making/specs/Lent.antt.
 -- Assumes nothing: these are definitions.
 use mathlib.Core.Bool.{false}
 use lib.ListN.{length, getD, set, replicate}
-use Rattle.tokens.specs.Check.{_and-then_, check-length, check-flag-length, check-flags, check-kinds, check-nesting}
-use Rattle.tokens.specs.declared.check.Checked.{Checked}
 use Rattle.tokens.specs.declared.cause.Answer.{Answer}
 use Rattle.lookahead.specs.ThreeWay.{three-way}
 use Rattle.lookahead.specs.declared.Tristate.{Tristate}
@@ -74,28 +72,7 @@ box-pattern sheet = reading (box sheet) sheet (binding-element 0) cleared
 abbrev pub plain-pattern : Sheet → Whole (Unit {0})
 plain-pattern sheet = reading plain sheet (binding-element 0) tt
 
--- the checks of a list in the order of their numbers: 1, 2, 5, 6, 7
-unfoldable pub checks : Sheet → Checked
-checks sheet =
-    check-length (sheet .kinds)
-    and-then check-flag-length (sheet .kinds) (sheet .flags)
-    and-then check-flags (sheet .flags)
-    and-then check-kinds (sheet .kinds)
-    and-then check-nesting (sheet .kinds)
-
--- the refusal of a check, or what comes of the reading
-unfoldable pub after-checks : Checked → Whole (List ℕ) → Whole (List ℕ)
-after-checks Checked.Fine read = read
-after-checks (Checked.Refused cause) read = refused cause
-
--- what the two entries give
-abbrev pub read-sheet : Sheet → Whole (List ℕ)
-read-sheet sheet = after-checks (checks sheet) (box-reading sheet)
-
-abbrev pub read-pattern : Sheet → Whole (List ℕ)
-read-pattern sheet = after-checks (checks sheet) (box-pattern sheet)
-
--- and what they answer: Read with its three counts (rows, records, abandoned heads), or Refused with a cause
+-- what an entry answers past the checks: Read with its three counts (rows, records, abandoned heads), or Refused with a cause
 abbrev pub answer-of : Whole (List ℕ) → Answer
 answer-of (whole trees records notes) = Answer.Read (record { rows = sizes trees; records = length records; abandoned = noted-places notes })
 answer-of (refused cause) = Answer.Refused cause

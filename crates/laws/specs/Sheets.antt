@@ -5,7 +5,6 @@ use Prim.Native.Nat.{ℕ}
 use mathlib.Core.Path.{_≡_, refl}
 use mathlib.Core.List.{List, [], _∷_, _++_}
 use lib.ListN.{length, replicate}
-use Rattle.tokens.specs.Check.{check-length, check-flag-length, first-such, check-flags, check-kinds, depth-after, nesting, check-nesting}
 use Rattle.tokens.specs.Token.{is-name, is-word, is-literal, is-binding-identifier, is-modifier-kind}
 use Rattle.operators.specs.Precedence.{level, expression-level}
 use Rattle.lookahead.specs.ThreeWay.{no-parameters, rest-parameter, modified-name, after-name, first-parameter, after-paren, type-parameter, names-type, after-angle, after-open, three-way}
@@ -22,14 +21,14 @@ use Rattle.grammar.specs.Comma.{expression-of, sequence-of}
 use Rattle.grammar.specs.Binding.{binding-of, binding-element-of, binding-rest-of, binding-elements-of, binding-properties-of, binding-shorthand-of, binding-property-of}
 use Rattle.grammar.specs.Arrow.{by-way, choose, noting, arrow-of, assignment-of, parenthesized-head-of, head-of, parameters-of, body-of}
 use Rattle.grammar.specs.Step.{step, read}
-use Rattle.grammar.specs.Reading.{way-of, noted-places, unconverted, unconverteds, at-end, reading, checks, after-checks}
+use Rattle.grammar.specs.Reading.{way-of, noted-places, unconverted, unconverteds, at-end, reading}
 use Rattle.rows.specs.Tree.{row}
 use Rattle.tokens.specs.declared.cause.Answer.{Answer}
 use Rattle.tokens.specs.declared.cause.Cause.{Cause}
 use Rattle.grammar.specs.Sheet.{Sheet}
-use Rattle.grammar.specs.Reading.{Whole, whole, refused, read-sheet, answer-of}
+use Rattle.grammar.specs.Reading.{Whole, whole, refused, box-reading, answer-of}
 
--- a sheet with no line breaks, and what the reader gives: the answer, the words of the rows and of the records
+-- a sheet with no line breaks, and what the reading gives: the answer, the words of the rows and of the records
 pub record Case : Type 0 where
   pub kinds : List ℕ
   pub answer : Answer
@@ -228,7 +227,7 @@ sheet-of case = record { kinds = case .kinds; flags = replicate (length (case .k
 -- what the reader gives is the case
 abbrev pub Holds : Case → Type 0
 Holds case =
-    let read = read-sheet (sheet-of case) in
+    let read = box-reading (sheet-of case) in
     record { kinds = case .kinds; answer = answer-of read; rows = row-words read; records = said-words read } ≡ case
 
 abbrev pub All : (Case → Type 0) → List Case → Type 0
@@ -236,5 +235,5 @@ All P [] = Unit {0}
 All P (case ∷ cases) = P case × All P cases
 
 pub sheets-hold : All Holds sheets
-unfolding check-length check-flag-length first-such check-flags check-kinds depth-after nesting check-nesting is-name is-word is-literal is-binding-identifier is-modifier-kind level expression-level no-parameters rest-parameter modified-name after-name first-parameter after-paren type-parameter names-type after-angle after-open three-way join count size sizes flat flats kind-of mark-of first-of end-of kids-of record-words inner-kind inner-kinds seen as-simple as-any as-value as-element as-last-element as-property as-last-property as-name change roles over both convert-as convert-kids first-tree after-records and-then or-else _>>=_ try yield refuse say parenthesized-of primary-of spread-of elements-of properties-of shorthand-of property-of key-of left-hand-side-of links-of arguments-of is-unary-operator is-update-operator converted-to unary-of postfix-of operation-kind right-floor is-or-and operation-records binary-of operators-of is-assignment-operator is-async-name assign-of conditional-of after-binary value-of expression-of sequence-of binding-of binding-element-of binding-rest-of binding-elements-of binding-properties-of binding-shorthand-of binding-property-of by-way choose noting arrow-of assignment-of parenthesized-head-of head-of parameters-of body-of step read way-of noted-places unconverted unconverteds at-end reading checks after-checks
+unfolding is-name is-word is-literal is-binding-identifier is-modifier-kind level expression-level no-parameters rest-parameter modified-name after-name first-parameter after-paren type-parameter names-type after-angle after-open three-way join count size sizes flat flats kind-of mark-of first-of end-of kids-of record-words inner-kind inner-kinds seen as-simple as-any as-value as-element as-last-element as-property as-last-property as-name change roles over both convert-as convert-kids first-tree after-records and-then or-else _>>=_ try yield refuse say parenthesized-of primary-of spread-of elements-of properties-of shorthand-of property-of key-of left-hand-side-of links-of arguments-of is-unary-operator is-update-operator converted-to unary-of postfix-of operation-kind right-floor is-or-and operation-records binary-of operators-of is-assignment-operator is-async-name assign-of conditional-of after-binary value-of expression-of sequence-of binding-of binding-element-of binding-rest-of binding-elements-of binding-properties-of binding-shorthand-of binding-property-of by-way choose noting arrow-of assignment-of parenthesized-head-of head-of parameters-of body-of step read way-of noted-places unconverted unconverteds at-end reading
 sheets-hold = (refl, (refl, (refl, (refl, (refl, (refl, (refl, (refl, (refl, (refl, (refl, (refl, (refl, (refl, (refl, (refl, (refl, tt)))))))))))))))))

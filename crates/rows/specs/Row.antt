@@ -2,8 +2,7 @@
 -- Assumes nothing: these are definitions.
 use Prim.Native.Nat.{ℕ}
 
--- a name that is read
-abbrev pub Identifier : ℕ
+abbrev pub Identifier : ℕ  -- a name that is read
 Identifier = 1
 
 abbrev pub This : ℕ
@@ -12,60 +11,49 @@ This = 2
 abbrev pub Literal : ℕ
 Literal = 3
 
--- 1 kid
-abbrev pub Paren : ℕ
+abbrev pub Paren : ℕ  -- 1 kid
 Paren = 4
 
 abbrev pub Array : ℕ
 Array = 5
 
--- an Array with a comma after its closing spread
-abbrev pub ArrayRestComma : ℕ
+abbrev pub ArrayRestComma : ℕ  -- an Array with a comma after its closing spread
 ArrayRestComma = 6
 
 abbrev pub Object : ℕ
 Object = 7
 
--- an Object likewise
-abbrev pub ObjectRestComma : ℕ
+abbrev pub ObjectRestComma : ℕ  -- an Object likewise
 ObjectRestComma = 8
 
 abbrev pub Hole : ℕ
 Hole = 9
 
--- 1 kid
-abbrev pub Spread : ℕ
+abbrev pub Spread : ℕ  -- 1 kid
 Spread = 10
 
--- 1 kid, an Identifier over the same token
-abbrev pub Shorthand : ℕ
+abbrev pub Shorthand : ℕ  -- 1 kid, an Identifier over the same token
 Shorthand = 11
 
--- 2 kids, Identifier and initializer
-abbrev pub ShorthandInit : ℕ
+abbrev pub ShorthandInit : ℕ  -- 2 kids, Identifier and initializer
 ShorthandInit = 12
 
--- key and value; bindings' too
-abbrev pub Property : ℕ
+abbrev pub Property : ℕ  -- key and value; bindings' too
 Property = 13
 
 abbrev pub Key : ℕ
 Key = 14
 
--- 1 kid
-abbrev pub ComputedKey : ℕ
+abbrev pub ComputedKey : ℕ  -- 1 kid
 ComputedKey = 15
 
--- 1 kid
-abbrev pub Member : ℕ
+abbrev pub Member : ℕ  -- 1 kid
 Member = 16
 
--- 2 kids
-abbrev pub Index : ℕ
+abbrev pub Index : ℕ  -- 2 kids
 Index = 17
 
--- callee and arguments
-abbrev pub Call : ℕ
+abbrev pub Call : ℕ  -- callee and arguments
 Call = 18
 
 abbrev pub Unary : ℕ
@@ -83,27 +71,22 @@ Binary = 22
 abbrev pub Logical : ℕ
 Logical = 23
 
--- 3 kids
-abbrev pub Conditional : ℕ
+abbrev pub Conditional : ℕ  -- 3 kids
 Conditional = 24
 
--- 2 kids
-abbrev pub Assign : ℕ
+abbrev pub Assign : ℕ  -- 2 kids
 Assign = 25
 
--- 2 kids
-abbrev pub CompoundAssign : ℕ
+abbrev pub CompoundAssign : ℕ  -- 2 kids
 CompoundAssign = 26
 
 abbrev pub Sequence : ℕ
 Sequence = 27
 
--- parameters and body
-abbrev pub Arrow : ℕ
+abbrev pub Arrow : ℕ  -- parameters and body
 Arrow = 28
 
--- parameters and body
-abbrev pub AsyncArrow : ℕ
+abbrev pub AsyncArrow : ℕ  -- parameters and body
 AsyncArrow = 29
 
 abbrev pub BindingName : ℕ
@@ -118,16 +101,13 @@ BindingObject = 32
 abbrev pub BindingRest : ℕ
 BindingRest = 33
 
--- 2 kids
-abbrev pub BindingDefault : ℕ
+abbrev pub BindingDefault : ℕ  -- 2 kids
 BindingDefault = 34
 
--- 1 kid
-abbrev pub BindingShorthand : ℕ
+abbrev pub BindingShorthand : ℕ  -- 1 kid
 BindingShorthand = 35
 
--- 2 kids
-abbrev pub BindingShorthandInit : ℕ
+abbrev pub BindingShorthandInit : ℕ  -- 2 kids
 BindingShorthandInit = 36
 
 abbrev pub TargetName : ℕ
@@ -145,8 +125,7 @@ TargetObject = 43
 abbrev pub TargetRest : ℕ
 TargetRest = 44
 
--- 2 kids
-abbrev pub TargetDefault : ℕ
+abbrev pub TargetDefault : ℕ  -- 2 kids
 TargetDefault = 45
 
 abbrev pub TargetMember : ℕ
