@@ -11,7 +11,7 @@ use lib.Dec.{leb}
 use borrow.Author.Tests.{eq-eqb, le-leb, lt-ltb}
 use Rattle.tokens.specs.Bool.{_is_}
 use Rattle.tokens.specs.Kind.{Async, LParen, Arrow}
-use Rattle.tokens.specs.Token.{is-name, is-word, is-literal}
+use Rattle.tokens.specs.Token.{is-name}
 use Rattle.operators.specs.Precedence.{level, expression-level}
 use Rattle.rows.specs.Tree.{Forest}
 use Rattle.grammar.specs.Sheet.{Sheet, token}
@@ -21,7 +21,7 @@ use Rattle.brackets.specs.Balanced as Balance
 use Rattle.brackets.specs.Balanced.{side-of, Side, Balanced, none, skip, nest, partner, joined, flat, name-flat, word-flat, literal-flat, operator-flat}
 use Rattle.standard.specs.Derives as D
 use Rattle.standard.specs.Terminals.{name, word, literal, Operator, line, operator}
-use Rattle.standard.specs.Derives.{Tok, one-of, OneOf, identifiers, identifier-names, literals, literal-property-names, update-operators, unary-operators, assignment-operators, LeftToRight, Links, Nonterminal, PrimaryExpression, LinkedExpression, Arguments, UpdateExpression, UnaryExpression, TierExpression, CoalesceExpression, ShortCircuitExpression, SimpleTarget, AssignmentPattern, DestructuringAssignmentTarget, ArrowFormalParameters, Derives}
+use Rattle.standard.specs.Derives.{Tok, one-of, OneOf, identifiers, identifier-names, literals, literal-property-names, update-operators, unary-operators, assignment-operators, LeftToRight, Links, Nonterminal, PrimaryExpression, LinkedExpression, Arguments, UpdateExpression, UnaryExpression, TierExpression, CoalesceExpression, ShortCircuitExpression, SimpleTarget, AssignmentPattern, DestructuringAssignmentTarget, Derives}
 use Rattle.standard.specs.Roots.{not-both}
 
 pub side : {s : Sheet} {at k : ℕ} → Tok s at k → Side s at (side-of k)

@@ -10,7 +10,7 @@ use lib.Dec.{leb}
 use lib.ListN.{length, List·getD-eq-default}
 use borrow.Author.Tests.{eqb-true, ne-eqb, eq-eqb, lt-leb, leb-true}
 use Rattle.tokens.specs.Bool.{_is_, _or_, if_then_else_}
-use Rattle.tokens.specs.Kind.{This, RParen, LBrack, RBrack, LCurly, Comma, Dot3, Arrow, Eq}
+use Rattle.tokens.specs.Kind.{This, RParen, LBrack, RBrack, LCurly, Comma, Dot3, Eq}
 use Rattle.tokens.specs.Token.{is-name, is-literal}
 use Rattle.rows.specs.Tree.{Tree, Forest, node, one, join, kind-of, kids-of}
 use Rattle.rows.specs.Row as Row
@@ -27,7 +27,7 @@ use Rattle.laws.specs.Good.{inside, whole-from, and-left, and-right}
 use Rattle.standard.specs.Derives as D
 use Rattle.standard.specs.Levels.{tier-row}
 use Rattle.standard.specs.Terminals.{Of, Operator, is-update, name, word, literal, key, prefix, update, compound, Line, line, operator}
-use Rattle.standard.specs.Derives.{Tok, one-of, OneOf, SameLine, assignment-operators, Links, Nonterminal, ListOf, Elided, Elision, PrimaryExpression, LinkedExpression, LeftHandSideExpression, UpdateExpression, UnaryExpression, TierExpression, ConditionalExpression, SimpleTarget, Expression, Binding, BindingPattern, BindingElement, array-row, object-row, Derives, Derived}
+use Rattle.standard.specs.Derives.{Tok, one-of, OneOf, SameLine, assignment-operators, Links, Nonterminal, ListOf, Elided, Elision, PrimaryExpression, LinkedExpression, UpdateExpression, UnaryExpression, TierExpression, ConditionalExpression, Expression, Binding, BindingElement, array-row, object-row, Derives, Derived}
 use Rattle.standard.specs.Roots.{not-both, root-primary, root-update, root-unary, root-short-circuit, root-assignment, Each, each-one, each-more, Past, past}
 use Rattle.standard.specs.Convert.{as-simple-target}
 use Rattle.standard.specs.Clean.{says-nothing}

@@ -9,7 +9,6 @@ use lib.Dec.{eqb, leb}
 use borrow.Author.Tests.{ne-eqb}
 use Rattle.tokens.specs.Bool.{_is_, _or_, _and_, if_then_else_}
 use Rattle.tokens.specs.Kind.{LParen, RParen, LBrack, RBrack, LCurly, RCurly, Comma, Colon, Dot, Dot3, Eq}
-use Rattle.tokens.specs.Token.{is-name, is-word}
 use Rattle.tokens.specs.declared.cause.Cause.{Cause}
 use Rattle.rows.specs.Tree.{Tree, Forest, node, nil, cons, one, join, count, kind-of, first-of}
 use Rattle.rows.specs.Row as Row
@@ -22,7 +21,7 @@ use Rattle.grammar.specs.Sheet.{Sheet, leaf, first-tree}
 use Rattle.standard.specs.Derives as D
 use Rattle.standard.specs.Levels.{tier-row}
 use Rattle.standard.specs.Terminals.{line}
-use Rattle.standard.specs.Derives.{Tok, OneOf, identifiers, identifier-names, assignment-operators, Links, Nonterminal, ListOf, Elided, Elision, PrimaryExpression, ArrayLiteral, SpreadElement, Element, ObjectLiteral, PropertyDefinition, PropertyName, LinkedExpression, LeftHandSideExpression, UpdateExpression, UnaryExpression, TierExpression, CoalesceExpression, ShortCircuitExpression, ConditionalExpression, AssignmentExpression, SimpleTarget, AssignmentPattern, DestructuringAssignmentTarget, AssignmentElement, AssignmentRestElement, AssignmentProperty, AssignmentRestProperty, AssignmentElementList, AssignmentPropertyList, Expression, ends-in-spread, array-row, object-row, Derives}
+use Rattle.standard.specs.Derives.{Tok, OneOf, identifiers, identifier-names, assignment-operators, Links, Nonterminal, ListOf, Elided, Elision, PropertyName, LinkedExpression, LeftHandSideExpression, UnaryExpression, ShortCircuitExpression, AssignmentExpression, SimpleTarget, AssignmentPattern, DestructuringAssignmentTarget, AssignmentElement, AssignmentRestElement, AssignmentProperty, AssignmentRestProperty, AssignmentElementList, AssignmentPropertyList, Expression, ends-in-spread, array-row, object-row, Derives}
 use Rattle.standard.specs.Roots.{Root, not-both, root-assignment, root-expression, spread-last, Each, each-one, each-more, Past, past}
 use Rattle.standard.specs.Means.{Silent, said, silent-left, silent-right}
 

@@ -17,7 +17,7 @@ use Rattle.grammar.specs.Assignment.{is-async-name}
 use Rattle.laws.specs.Good.{and-left, and-right}
 use Rattle.standard.specs.Derives as D
 use Rattle.standard.specs.Terminals.{Of, Operator, is-prefix, is-update, name, literal, prefix, update, line, operator}
-use Rattle.standard.specs.Derives.{Tok, one-of, OneOf, identifiers, literals, update-operators, unary-operators, Links, PrimaryExpression, LinkedExpression, UpdateExpression, UnaryExpression, TierExpression, CoalesceExpression, ShortCircuitExpression, AssignmentExpression, SimpleTarget, AssignmentPattern, DestructuringAssignmentTarget, AssignmentElement, Derives}
+use Rattle.standard.specs.Derives.{Tok, one-of, literals, update-operators, unary-operators, Links, PrimaryExpression, LinkedExpression, UpdateExpression, UnaryExpression, TierExpression, CoalesceExpression, ShortCircuitExpression, AssignmentExpression, SimpleTarget, AssignmentPattern, DestructuringAssignmentTarget, AssignmentElement, Derives}
 use Rattle.standard.specs.Roots.{not-both}
 use Rattle.standard.specs.Brackets.{of-kind, Ends, arguments-group}
 

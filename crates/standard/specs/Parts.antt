@@ -17,7 +17,6 @@ use Rattle.operators.specs.Precedence.{level, expression-level}
 use Rattle.rows.specs.Tree.{Tree, Forest, node, nil, cons, one, join, kind-of, mark-of, kids-of}
 use Rattle.rows.specs.Row as Row
 use Rattle.rows.proofs.Rows.{join-nil, join-assoc}
-use Rattle.conversion.specs.Conversion.{property, value}
 use Rattle.grammar.specs.Sheet.{Sheet, token, first-tree, leaf}
 use Rattle.grammar.specs.Job as J
 use Rattle.grammar.specs.Job.{Job}

@@ -7,7 +7,6 @@ use native.Mathlib.Omega.{arith}
 use lib.Dec.{leb}
 use Rattle.tokens.specs.Bool.{_is_, if_then_else_}
 use Rattle.tokens.specs.Kind.{Comma}
-use Rattle.tokens.specs.Token.{is-name}
 use Rattle.rows.specs.Tree.{Tree, Forest, node, nil, cons, one, join, kind-of}
 use Rattle.rows.specs.Row as Row
 use Rattle.rows.proofs.Rows.{join-nil, join-assoc}

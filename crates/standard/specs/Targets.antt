@@ -2,7 +2,7 @@
 -- parentheses, members and indexes as simple targets (8.6.4), arrays and objects as AssignmentPatterns (13.15.5). Nothing of this is said of trees that were not read.
 -- The statement: `target-rows`. Assumes nothing.
 use Prim.Native.Nat.{ℕ}
-use mathlib.Core.Path.{_≡_, refl, sym, _∙_}
+use mathlib.Core.Path.{_≡_, refl}
 use mathlib.Core.Bool.{Bool, true, false}
 use mathlib.Core.List.{List}
 use native.Mathlib.Omega.{arith}
