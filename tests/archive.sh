@@ -13,11 +13,7 @@ target/sheets_c
 RUSTFLAGS='-D warnings' cargo test --quiet --offline --manifest-path bindings/rust/Cargo.toml --target-dir target/rust
 echo "Rust: all as expected"
 
-# The linked archive gives the answers that other parsers agreed on, and those of the sheets. The harness is of Rust's edition 2024.
-if ! printf '1.85\n%s\n' "$(rustc --version | cut -d' ' -f2)" | sort --check=quiet --version-sort; then
-    echo "left out, rustc is older than 1.85: the answers that other parsers agreed on"
-    exit 0
-fi
+# The linked archive gives the answers that other parsers agreed on, and those of the sheets.
 (cd bench/harness && RUSTFLAGS='-D warnings' cargo build --quiet --offline --release --features archive --bin answer --target-dir ../../target/harness)
 bash tests/judged/replay.sh target/harness/release/answer
 python3 -B tests/sheets.py target/harness/release/answer

@@ -3,10 +3,9 @@
 //!
 //!     bench [ROUNDS] [FAMILY]       FAMILY: a part of the name
 use harness::families::{FAMILIES, Family, LARGEST};
-use harness::readers::{Entry, READERS, Room, compared, names, tokens, with_room_to_recurse};
+use harness::readers::{Entry, READERS, Room, black_box, compared, names, tokens, with_room_to_recurse};
 use harness::table::{Ratios, Table, heads};
 use lists::List;
-use std::hint::black_box;
 use std::time::Instant;
 
 /// The time of one pass over the sheets, repeated until it can be measured, for a token.

@@ -68,6 +68,13 @@ pub fn tokens(sheets: &[List]) -> usize {
     sheets.iter().map(List::len).sum()
 }
 
+/// A value of which the compiler knows nothing more, and which it must have at hand: `std::hint::black_box` of Rust 1.66, for older ones.
+pub fn black_box<T>(value: T) -> T {
+    // No instruction; for all that the compiler knows, what stands at the address is read and written.
+    unsafe { std::arch::asm!("/* {} */", in(reg) &value, options(nostack, preserves_flags)) };
+    value
+}
+
 /// Runs on a stack that no reader comes to the end of: chains of 2,048 go deep.
 pub fn with_room_to_recurse(work: fn()) {
     std::thread::Builder::new().stack_size(1 << 28).spawn(work).unwrap().join().unwrap();

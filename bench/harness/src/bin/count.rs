@@ -4,10 +4,9 @@
 //!     count          runs itself under callgrind and prints the tables
 //!     count read     what callgrind runs
 use harness::families::{FAMILIES, Family, LARGEST, Size};
-use harness::readers::{Entry, READERS, Room, compared, names, tokens, with_room_to_recurse};
+use harness::readers::{Entry, READERS, Room, black_box, compared, names, tokens, with_room_to_recurse};
 use harness::table::{Ratios, Table, heads};
 use lists::List;
-use std::hint::black_box;
 use std::path::Path;
 use std::process::Command;
 
@@ -29,7 +28,7 @@ fn sizes(family: &Family) -> impl Iterator<Item = Size> {
 }
 
 /// What is counted: the reading of the sheets, each once.
-#[unsafe(no_mangle)]
+#[no_mangle]
 #[inline(never)]
 fn counted(entry: Entry, sheets: &[List], room: &mut Room) {
     for sheet in sheets {
@@ -38,7 +37,7 @@ fn counted(entry: Entry, sheets: &[List], room: &mut Room) {
 }
 
 /// Before this is called, callgrind writes what it has counted, and starts anew.
-#[unsafe(no_mangle)]
+#[no_mangle]
 #[inline(never)]
 fn written() {
     black_box(());

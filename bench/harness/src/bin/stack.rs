@@ -1,11 +1,10 @@
 //! Measures how much stack each reader uses: it runs on a stack that was painted before, and the deepest byte that lost its paint is looked for.
 //! Bytes a level: what the peak grows by from half of the levels to all of them, for one level.
 use harness::families::{FAMILIES, Family, LARGEST, Size};
-use harness::readers::{Entry, READERS, Room, compared, names, with_room_to_recurse};
+use harness::readers::{Entry, READERS, Room, black_box, compared, names, with_room_to_recurse};
 use harness::table::Table;
 use lists::List;
-use std::ffi::{c_int, c_void};
-use std::hint::black_box;
+use std::os::raw::{c_int, c_void};
 use twin::protocol::{Read, Refused};
 
 /// The words of the painted stack, 16 MiB of them, and the paint.
@@ -16,7 +15,7 @@ const PAINT: u64 = 0xA5C3_96F0_5A3C_690F;
 type Attributes = [u64; 16];
 type Body = extern "C" fn(*mut c_void) -> *mut c_void;
 
-unsafe extern "C" {
+extern "C" {
     fn pthread_attr_init(attributes: *mut Attributes) -> c_int;
     fn pthread_attr_setstack(attributes: *mut Attributes, stack: *mut c_void, bytes: usize) -> c_int;
     fn pthread_attr_destroy(attributes: *mut Attributes) -> c_int;
@@ -37,13 +36,13 @@ struct Task<'a> {
 extern "C" fn work(task: *mut c_void) -> *mut c_void {
     let task = unsafe { &mut *task.cast::<Task>() };
     let here = 0u8;
-    let top = black_box(&raw const here).addr();
+    let top = black_box(&here as *const u8) as usize;
     let _ = black_box(task.room.read(task.entry, task.sheet));
     let mut deepest = task.stack;
     while unsafe { deepest.read_volatile() } == PAINT {
         deepest = unsafe { deepest.add(1) };
     }
-    task.used = top - deepest.addr();
+    task.used = top - deepest as usize;
     std::ptr::null_mut()
 }
 
@@ -56,8 +55,8 @@ fn used(entry: Entry, sheet: &List, stack: &mut [u64]) -> usize {
     let done = |code: c_int| assert_eq!(code, 0, "no thread on a stack of its own");
     unsafe {
         done(pthread_attr_init(&mut attributes));
-        done(pthread_attr_setstack(&mut attributes, stack.as_mut_ptr().cast(), size_of_val(stack)));
-        done(pthread_create(&mut thread, &attributes, work, (&raw mut task).cast()));
+        done(pthread_attr_setstack(&mut attributes, stack.as_mut_ptr().cast(), std::mem::size_of_val(stack)));
+        done(pthread_create(&mut thread, &attributes, work, (&mut task as *mut Task).cast()));
         done(pthread_join(thread, std::ptr::null_mut()));
         done(pthread_attr_destroy(&mut attributes));
     }
