@@ -1,10 +1,9 @@
 #!/usr/bin/env bash
-# The archive for other languages: builds it (what is proved already is not proved again), and runs the tests in C and in Rust that link it.
+# The archive for other languages: builds it (what is proved already is not proved again), and runs the tests in C and in Rust that link it. gcc and
+# cargo are installed if they are missing; the oldest Rust that is enough is Debian 12's.
 set -euo pipefail
 cd "$(dirname "${BASH_SOURCE[0]}")/.."
-need() { # COMMAND PACKAGE
-    command -v "$1" > /dev/null || apt-get install -y "$2" > /dev/null
-}
+source tests/need.sh
 need gcc gcc
 need cargo cargo
 rt staticlib vuolmaset < /dev/null
