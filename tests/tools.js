@@ -151,6 +151,16 @@ function explains() {
     }
 }
 
+// The sentences of the Rust crate are those of the tools.
+function saysInRust() {
+    const source = fs.readFileSync(path.join(ROOT, 'bindings', 'rust', 'src', 'sentences.rs'), 'utf8');
+    for (const [sort, name] of [['refusal', 'REFUSALS'], ['record', 'RECORDS']]) {
+        const said = [...(source.match(`\nconst ${name}: [^=]*= \\[\n([^]*?)\\];\n`)?.[1] ?? '').matchAll(/^ {4}(".*"),$/gm)].map(([, text]) => JSON.parse(text));
+        const wanted = Object.values(NUMBERS[sort]).map((entry) => entry.says);
+        holds(`${sort}s in bindings/rust`, JSON.stringify(said) === JSON.stringify(wanted), said.filter((text, i) => text !== wanted[i]).join('; '));
+    }
+}
+
 // The examples that are calls of the library, in a program that is linked with it.
 function callsLibrary() {
     const archive = path.join(ROOT, 'target', 'staticlib', 'libvuolmaset.a');
@@ -253,6 +263,6 @@ function guides() {
     }
 }
 
-[names, packsKinds, packsJudged, packsAndShows, packsWhatIsRead, explains, callsLibrary, draws, saysWhy, guides].forEach((part) => part());
+[names, packsKinds, packsJudged, packsAndShows, packsWhatIsRead, explains, saysInRust, callsLibrary, draws, saysWhy, guides].forEach((part) => part());
 console.log(`tools/sheet: ${tried - failed} of ${tried} as expected`);
 process.exitCode = failed ? 1 : 0;

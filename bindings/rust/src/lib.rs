@@ -5,6 +5,10 @@
 #![no_std]
 #![warn(missing_docs)]
 
+mod sentences;
+
+pub use sentences::{record_sentence, refusal_sentence};
+
 mod archive {
     extern "C" {
         pub fn vuolmaset_read(
@@ -31,10 +35,16 @@ mod archive {
 /// A list or a tree is refused: by one of the numbers 1 to 14, at a token or a row.
 #[derive(Clone, Copy, Debug, PartialEq, Eq)]
 pub struct Refused {
-    /// Which of the refusals.
+    /// Which of the refusals; [`refusal_sentence`] says what it means.
     pub number: u32,
     /// The token, or 0.
     pub place: usize,
+}
+
+impl core::fmt::Display for Refused {
+    fn fmt(&self, to: &mut core::fmt::Formatter) -> core::fmt::Result {
+        write!(to, "refusal {} at {}: {}", self.number, self.place, refusal_sentence(self.number).unwrap_or("no such number"))
+    }
 }
 
 /// What was read.
@@ -42,7 +52,7 @@ pub struct Refused {
 pub struct Counts {
     /// How many rows the tree has, six words each.
     pub rows: usize,
-    /// How many records there are, two words each.
+    /// How many records there are, two words each: a number, of which [`record_sentence`] says what it means, and a place.
     pub records: usize,
     /// How many arrow heads were tried and given up.
     pub abandoned: usize,
