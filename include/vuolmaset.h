@@ -43,7 +43,16 @@ uint32_t vuolmaset_pattern(const uint8_t *kinds, size_t kind_count, const uint8_
                            uint32_t *records, size_t record_words, size_t *first, size_t *second, size_t *third);
 
 /* Turns a row of a tree into an assignment target. Refused, it changes no word. Else `*first` is the number of the subtree's rows, kind words of target
- * rows have changed, and the record words past the used ones are 0. */
+ * rows have changed, and the record words past the used ones are 0.
+ *
+ * The tree is all of the words that are given: `tree_words` is 6 times its rows. After a reading that is 6 * *first, and not the length of the buffer that
+ * was lent, whose words past the rows are 0 and no rows: with VUOLMASET_ROW_WORDS a shorter tree is refused with 13.
+ *
+ *      if (vuolmaset_read(kinds, n, flags, n, rows, VUOLMASET_ROW_WORDS, records, VUOLMASET_RECORD_WORDS, &first, &second, &third) == 0) {
+ *          size_t tree_words = 6 * first, row = first - 1;
+ *          refused = vuolmaset_convert(rows, tree_words, row, records, VUOLMASET_RECORD_WORDS, &first, &second, &third);
+ *      }
+ */
 uint32_t vuolmaset_convert(uint32_t *tree, size_t tree_words, size_t row, uint32_t *records, size_t record_words, size_t *first, size_t *second,
                            size_t *third);
 
@@ -52,7 +61,7 @@ uint32_t vuolmaset_three_way(const uint8_t *kinds, size_t kind_count, const uint
                              size_t *told);
 
 /* How many words the subtree of a row has: they end with the row's own words, tree[6 * row + 5]. 0 if the words are no well-formed tree, or the row is
- * outside. */
+ * outside. `tree_words` is 6 times the tree's rows, as for vuolmaset_convert: of a longer buffer the answer is 0. */
 size_t vuolmaset_subtree(const uint32_t *tree, size_t tree_words, size_t row);
 
 /* The level of a kind in the table of binary operators, 1 to 12, or 0; and the same in an expression, where `as` and `satisfies` are no operators. */

@@ -2,6 +2,19 @@
 //!
 //! Every function takes any bytes, words and lengths: a list is read, or refused by a number and a place. Rust's own rules are all that the archive
 //! asks of its caller (lists that are lent for writing overlap nothing), so no safe call can be a wrong one. There is no heap and no global state.
+//!
+//! A tree is six words a row, and all of the slice that is given: after a reading that is the beginning of the buffer that was lent.
+//!
+//! ```
+//! let (kinds, flags) = ([20, 1, 24, 1, 21], [0; 5]); // [a, b]
+//! let (mut rows, mut records) = ([0; 6 * 2048], [0; 2 * 2048]);
+//! let counts = vuolmaset::read(&kinds, &flags, &mut rows, &mut records).unwrap();
+//! let (tree, last) = (&mut rows[..6 * counts.rows], counts.rows - 1);
+//! assert_eq!(vuolmaset::subtree(tree, 0).len(), 6);
+//! assert!(vuolmaset::convert(tree, last, &mut records).is_ok());
+//! // The whole buffer is no tree: the words past the rows are 0.
+//! assert_eq!(vuolmaset::convert(&mut rows, last, &mut records).unwrap_err().to_string(), "refusal 13 at 0: the words are no well-formed tree");
+//! ```
 #![no_std]
 #![warn(missing_docs)]
 
@@ -41,6 +54,7 @@ pub struct Refused {
     pub place: usize,
 }
 
+/// The number, the place and the sentence.
 impl core::fmt::Display for Refused {
     fn fmt(&self, to: &mut core::fmt::Formatter) -> core::fmt::Result {
         write!(to, "refusal {} at {}: {}", self.number, self.place, refusal_sentence(self.number).unwrap_or("no such number"))
@@ -102,7 +116,8 @@ pub fn pattern(kinds: &[u8], flags: &[u8], rows: &mut [u32], records: &mut [u32]
     answer(number, first, second, third)
 }
 
-/// Turns a row of a tree into an assignment target. Refused, no word changes.
+/// Turns a row of a tree into an assignment target. Refused, no word changes. `tree` is the tree's rows and no more, as `&mut rows[..6 * counts.rows]` after
+/// a reading; a longer buffer is refused with 13.
 pub fn convert(tree: &mut [u32], row: usize, records: &mut [u32]) -> Result<Counts, Refused> {
     let (mut first, mut second, mut third) = (0, 0, 0);
     // As in `read`.
@@ -128,7 +143,8 @@ pub fn three_way(kinds: &[u8], flags: &[u8], is_ts: bool, is_jsx: bool, at: usiz
     }
 }
 
-/// The words of a row's subtree; none if the words are no well-formed tree or the row is outside.
+/// The words of a row's subtree; none if the words are no well-formed tree or the row is outside. `tree` is the tree's rows and no more, as for
+/// [`convert`].
 pub fn subtree(tree: &[u32], row: usize) -> &[u32] {
     // As in `read`.
     let words = unsafe { archive::vuolmaset_subtree(tree.as_ptr(), tree.len(), row) };

@@ -96,6 +96,19 @@ fn nothing_is_asked_of_the_caller() {
 }
 
 #[test]
+fn a_tree_is_six_words_a_row() {
+    // [a, b] = c, into buffers that are longer than its rows
+    let (mut rows, mut records) = ([9; 42], [9; 14]);
+    let counts = read(SHEETS[0].kinds, &[0; 7], &mut rows, &mut records).expect("it is read");
+    let words = 6 * counts.rows;
+    assert_eq!(subtree(&rows, 2), &[]);
+    assert_eq!(convert(&mut rows, 3, &mut records), Err(Refused { number: 13, place: 0 }));
+    assert_eq!(subtree(&rows[..words], 2), &rows[..18]);
+    assert_eq!(convert(&mut rows[..words], 3, &mut records), Ok(Counts { rows: 1, records: 0, abandoned: 0 }));
+    assert_eq!(rows[18], 40);
+}
+
+#[test]
 fn numbers_have_sentences() {
     assert_eq!(refusal_sentence(9), Some("this is not an assignment target"));
     assert_eq!(record_sentence(2), Some("a rest has no initializer"));
