@@ -16,6 +16,12 @@
  *
  * Returned 0, `*first` is the number of rows, `*second` of records, `*third` of abandoned heads. Returned a refusal, `*first` is its place, and the other
  * two are 0. No global state, no heap, no system call: the functions can be called from any thread, on buffers that are not shared.
+ *
+ * The archive wants one function of its surroundings: `memset`, as the C library has it. It is all that `nm -u` finds undefined.
+ *
+ * A call takes stack by the depth of what it reads: under 18 KB for the measuring sheets of the bench, VUOLMASET_STACK_MEASURED bytes for the deepest
+ * list that was found. This is a measurement on x86-64 and no bound: no proof speaks of the stack, and a deeper list may exist. `bench/run.sh stack`
+ * measures it anew. The call must have so much, and room to spare: past the end of the stack, nothing that is promised here holds.
  */
 #ifndef VUOLMASET_H
 #define VUOLMASET_H
@@ -32,6 +38,11 @@ extern "C" {
 #define VUOLMASET_TOKENS 2048
 #define VUOLMASET_ROW_WORDS (6 * VUOLMASET_TOKENS)
 #define VUOLMASET_RECORD_WORDS (2 * VUOLMASET_TOKENS)
+
+/* The most bytes of stack that a call was seen to take: of vuolmaset_read, for `(` 64 times and then `a ?` 992 times, which is refused. For a list that is
+ * read they were 948,560, of vuolmaset_pattern 1,056,896, of vuolmaset_convert 721,296 (2,047 arrays in one another). The others do not recurse. Some
+ * bytes more or less are the caller's own frame. */
+#define VUOLMASET_STACK_MEASURED 1057568
 
 /* Reads a list of tokens that is one Expression. After a refusal 1 to 7 both buffers hold what they held, after 8 to 12 all their words are 0; read,
  * the words past the used ones are 0. */

@@ -35,7 +35,7 @@ fn best(sheets: &[List], rounds: usize) -> Vec<f64> {
 
 /// A family's row.
 fn row(family: &Family, rounds: usize, ratios: &mut Ratios) -> Vec<String> {
-    let sheets = compared(family, LARGEST);
+    let sheets = compared(READERS, family, LARGEST);
     let read = sheets.iter().filter(|sheet| Room::new().read(READERS[0].1, sheet).is_ok()).count();
     let mut row = vec![family.name.to_string(), format!("{read} of {}", sheets.len()), tokens(&sheets).to_string()];
     row.extend(ratios.cells(family.name, &best(&sheets, rounds)));

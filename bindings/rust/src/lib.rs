@@ -1,7 +1,12 @@
 //! Safe functions over the archive of Vuolmaset, a proved reader of JavaScript expressions.
 //!
 //! Every function takes any bytes, words and lengths: a list is read, or refused by a number and a place. Rust's own rules are all that the archive
-//! asks of its caller (lists that are lent for writing overlap nothing), so no safe call can be a wrong one. There is no heap and no global state.
+//! asks of its caller (lists that are lent for writing overlap nothing), so no safe call can be a wrong one. There is no heap and no global state. The
+//! archive wants the function `memset` of its surroundings, and nothing else.
+//!
+//! Stack: a call takes it by the depth of what it reads, and [`STACK_MEASURED`] bytes for the deepest list that was found. That is a measurement and no
+//! bound. A thread whose stack is shorter can run past its end: where there is a guard page the program is stopped, on a box without one memory
+//! is overwritten. A safe call is safe only on a stack that is long enough.
 //!
 //! A tree is six words a row, and all of the slice that is given: after a reading that is the beginning of the buffer that was lent.
 //!
@@ -21,6 +26,9 @@
 mod sentences;
 
 pub use sentences::{record_sentence, refusal_sentence};
+
+/// The most bytes of stack that a call was seen to take, on x86-64: VUOLMASET_STACK_MEASURED of include/vuolmaset.h, where it is said of what.
+pub const STACK_MEASURED: usize = 1_057_568;
 
 mod archive {
     extern "C" {

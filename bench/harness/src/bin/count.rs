@@ -74,7 +74,7 @@ fn instructions(dump: &Path) -> f64 {
 fn gather(folder: &Path) -> Vec<(&'static Family, Vec<Counted>)> {
     let mut dumps = (1..).map(|number| instructions(&folder.join(format!("out.{number}"))));
     let mut counted = |sheets: &[List]| Counted { tokens: tokens(sheets), instructions: dumps.by_ref().take(READERS.len()).collect() };
-    FAMILIES.iter().map(|family| (family, sizes(family).map(|size| counted(&compared(family, size))).collect())).collect()
+    FAMILIES.iter().map(|family| (family, sizes(family).map(|size| counted(&compared(READERS, family, size))).collect())).collect()
 }
 
 /// The table of the largest sheets: instructions a token.
