@@ -16,6 +16,12 @@
  *
  * Returned 0, `*first` is the number of rows, `*second` of records, `*third` of abandoned heads. Returned a refusal, `*first` is its place, and the other
  * two are 0. No global state, no heap, no system call: the functions can be called from any thread, on buffers that are not shared.
+ *
+ * The archive wants one function of its surroundings: `memset`, as the C library has it. It is all that `nm -u` finds undefined.
+ *
+ * A call takes stack by the depth of what it reads: under 18 KB for the measuring sheets of the bench, VUOLMASET_STACK_MEASURED bytes for the deepest
+ * list that was found. This is a measurement on x86-64 and no bound: no proof speaks of the stack, and a deeper list may exist. `bench/run.sh stack`
+ * measures it anew. The call must have so much, and room to spare: past the end of the stack, nothing that is promised here holds.
  */
 #ifndef VUOLMASET_H
 #define VUOLMASET_H
@@ -33,6 +39,11 @@ extern "C" {
 #define VUOLMASET_ROW_WORDS (6 * VUOLMASET_TOKENS)
 #define VUOLMASET_RECORD_WORDS (2 * VUOLMASET_TOKENS)
 
+/* The most bytes of stack that a call was seen to take: of vuolmaset_read, for `(` 64 times and then `a ?` 992 times, which is refused. For a list that is
+ * read they were 948,560, of vuolmaset_pattern 1,056,896, of vuolmaset_convert 721,296 (2,047 arrays in one another). The others do not recurse. Some
+ * bytes more or less are the caller's own frame. */
+#define VUOLMASET_STACK_MEASURED 1057568
+
 /* Reads a list of tokens that is one Expression. After a refusal 1 to 7 both buffers hold what they held, after 8 to 12 all their words are 0; read,
  * the words past the used ones are 0. */
 uint32_t vuolmaset_read(const uint8_t *kinds, size_t kind_count, const uint8_t *flags, size_t flag_count, uint32_t *rows, size_t row_words,
@@ -43,7 +54,16 @@ uint32_t vuolmaset_pattern(const uint8_t *kinds, size_t kind_count, const uint8_
                            uint32_t *records, size_t record_words, size_t *first, size_t *second, size_t *third);
 
 /* Turns a row of a tree into an assignment target. Refused, it changes no word. Else `*first` is the number of the subtree's rows, kind words of target
- * rows have changed, and the record words past the used ones are 0. */
+ * rows have changed, and the record words past the used ones are 0.
+ *
+ * The tree is all of the words that are given: `tree_words` is 6 times its rows. After a reading that is 6 * *first, and not the length of the buffer that
+ * was lent, whose words past the rows are 0 and no rows: with VUOLMASET_ROW_WORDS a shorter tree is refused with 13.
+ *
+ *      if (vuolmaset_read(kinds, n, flags, n, rows, VUOLMASET_ROW_WORDS, records, VUOLMASET_RECORD_WORDS, &first, &second, &third) == 0) {
+ *          size_t tree_words = 6 * first, row = first - 1;
+ *          refused = vuolmaset_convert(rows, tree_words, row, records, VUOLMASET_RECORD_WORDS, &first, &second, &third);
+ *      }
+ */
 uint32_t vuolmaset_convert(uint32_t *tree, size_t tree_words, size_t row, uint32_t *records, size_t record_words, size_t *first, size_t *second,
                            size_t *third);
 
@@ -52,7 +72,7 @@ uint32_t vuolmaset_three_way(const uint8_t *kinds, size_t kind_count, const uint
                              size_t *told);
 
 /* How many words the subtree of a row has: they end with the row's own words, tree[6 * row + 5]. 0 if the words are no well-formed tree, or the row is
- * outside. */
+ * outside. `tree_words` is 6 times the tree's rows, as for vuolmaset_convert: of a longer buffer the answer is 0. */
 size_t vuolmaset_subtree(const uint32_t *tree, size_t tree_words, size_t row);
 
 /* The level of a kind in the table of binary operators, 1 to 12, or 0; and the same in an expression, where `as` and `satisfies` are no operators. */

@@ -42,6 +42,22 @@ run /dev/zero
 wrote 'a file with no end' "$work/bad" ''
 run < <(cat "$p1" /dev/zero 2>/dev/null)
 wrote 'a sheet and more, with no end' "$work/bad" ''
+# The longest file that can be a sheet's, and the same with one byte more.
+python3 -B tests/sheet_files.py --longest >"$work/longest"
+{ cat "$work/longest"; printf '\0'; } >"$work/longer"
+wc -c <"$work/longest" >"$work/out"
+: >"$work/err"
+printf '8204\n' >"$work/want"
+wrote 'the bytes of the longest file' "$work/want" ''
+printf 'refused 1 0\n' >"$work/want"
+run "$work/longest"
+wrote 'the longest file' "$work/want" ''
+run <"$work/longest"
+wrote 'the longest file as standard input' "$work/want" ''
+run "$work/longer"
+wrote 'a byte more than the longest file' "$work/bad" ''
+run <"$work/longer"
+wrote 'a byte more than the longest file as standard input' "$work/bad" ''
 run "$work/none.sheet"
 wrote 'a file that is not there' "$work/nothing" "sheet: $work/none.sheet: No such file or directory"
 run "$work"

@@ -3,6 +3,7 @@
 
     tests/sheet_files.py --example NAME   the file examples/NAME.sheet, made from the tokens of examples/NAME.js
     tests/sheet_files.py --p1             the file of the sheet that document 01 prints
+    tests/sheet_files.py --longest        the longest file of two blocks, 8,204 bytes: 4,096 tokens
     tests/sheet_files.py --input          the standard input of printout_test
     tests/sheet_files.py                  what printout_test must print
 
@@ -115,7 +116,8 @@ prints(layout(*tokens('{a = 1}')), text_of([(1, 1, 1, 2, 0, 1), (3, 3, 3, 4, 0, 
 
 # lists of the limits: none, and more than a reading takes, up to the largest payload
 answered([], [], 'refused 1 0')
-answered([1] * LARGEST, [0] * LARGEST, 'refused 1 0')
+LONGEST = layout([1] * LARGEST, [0] * LARGEST)
+prints(LONGEST, 'refused 1 0\n')
 answered([1], [], 'refused 2 0')
 answered([], [0], 'refused 1 0')
 n = 2047
@@ -139,7 +141,7 @@ DAMAGED += [block(1, KINDS_1) + block(kind, FLAGS_1) for kind in (0, 1, 3, 255, 
 DAMAGED += [block(2, FLAGS_1) + block(1, KINDS_1), block(1, KINDS_1), block(2, FLAGS_1), P1 + block(3, [1])]  # the wrong blocks
 for length in 0, 6, 8, 4097, 7 + 256, 7 + 65536, 7 + 16777216, 4294967295:  # a length that is not the payload's
     DAMAGED += [block(1, KINDS_1, length) + block(2, FLAGS_1), block(1, KINDS_1) + block(2, FLAGS_1, length)]
-DAMAGED += [layout([1] * 4097, [0] * 2), layout([1] * 2, [0] * 4097), bytes(8205), b'[a, b] = c\n']  # too long a payload; no blocks at all
+DAMAGED += [layout([1] * 4097, [0] * 2), layout([1] * 2, [0] * 4097), LONGEST + b'\0', bytes(8205), b'[a, b] = c\n']  # too long; no blocks at all
 for file in DAMAGED:
     prints(file, 'bad file\n')
 
@@ -148,6 +150,8 @@ if __name__ == '__main__':
         sys.stdout.buffer.write(example(sys.argv[-1]))
     elif '--p1' in sys.argv:
         sys.stdout.buffer.write(P1)
+    elif '--longest' in sys.argv:
+        sys.stdout.buffer.write(LONGEST)
     elif '--input' in sys.argv:
         for file, room, text in FILES:
             sys.stdout.buffer.write(len(file).to_bytes(2, 'little') + room.to_bytes(4, 'little') + file)

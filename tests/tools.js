@@ -85,7 +85,7 @@ function packsJudged() {
 // Packed and shown, a text gives back its tokens: what is shown of the file alone packs to the same file.
 function packsAndShows() {
     TEXTS.forEach((text, i) => {
-        sheet(['pack', file(`t${i}.txt`, text)]);
+        sheet(['pack', '--force', file(`t${i}.txt`, text)]);
         const bytes = fs.readFileSync(path.join(work, `t${i}.sheet`));
         const run = sheet(['show', `t${i}.sheet`]);
         const again = run.stdout.split('\n\n')[1];
@@ -97,6 +97,40 @@ function packsAndShows() {
     holds('the text beside a sheet', sheet(['show', 't0.sheet']).stdout.includes('Binary -      last - n\n'));
     file('t0.js', 'last - n * 1');
     holds('another text beside a sheet', sheet(['show', 't0.sheet']).stdout.includes('Binary -      name - name\n'));
+}
+
+// Texts that are not clean, and what our reader gives them.
+const UNCLEAN = [
+    ['({a}) = b', 'refusal 9'], ['a +', 'refusal 8'], ['a\n++\nb', 'refusal 8'], ['('.repeat(65) + 'u' + ')'.repeat(65), 'refusal 7'], ['-u ** 2', '1 record'],
+    ['[...a,] = b, -u ** 2', '2 records'],
+];
+
+// pack u.js, and the file that it has written, if any.
+function packsU(words) {
+    const at = path.join(work, 'u.sheet');
+    fs.rmSync(at, { force: true });
+    const run = sheet(['pack', 'u.js', ...words]);
+    return { ...run, file: fs.existsSync(at) ? fs.readFileSync(at) : undefined };
+}
+
+// pack asks the reader: it says what show says; what is refused is written only by force, what is read with records is written.
+function packsWhatIsRead() {
+    for (const [text, gives] of UNCLEAN) {
+        const [what, bytes] = [text.slice(0, 20), packed(text)];
+        file('u.js', text);
+        const points = sheet(['show', 'u.js']).stdout.match(/^u\.js:\d+:\d+: re(fusal|cord) \d.*\n.*\n *\^ \d+: .*\n/gm).join('');
+        const [plain, forced] = [packsU([]), packsU(['--force'])];
+        if (gives.startsWith('refusal')) {
+            const [instead, none] = [`; what to write instead: tools/sheet explain ${gives}\n`, 'u.js: refused, so no sheet file is written'];
+            holds(`pack ${what}`, plain.status === 1 && !plain.file && plain.stdout === '' && plain.stderr === points + none + instead, plain.stderr);
+            holds(`pack --force ${what}`, forced.status === 0 && forced.file?.equals(bytes) && forced.stderr === `${points}u.js: refused, and packed by force${instead}`, forced.stderr);
+        } else {
+            const asExpected = (run) => run.status === 0 && run.file?.equals(bytes) && run.stderr === `${points}u.js: packed, but with ${gives}\n`;
+            holds(`pack ${what}`, asExpected(plain) && asExpected(forced), plain.stderr);
+        }
+    }
+    file('u.js', 'a + b');
+    holds('pack a clean text', [packsU([]), packsU(['--force'])].every((run) => run.status === 0 && run.stderr === '' && run.file?.equals(packed('a + b'))));
 }
 
 // Each number is explained, and its example really gives it when the program reads it; what is to be written instead is clean.
@@ -114,6 +148,16 @@ function explains() {
                 holds(`${text} instead`, text.length < 4 || text === 'return' || / 0 \d+$/.test(ask(packed(text)).split('\n')[0]), text);
             }
         }
+    }
+}
+
+// The sentences of the Rust crate are those of the tools.
+function saysInRust() {
+    const source = fs.readFileSync(path.join(ROOT, 'bindings', 'rust', 'src', 'sentences.rs'), 'utf8');
+    for (const [sort, name] of [['refusal', 'REFUSALS'], ['record', 'RECORDS']]) {
+        const said = [...(source.match(`\nconst ${name}: [^=]*= \\[\n([^]*?)\\];\n`)?.[1] ?? '').matchAll(/^ {4}(".*"),$/gm)].map(([, text]) => JSON.parse(text));
+        const wanted = Object.values(NUMBERS[sort]).map((entry) => entry.says);
+        holds(`${sort}s in bindings/rust`, JSON.stringify(said) === JSON.stringify(wanted), said.filter((text, i) => text !== wanted[i]).join('; '));
     }
 }
 
@@ -171,7 +215,7 @@ const BAD = [
     [['pack', '-'], 'a +' .repeat(1024) + 'a', /\^ a sheet has at most 2,048 tokens/], [['pack', '-'], '"abc', /-:1:1: not a sheet\n {2}"abc\n {2}\^ Unterminated string/],
     [['pack', '-'], '\\u0061sync', /cannot tell a spelling/], [['pack', '-'], 'a @ b', /a sheet has no `@`/], [['pack', '-'], 'a\0', /not a text/], [['draw', '-'], '[...a, b] = c', /no tree to draw/],
     [['pack', 't0.txt', '-o', 'none/x'], '', /^none\/x: there is no such file\n$/], [['pack', 't0.txt', '-o', 't0.txt'], '', /this is the file that was read/], [[], '', /^usage:/], [['pack'], '', /^usage:/],
-    [['show', 'a', 'b'], '', /^usage:/], [['show', 'a', '-o', 'b'], '', /^usage:/], [['draw', 'a', '-o'], '', /^usage:/], [['toString', 'a'], '', /^usage:/],
+    [['show', 'a', 'b'], '', /^usage:/], [['show', '--force', 'a'], '', /^usage:/], [['show', 'a', '-o', 'b'], '', /^usage:/], [['draw', 'a', '-o'], '', /^usage:/], [['toString', 'a'], '', /^usage:/],
     [['explain', '15'], '', /^explain 15: refusals are 1 to 14/], [['explain', 'record', '9'], '', /refusals are 1 to 14/], [['explain', 'toString'], '', /refusals are 1 to 14/],
 ];
 
@@ -187,8 +231,13 @@ function saysWhy() {
     holds('without acorn', without.stderr === 'the tokenizer acorn is not at /none; on Debian: apt-get install node-acorn\n', without.stderr);
     fs.cpSync(path.join(ROOT, 'tools', 'desk'), path.join(work, 'clone', 'tools', 'desk'), { recursive: true });
     fs.cpSync(path.join(ROOT, 'tools', 'sheet'), path.join(work, 'clone', 'tools', 'sheet'));
-    const bare = spawnSync(path.join(work, 'clone', 'tools', 'sheet'), ['show', 't0.txt'], { cwd: work, encoding: 'utf8' });
-    holds('not built', bare.stderr === 'target/bin/sheet is not built yet; this builds it: rt check sheet\n', bare.stderr);
+    const bare = (words) => spawnSync(path.join(work, 'clone', 'tools', 'sheet'), [...words, 't0.txt', ...(words[0] === 'pack' ? ['-o', 'bare.sheet'] : [])], { cwd: work, encoding: 'utf8' });
+    const build = 'target/bin/sheet is not built yet; this builds it: rt check sheet\n';
+    holds('show, not built', bare(['show']).stderr === build && bare(['show']).status === 2);
+    holds('pack, not built', bare(['pack']).stderr === build && bare(['pack']).status === 2 && !fs.existsSync(path.join(work, 'bare.sheet')));
+    const forced = bare(['pack', '--force']);
+    const written = fs.readFileSync(path.join(work, 'bare.sheet'));
+    holds('pack --force, not built', forced.stderr === `${build}t0.txt: packed by force, and not read\n` && forced.status === 0 && written.equals(packed(TEXTS[0])), forced.stderr);
 }
 
 // The guide: its tables of numbers are those of the tools, its sheets give what it says, its pictures are there.
@@ -214,6 +263,6 @@ function guides() {
     }
 }
 
-[names, packsKinds, packsJudged, packsAndShows, explains, callsLibrary, draws, saysWhy, guides].forEach((part) => part());
+[names, packsKinds, packsJudged, packsAndShows, packsWhatIsRead, explains, saysInRust, callsLibrary, draws, saysWhy, guides].forEach((part) => part());
 console.log(`tools/sheet: ${tried - failed} of ${tried} as expected`);
 process.exitCode = failed ? 1 : 0;

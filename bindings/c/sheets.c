@@ -25,6 +25,15 @@ int main(void) {
     expect("P1's rows", memcmp(rows, tree, sizeof tree) == 0 && rows[30] == 0);
     expect("P1's subtree", vuolmaset_subtree(rows, 30, 2) == 18);
 
+    /* The tree is 6 words a row, and not the whole buffer: as it was lent, it is no well-formed tree. Its row 3, `c`, becomes a target. */
+    const size_t tree_words = 6 * first;
+    expect("a subtree of the buffer", vuolmaset_subtree(rows, VUOLMASET_ROW_WORDS, 2) == 0);
+    expect("a subtree of the tree", vuolmaset_subtree(rows, tree_words, 2) == 18);
+    expect("the buffer as a tree", vuolmaset_convert(rows, VUOLMASET_ROW_WORDS, 3, records, VUOLMASET_RECORD_WORDS, &first, &second, &third) == 13);
+    expect("the buffer as it was", first == 0 && second == 0 && third == 0 && memcmp(rows, tree, sizeof tree) == 0);
+    expect("a row of the tree", vuolmaset_convert(rows, tree_words, 3, records, VUOLMASET_RECORD_WORDS, &first, &second, &third) == 0);
+    expect("a name as a target", first == 1 && second == 0 && third == 0 && rows[18] == 40 && memcmp(rows, tree, 18 * sizeof *tree) == 0);
+
     /* ({a}) = b */
     const uint8_t p5[] = {18, 22, 1, 23, 19, 63, 1};
     expect("P5", vuolmaset_read(p5, 7, flags, 7, rows, VUOLMASET_ROW_WORDS, records, VUOLMASET_RECORD_WORDS, &first, &second, &third) == 9);

@@ -50,6 +50,12 @@ function told(input, sort, { number, place }) {
     return input.tokens.length === 0 ? `${input.name}: ${head}\n  ${number}: ${sentence}` : pointed(input.name, input.text, offsetOf(input, place), head, `${number}: ${sentence}`);
 }
 
+// What is said against an answer: the refusal, or each record.
+function said(input) {
+    const { refused, records } = input.answer;
+    return refused ? [told(input, 'refusal', refused)] : records.map((record) => told(input, 'record', record));
+}
+
 // `1 row`, `2 rows`.
 const count = (number, word) => `${number} ${word}${number === 1 ? '' : 's'}`;
 
@@ -58,13 +64,13 @@ function shown(input) {
     const { refused, rows, records, abandoned } = input.answer;
     const spelled = input.bare && input.tokens.length > 0 ? ['A sheet file keeps no names, texts and numbers. Its tokens:', '', input.text, ''] : [];
     if (refused) {
-        return [...spelled, told(input, 'refusal', refused)].join('\n');
+        return [...spelled, ...said(input)].join('\n');
     }
     const lines = outline(input, treeOf(rows), 0, []);
     const width = Math.min(60, Math.max(...lines.map((line) => line.name.length)));
     const head = `${input.name}: read, ${count(rows.length, 'row')}, ${count(records.length, 'record')}, ${count(abandoned, 'abandoned head')}`;
     const tree = lines.map((line) => `${line.name.padEnd(width)}  ${line.text}`);
-    return [...spelled, head, '', ...tree, ...records.map((record) => '\n' + told(input, 'record', record))].join('\n');
+    return [...spelled, head, '', ...tree, ...said(input).map((record) => '\n' + record)].join('\n');
 }
 
-module.exports = { shown, told };
+module.exports = { count, said, shown };

@@ -57,27 +57,34 @@ function treeOf(rows) {
 function textBeside(name, bytes) {
     const beside = name.replace(/\.sheet$/, '.js');
     try {
-        const text = textOf(beside, bytesOf(beside));
-        const tokens = tokensOf(beside, text);
-        return beside !== name && fileOf(tokens).equals(bytes) ? { name: beside, text, tokens } : undefined;
+        const input = textInput(beside);
+        return beside !== name && input.file.equals(bytes) ? input : undefined;
     } catch {
         return undefined;
     }
 }
 
+// A text with its tokens and their sheet file, not read yet.
+function textInput(name, bytes = bytesOf(name)) {
+    const text = textOf(name, bytes);
+    const tokens = tokensOf(name, text);
+    return { name, text, tokens, bare: false, file: fileOf(tokens) };
+}
+
+// What the program answers for a text.
+const answered = (input) => ({ ...input, answer: answerOf(ask(input.file)) });
+
 // A sheet file or a text, read by the program: its name, text, tokens, whether the text is only spelled from kinds, and the answer.
 function readInput(name) {
     const bytes = bytesOf(name);
     if (!bytes.includes(0)) {
-        const text = textOf(name, bytes);
-        const tokens = tokensOf(name, text);
-        return { name, text, tokens, bare: false, answer: answerOf(ask(fileOf(tokens))) };
+        return answered(textInput(name, bytes));
     }
     const answer = answerOf(ask(bytes));
     if (!answer) {
         throw new Problem(`${name}: this is no sheet file (a block of kinds, then a block of flags, and nothing else)`);
     }
-    return { name, bare: true, ...spelled(bytes), ...(textBeside(name, bytes) && { ...textBeside(name, bytes), bare: false }), answer };
+    return { name, bare: true, ...spelled(bytes), ...textBeside(name, bytes), answer };
 }
 
 // The text of a row, in one line; that of a row with no tokens of its own is its first token.
@@ -92,4 +99,4 @@ function offsetOf(input, place) {
     return token ? token.start : (input.tokens[input.tokens.length - 1]?.end ?? 0);
 }
 
-module.exports = { PROGRAM, answerOf, ask, offsetOf, readInput, sourceOf, treeOf };
+module.exports = { PROGRAM, answerOf, answered, ask, offsetOf, readInput, sourceOf, textInput, treeOf };

@@ -2,7 +2,7 @@
 //! words that are lent for it.
 use twin::protocol::{Entries, Read, Refused};
 
-unsafe extern "C" {
+extern "C" {
     fn vuolmaset_read(k: *const u8, kn: usize, f: *const u8, fn_: usize, r: *mut u32, rn: usize, c: *mut u32, cn: usize, a: *mut usize, b: *mut usize, d: *mut usize) -> u32;
     fn vuolmaset_pattern(k: *const u8, kn: usize, f: *const u8, fn_: usize, r: *mut u32, rn: usize, c: *mut u32, cn: usize, a: *mut usize, b: *mut usize, d: *mut usize) -> u32;
     fn vuolmaset_convert(tree: *mut u32, tn: usize, row: usize, c: *mut u32, cn: usize, a: *mut usize, b: *mut usize, d: *mut usize) -> u32;

@@ -3,10 +3,9 @@
 //!
 //!     bench [ROUNDS] [FAMILY]       FAMILY: a part of the name
 use harness::families::{FAMILIES, Family, LARGEST};
-use harness::readers::{Entry, READERS, Room, compared, names, tokens, with_room_to_recurse};
+use harness::readers::{Entry, READERS, Room, black_box, compared, names, tokens, with_room_to_recurse};
 use harness::table::{Ratios, Table, heads};
 use lists::List;
-use std::hint::black_box;
 use std::time::Instant;
 
 /// The time of one pass over the sheets, repeated until it can be measured, for a token.
@@ -36,7 +35,7 @@ fn best(sheets: &[List], rounds: usize) -> Vec<f64> {
 
 /// A family's row.
 fn row(family: &Family, rounds: usize, ratios: &mut Ratios) -> Vec<String> {
-    let sheets = compared(family, LARGEST);
+    let sheets = compared(READERS, family, LARGEST);
     let read = sheets.iter().filter(|sheet| Room::new().read(READERS[0].1, sheet).is_ok()).count();
     let mut row = vec![family.name.to_string(), format!("{read} of {}", sheets.len()), tokens(&sheets).to_string()];
     row.extend(ratios.cells(family.name, &best(&sheets, rounds)));

@@ -16,6 +16,30 @@ pub static READERS: &[Reader] = &[
     ("archive", crate::archive::Archive::read as Entry),
 ];
 
+/// The same readers by their entry for patterns.
+pub static PATTERNS: &[Reader] = &[
+    ("twin", Twin::pattern as Entry),
+    #[cfg(feature = "archive")]
+    ("archive", crate::archive::Archive::pattern as Entry),
+];
+
+/// And by their entry for conversion.
+pub static CONVERTERS: &[Reader] = &[
+    ("twin", convert_arrays::<Twin> as Entry),
+    #[cfg(feature = "archive")]
+    ("archive", convert_arrays::<crate::archive::Archive> as Entry),
+];
+
+/// Converts a name in arrays in one another, as many rows as there are tokens.
+fn convert_arrays<Reader: Entries>(kinds: &[u8], _: &[u8], rows: &mut [u32], records: &mut [u32]) -> Result<Read, Refused> {
+    let last = kinds.len() as u32 - 1;
+    for (number, row) in (0..).zip(rows.chunks_exact_mut(6)) {
+        let (kind, kids) = if number == 0 { (1, 0) } else { (5, 1) };
+        row.copy_from_slice(&[kind, last - number, last - number, last + 1, kids, number + 1]);
+    }
+    Reader::convert(rows, last as usize, records)
+}
+
 /// The readers' names.
 pub fn names() -> Vec<&'static str> {
     READERS.iter().map(|(name, _)| *name).collect()
@@ -47,8 +71,8 @@ impl Default for Room {
 }
 
 /// All readers give the same answer and leave the same words.
-fn agree(sheet: &List) -> bool {
-    let mut seen = READERS.iter().map(|(_, entry)| {
+fn agree(readers: &[Reader], sheet: &List) -> bool {
+    let mut seen = readers.iter().map(|(_, entry)| {
         let mut room = Room::new();
         (room.read(*entry, sheet), room.rows, room.records)
     });
@@ -56,16 +80,23 @@ fn agree(sheet: &List) -> bool {
     seen.all(|other| Some(other) == first)
 }
 
-/// The sheets of a family, after all readers have been compared on each.
-pub fn compared(family: &Family, size: Size) -> Vec<List> {
+/// The sheets of a family, after the readers have been compared on each.
+pub fn compared(readers: &[Reader], family: &Family, size: Size) -> Vec<List> {
     let sheets = family.sheets(size);
-    assert!(sheets.iter().all(agree), "{}: the readers differ", family.name);
+    assert!(sheets.iter().all(|sheet| agree(readers, sheet)), "{}: the readers differ", family.name);
     sheets
 }
 
 /// How many tokens the sheets have.
 pub fn tokens(sheets: &[List]) -> usize {
     sheets.iter().map(List::len).sum()
+}
+
+/// A value of which the compiler knows nothing more, and which it must have at hand: `std::hint::black_box` of Rust 1.66, for older ones.
+pub fn black_box<T>(value: T) -> T {
+    // No instruction; for all that the compiler knows, what stands at the address is read and written.
+    unsafe { std::arch::asm!("/* {} */", in(reg) &value, options(nostack, preserves_flags)) };
+    value
 }
 
 /// Runs on a stack that no reader comes to the end of: chains of 2,048 go deep.

@@ -27,7 +27,7 @@ impl Entries for Twin {
         if part.is_empty() {
             return (0, 0);
         }
-        ((part.as_ptr().addr() - tree.as_ptr().addr()) / 4, part.len())
+        ((part.as_ptr() as usize - tree.as_ptr() as usize) / 4, part.len())
     }
     fn three_way(kinds: &[u8], flags: &[u8], ts: bool, jsx: bool, place: usize) -> Result<u8, Refused> {
         crate::three_way(kinds, flags, ts, jsx, place).map(|answer| answer as u8).map_err(refused)

@@ -1,5 +1,5 @@
-//! The reader of document 01 as plain, safe Rust without a heap: the same bytes into the same rows as the proved reader, written from
-//! document 01 and ECMA-262. It is what the proved reader is timed and compared with.
+//! The reader of document 01 as plain Rust without a heap, safe but for seeing six words as a row (`row.rs`): the same bytes into the same rows
+//! as the proved reader, written from document 01 and ECMA-262. It is what the proved reader is timed and compared with.
 pub mod arrow;
 pub mod entries;
 pub mod kind;
@@ -121,7 +121,7 @@ fn check(kinds: &[u8], flags: &[u8], rows: &[u32], records: &[u32]) -> Result<()
 /// Reads by one start of the grammar, and leaves both buffers as document 01 says.
 fn run(entry: parse::Entry, kinds: &[u8], flags: &[u8], rows: &mut [u32], records: &mut [u32]) -> Answer {
     check(kinds, flags, rows, records)?;
-    let answer = parse::whole(entry, kinds, flags, rows.as_chunks_mut().0, records);
+    let answer = parse::whole(entry, kinds, flags, row::rows_of_mut(rows), records);
     let (row_words, record_words) = match answer {
         Ok(counts) => (row::WORDS * counts.rows, 2 * counts.records),
         Err(_) => (0, 0),
@@ -146,8 +146,9 @@ pub fn convert(tree: &mut [u32], row: usize, records: &mut [u32]) -> Answer {
     if tree.is_empty() || tree.len() > row::WORDS * MAX_TOKENS {
         return refuse(Refusal::Length, 0);
     }
-    let Some(rows) = well_formed(tree) else {
-        return refuse(Refusal::Tree, 0);
+    let rows = match well_formed(tree) {
+        Some(rows) => rows,
+        None => return refuse(Refusal::Tree, 0),
     };
     if row >= rows.len() {
         return refuse(Refusal::Outside, 0);
@@ -157,7 +158,7 @@ pub fn convert(tree: &mut [u32], row: usize, records: &mut [u32]) -> Answer {
         return refuse(Refusal::RecordRoom, 0);
     }
     let count = target::judge(rows, row, Want::Any)?;
-    target::turn(tree.as_chunks_mut().0, row, records, count);
+    target::turn(row::rows_of_mut(tree), row, records, count);
     records[2 * count..].fill(0);
     Ok(Counts { rows: size, records: count, abandoned: 0 })
 }

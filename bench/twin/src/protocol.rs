@@ -1,11 +1,13 @@
 //! A reader behind lines of text, so that any reader can be asked by any program. One answer line for each line:
 //!
-//!     r KINDS FLAGS [ROW_WORDS RECORD_WORDS]    the reader          read ROWS RECORDS ABANDONED : words of the rows : words of the records
-//!     p KINDS FLAGS [ROW_WORDS RECORD_WORDS]    the pattern entry   the same
-//!     c ROW RECORD_WORDS WORDS..                conversion          read ROWS RECORDS 0 : all words of the tree : words of the records
-//!     s ROW WORDS..                             a row's subtree     part FIRST_WORD WORD_COUNT
-//!     t KINDS FLAGS PLACE TS JSX                three-way answer    answer 0 (False), 1 (True) or 2 (Maybe)
-//!     o KIND                                    operator lookup     level AS_THE_CRATE AS_THE_READER
+//! ```text
+//! r KINDS FLAGS [ROW_WORDS RECORD_WORDS]    the reader          read ROWS RECORDS ABANDONED : words of the rows : words of the records
+//! p KINDS FLAGS [ROW_WORDS RECORD_WORDS]    the pattern entry   the same
+//! c ROW RECORD_WORDS WORDS..                conversion          read ROWS RECORDS 0 : all words of the tree : words of the records
+//! s ROW WORDS..                             a row's subtree     part FIRST_WORD WORD_COUNT
+//! t KINDS FLAGS PLACE TS JSX                three-way answer    answer 0 (False), 1 (True) or 2 (Maybe)
+//! o KIND                                    operator lookup     level AS_THE_CRATE AS_THE_READER
+//! ```
 //!
 //! KINDS and FLAGS are hexadecimal, two digits a byte, `-` for none; other numbers are decimal. A refusal is `refused NUMBER PLACE`. The words
 //! that an answer leaves out are held to document 01 here: lent longer than needed, filled with a sign before, and `broken ..` is the answer

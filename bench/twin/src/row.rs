@@ -19,6 +19,19 @@ pub const WORDS: usize = 6;
 /// A row's words.
 pub type Row = [u32; WORDS];
 
+/// The rows of words, and what is left over: `as_chunks` of Rust 1.88, for older ones.
+pub fn rows_of(words: &[u32]) -> (&[Row], &[u32]) {
+    let (whole, more) = words.split_at(words.len() - words.len() % WORDS);
+    // A row is so many words in a line, and `whole` holds so many rows.
+    (unsafe { std::slice::from_raw_parts(whole.as_ptr().cast(), whole.len() / WORDS) }, more)
+}
+
+/// The rows of words, to be written; what is left over is not given.
+pub fn rows_of_mut(words: &mut [u32]) -> &mut [Row] {
+    // As in `rows_of`.
+    unsafe { std::slice::from_raw_parts_mut(words.as_mut_ptr().cast(), words.len() / WORDS) }
+}
+
 // The words of a row.
 pub const KIND: usize = 0;
 pub const MARK: usize = 1;

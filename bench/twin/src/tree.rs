@@ -145,7 +145,10 @@ fn inner(kind: u32, kid: u32) -> Set {
 /// One row over rows that were found right: its kids stand just below it and fit, and the sizes add up.
 fn stands(rows: &[Row], at: usize) -> bool {
     let [kind, _, _, _, kids, size] = rows[at];
-    let Some((least, most)) = counts(kind) else { return false };
+    let (least, most) = match counts(kind) {
+        Some(both) => both,
+        None => return false,
+    };
     if kids < least || most < kids || kids as usize > at {
         return false;
     }
@@ -166,7 +169,7 @@ fn stands(rows: &[Row], at: usize) -> bool {
 
 /// The rows of these words, if they are one well-formed tree.
 pub fn well_formed(words: &[u32]) -> Option<&[Row]> {
-    let (rows, more) = words.as_chunks::<WORDS>();
+    let (rows, more) = rows_of(words);
     let fits = more.is_empty() && !rows.is_empty() && rows.len() <= 2048;
     (fits && (0..rows.len()).all(|at| stands(rows, at)) && rows[rows.len() - 1][SIZE] as usize == rows.len()).then_some(rows)
 }

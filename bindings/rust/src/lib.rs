@@ -1,9 +1,34 @@
 //! Safe functions over the archive of Vuolmaset, a proved reader of JavaScript expressions.
 //!
 //! Every function takes any bytes, words and lengths: a list is read, or refused by a number and a place. Rust's own rules are all that the archive
-//! asks of its caller (lists that are lent for writing overlap nothing), so no safe call can be a wrong one. There is no heap and no global state.
+//! asks of its caller (lists that are lent for writing overlap nothing), so no safe call can be a wrong one. There is no heap and no global state. The
+//! archive wants the function `memset` of its surroundings, and nothing else.
+//!
+//! Stack: a call takes it by the depth of what it reads, and [`STACK_MEASURED`] bytes for the deepest list that was found. That is a measurement and no
+//! bound. A thread whose stack is shorter can run past its end: where there is a guard page the program is stopped, on a box without one memory
+//! is overwritten. A safe call is safe only on a stack that is long enough.
+//!
+//! A tree is six words a row, and all of the slice that is given: after a reading that is the beginning of the buffer that was lent.
+//!
+//! ```
+//! let (kinds, flags) = ([20, 1, 24, 1, 21], [0; 5]); // [a, b]
+//! let (mut rows, mut records) = ([0; 6 * 2048], [0; 2 * 2048]);
+//! let counts = vuolmaset::read(&kinds, &flags, &mut rows, &mut records).unwrap();
+//! let (tree, last) = (&mut rows[..6 * counts.rows], counts.rows - 1);
+//! assert_eq!(vuolmaset::subtree(tree, 0).len(), 6);
+//! assert!(vuolmaset::convert(tree, last, &mut records).is_ok());
+//! // The whole buffer is no tree: the words past the rows are 0.
+//! assert_eq!(vuolmaset::convert(&mut rows, last, &mut records).unwrap_err().to_string(), "refusal 13 at 0: the words are no well-formed tree");
+//! ```
 #![no_std]
 #![warn(missing_docs)]
+
+mod sentences;
+
+pub use sentences::{record_sentence, refusal_sentence};
+
+/// The most bytes of stack that a call was seen to take, on x86-64: VUOLMASET_STACK_MEASURED of include/vuolmaset.h, where it is said of what.
+pub const STACK_MEASURED: usize = 1_057_568;
 
 mod archive {
     extern "C" {
@@ -31,10 +56,17 @@ mod archive {
 /// A list or a tree is refused: by one of the numbers 1 to 14, at a token or a row.
 #[derive(Clone, Copy, Debug, PartialEq, Eq)]
 pub struct Refused {
-    /// Which of the refusals.
+    /// Which of the refusals; [`refusal_sentence`] says what it means.
     pub number: u32,
     /// The token, or 0.
     pub place: usize,
+}
+
+/// The number, the place and the sentence.
+impl core::fmt::Display for Refused {
+    fn fmt(&self, to: &mut core::fmt::Formatter) -> core::fmt::Result {
+        write!(to, "refusal {} at {}: {}", self.number, self.place, refusal_sentence(self.number).unwrap_or("no such number"))
+    }
 }
 
 /// What was read.
@@ -42,7 +74,7 @@ pub struct Refused {
 pub struct Counts {
     /// How many rows the tree has, six words each.
     pub rows: usize,
-    /// How many records there are, two words each.
+    /// How many records there are, two words each: a number, of which [`record_sentence`] says what it means, and a place.
     pub records: usize,
     /// How many arrow heads were tried and given up.
     pub abandoned: usize,
@@ -92,7 +124,8 @@ pub fn pattern(kinds: &[u8], flags: &[u8], rows: &mut [u32], records: &mut [u32]
     answer(number, first, second, third)
 }
 
-/// Turns a row of a tree into an assignment target. Refused, no word changes.
+/// Turns a row of a tree into an assignment target. Refused, no word changes. `tree` is the tree's rows and no more, as `&mut rows[..6 * counts.rows]` after
+/// a reading; a longer buffer is refused with 13.
 pub fn convert(tree: &mut [u32], row: usize, records: &mut [u32]) -> Result<Counts, Refused> {
     let (mut first, mut second, mut third) = (0, 0, 0);
     // As in `read`.
@@ -118,7 +151,8 @@ pub fn three_way(kinds: &[u8], flags: &[u8], is_ts: bool, is_jsx: bool, at: usiz
     }
 }
 
-/// The words of a row's subtree; none if the words are no well-formed tree or the row is outside.
+/// The words of a row's subtree; none if the words are no well-formed tree or the row is outside. `tree` is the tree's rows and no more, as for
+/// [`convert`].
 pub fn subtree(tree: &[u32], row: usize) -> &[u32] {
     // As in `read`.
     let words = unsafe { archive::vuolmaset_subtree(tree.as_ptr(), tree.len(), row) };

@@ -1,5 +1,7 @@
 //! P1 to P10 of document 01, and one call of each other function, through the archive.
-use vuolmaset::{convert, expression_precedence, pattern, precedence, read, subtree, three_way, Counts, Refused, Tristate};
+use vuolmaset::{
+    convert, expression_precedence, pattern, precedence, read, record_sentence, refusal_sentence, subtree, three_way, Counts, Refused, Tristate,
+};
 
 type Row = [u32; 6];
 
@@ -91,6 +93,30 @@ fn nothing_is_asked_of_the_caller() {
     assert_eq!(convert(&mut [], 7, &mut []), Err(Refused { number: 1, place: 0 }));
     assert_eq!(three_way(&[1], &[0], false, false, usize::MAX), Err(Refused { number: 14, place: 0 }));
     assert_eq!(subtree(&[1, 2, 3], usize::MAX), &[]);
+}
+
+#[test]
+fn a_tree_is_six_words_a_row() {
+    // [a, b] = c, into buffers that are longer than its rows
+    let (mut rows, mut records) = ([9; 42], [9; 14]);
+    let counts = read(SHEETS[0].kinds, &[0; 7], &mut rows, &mut records).expect("it is read");
+    let words = 6 * counts.rows;
+    assert_eq!(subtree(&rows, 2), &[]);
+    assert_eq!(convert(&mut rows, 3, &mut records), Err(Refused { number: 13, place: 0 }));
+    assert_eq!(subtree(&rows[..words], 2), &rows[..18]);
+    assert_eq!(convert(&mut rows[..words], 3, &mut records), Ok(Counts { rows: 1, records: 0, abandoned: 0 }));
+    assert_eq!(rows[18], 40);
+}
+
+#[test]
+fn numbers_have_sentences() {
+    assert_eq!(refusal_sentence(9), Some("this is not an assignment target"));
+    assert_eq!(record_sentence(2), Some("a rest has no initializer"));
+    assert!((1..=14).all(|number| refusal_sentence(number).is_some()) && (1..=8).all(|number| record_sentence(number).is_some()));
+    assert_eq!([0, 15, u32::MAX].map(refusal_sentence), [None; 3]);
+    assert_eq!([0, 9, u32::MAX].map(record_sentence), [None; 3]);
+    assert_eq!(Refused { number: 9, place: 4 }.to_string(), "refusal 9 at 4: this is not an assignment target");
+    assert_eq!(Refused { number: 15, place: 0 }.to_string(), "refusal 15 at 0: no such number");
 }
 
 #[test]

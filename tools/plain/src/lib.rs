@@ -252,7 +252,10 @@ impl Plain<'_> {
 
     /// The tiers of binary operators, each a left-recursive production.
     fn tier(&mut self, tier: usize) -> Got<Tree> {
-        let Some(operators) = TIERS.get(tier) else { return self.power() };
+        let operators = match TIERS.get(tier) {
+            Some(operators) => operators,
+            None => return self.power(),
+        };
         let first = self.at;
         let mut left = self.tier(tier + 1)?;
         while operators.contains(&self.peek(0)) {
@@ -402,7 +405,7 @@ impl Plain<'_> {
         } else {
             return self.wrong();
         };
-        let spread = kids.last().is_some_and(|last| last.kind == 10);
+        let spread = kids.last().map_or(false, |last| last.kind == 10);
         let kind = if spread { literal } else { literal - (literal + 1) % 2 };
         Ok(self.node(kind, first, first, kids))
     }

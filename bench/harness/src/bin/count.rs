@@ -4,10 +4,9 @@
 //!     count          runs itself under callgrind and prints the tables
 //!     count read     what callgrind runs
 use harness::families::{FAMILIES, Family, LARGEST, Size};
-use harness::readers::{Entry, READERS, Room, compared, names, tokens, with_room_to_recurse};
+use harness::readers::{Entry, READERS, Room, black_box, compared, names, tokens, with_room_to_recurse};
 use harness::table::{Ratios, Table, heads};
 use lists::List;
-use std::hint::black_box;
 use std::path::Path;
 use std::process::Command;
 
@@ -29,7 +28,7 @@ fn sizes(family: &Family) -> impl Iterator<Item = Size> {
 }
 
 /// What is counted: the reading of the sheets, each once.
-#[unsafe(no_mangle)]
+#[no_mangle]
 #[inline(never)]
 fn counted(entry: Entry, sheets: &[List], room: &mut Room) {
     for sheet in sheets {
@@ -38,7 +37,7 @@ fn counted(entry: Entry, sheets: &[List], room: &mut Room) {
 }
 
 /// Before this is called, callgrind writes what it has counted, and starts anew.
-#[unsafe(no_mangle)]
+#[no_mangle]
 #[inline(never)]
 fn written() {
     black_box(());
@@ -75,7 +74,7 @@ fn instructions(dump: &Path) -> f64 {
 fn gather(folder: &Path) -> Vec<(&'static Family, Vec<Counted>)> {
     let mut dumps = (1..).map(|number| instructions(&folder.join(format!("out.{number}"))));
     let mut counted = |sheets: &[List]| Counted { tokens: tokens(sheets), instructions: dumps.by_ref().take(READERS.len()).collect() };
-    FAMILIES.iter().map(|family| (family, sizes(family).map(|size| counted(&compared(family, size))).collect())).collect()
+    FAMILIES.iter().map(|family| (family, sizes(family).map(|size| counted(&compared(READERS, family, size))).collect())).collect()
 }
 
 /// The table of the largest sheets: instructions a token.

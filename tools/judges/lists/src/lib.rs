@@ -56,7 +56,10 @@ pub fn small(length: usize, each: &mut impl FnMut(&List)) {
     let mut kinds = vec![1u8; length];
     loop {
         with_breaks(&kinds, each);
-        let Some(at) = kinds.iter().rposition(|&k| k < 78) else { return };
+        let at = match kinds.iter().rposition(|&k| k < 78) {
+            Some(at) => at,
+            None => return,
+        };
         kinds[at] += 1;
         kinds[at + 1..].fill(1);
     }

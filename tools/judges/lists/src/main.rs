@@ -8,7 +8,7 @@ fn main() {
     let words: Vec<String> = std::env::args().skip(1).collect();
     let number = |at: usize| words.get(at).and_then(|w| w.parse::<usize>().ok()).expect("a number");
     let mut out = BufWriter::new(stdout().lock());
-    let letter = if words.first().is_some_and(|word| word == "pattern") { 'p' } else { 'r' };
+    let letter = if words.first().map_or(false, |word| word == "pattern") { 'p' } else { 'r' };
     let mut print = |list: &List| writeln!(out, "{}", list.line(letter)).expect("standard output");
     match words.first().map(String::as_str) {
         Some("small") => small(number(1), &mut print),
