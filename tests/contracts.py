@@ -2,12 +2,15 @@
 """Holds the documents to the tree.
 
 Every public function of a library crate is named in docs/CONTRACTS.md, under the heading of its crate. Every file of a crate that docs/RULES.md cites is there,
-and so is every name that stands after it: `grammar/specs/Arrow.antt body-of`. No line of these documents is longer than 200 characters.
+and so is every name that stands after it: `grammar/specs/Arrow.antt body-of`. The tables T4 and R5 of the rules are those of the
+definitions. No line of these documents is longer than 200 characters.
 """
 import glob
 import os
 import re
 import sys
+
+from kinds import ORDER
 
 ROOT = os.path.join(os.path.dirname(os.path.abspath(__file__)), '..')
 CONTRACTS = 'docs/CONTRACTS.md'
@@ -73,6 +76,39 @@ for document in CITING:
             cited += 1
             if name not in there:
                 wrong.append('%s: %s defines no %s' % (document, full, name))
+
+# the numbers of RULES T4 and R5, held to those of the definitions
+def numbered(start, end):
+    """The cells of the tables between two rules: (first, last, text)."""
+    rules = text_of('docs/RULES.md')
+    part = rules[rules.index('**%s.**' % start):rules.index('**%s.**' % end)]
+    return [(int(low), int(high), text.replace('\\|', '|')) for low, high, text in re.findall(r'^\| (\d+) to (\d+) \| (.*) \|$', part, re.M)]
+
+
+def held(rule, table, definitions):
+    """Each cell names as many things as its range has numbers, and each number has in the definitions the name that stands here."""
+    for low, high, names in table:
+        if len(names) != high - low + 1:
+            wrong.append('docs/RULES.md %s: %d to %d has %d names' % (rule, low, high, len(names)))
+        for number, name in zip(range(low, high + 1), names):
+            if definitions.get(number, '').lower() != name.lower():
+                wrong.append('docs/RULES.md %s: %d is %s, and the definitions have %s' % (rule, number, name, definitions.get(number)))
+    if sum(len(names) for _, _, names in table) != len(definitions):
+        wrong.append('docs/RULES.md %s: not as many as the definitions have' % rule)
+
+
+def token_names(text):
+    text = re.sub(r'Ident \([^)]*\)', 'Ident', re.sub(r'a modifier name:.*', 'Modifier', text)).replace('any other reserved word', 'Reserved')
+    return [sign or word for sign, word in re.findall(r'`([^`]+)`|(\w+)', text)]
+
+
+def row_names(text):
+    return [re.sub(r' \([^)]*\)', '', name).strip() for name in re.sub(r'the same with [^(]*\((\w+)\)', r'\1', text).split(',')]
+
+
+held('T4', [(low, high, token_names(text)) for low, high, text in numbered('T4', 'T5')], dict(enumerate(ORDER, 1)))
+held('R5', [(low, high, row_names(text)) for low, high, text in numbered('R5', 'R6')],
+     {int(number): name for name, number in re.findall(r'^(\w+) = (\d+)$', text_of('crates/rows/specs/Row.antt'), re.M)})
 
 # long lines
 for document in [CONTRACTS] + CITING:
