@@ -1,9 +1,12 @@
 #!/usr/bin/env python3
 """Holds the documents to the tree.
 
-Every public function of a library crate is named in docs/CONTRACTS.md, under the heading of its crate. Every file of a crate that docs/RULES.md cites is there,
-and so is every name that stands after it: `grammar/specs/Arrow.antt body-of`. The tables T4 and R5 of the rules are those of the
-definitions. No line of these documents is longer than 200 characters.
+    tests/contracts.py            fails if one of these does not hold
+    tests/contracts.py --lines    writes the lines of the files that docs/AUDIT.md lists, and their sums
+
+Every public function of a library crate is named in docs/CONTRACTS.md, under the heading of its crate. Every file of a crate that docs/RULES.md or docs/AUDIT.md
+cites is there, and so is every name that stands after it: `grammar/specs/Arrow.antt body-of`. The files that docs/AUDIT.md lists have as many lines as it says, and
+at most 3,300 for each demand. The tables T4 and R5 of the rules are those of the definitions. No line of prose of these documents is longer than 200 characters.
 """
 import glob
 import os
@@ -14,7 +17,9 @@ from kinds import ORDER
 
 ROOT = os.path.join(os.path.dirname(os.path.abspath(__file__)), '..')
 CONTRACTS = 'docs/CONTRACTS.md'
-CITING = ['docs/RULES.md']
+AUDIT = 'docs/AUDIT.md'
+CITING = ['docs/RULES.md', AUDIT]
+MOST = 3300
 PROGRAMS = re.compile(r'(_test|_cost)$')
 FUNCTION = re.compile(r'^\s*pub (?:extern "C" )?fn (\w+)', re.M)
 CITED = re.compile(r'`(\w+/(?:specs|proofs|src)/[\w/]+\.(?:antt|rt))((?: [^\s`]+)*)`')
@@ -77,6 +82,29 @@ for document in CITING:
             if name not in there:
                 wrong.append('%s: %s defines no %s' % (document, full, name))
 
+# the files that have to be read, with their lines, and the sums of each demand's
+LISTED = re.compile(r'^\| `(\S+\.antt)`([^|]*)\| (\d+) \|(.*)\|$')
+sums = [0, 0, 0, 0]
+made = []
+for line in text_of(AUDIT).split('\n'):
+    m = LISTED.match(line)
+    if m:
+        path = os.path.join('crates', m.group(1))
+        count = text_of(path).count('\n') if os.path.exists(os.path.join(ROOT, path)) else 0
+        marks = [True] + ['x' in cell for cell in m.group(4).split('|')]
+        sums = [total + (count if marked else 0) for total, marked in zip(sums, marks)]
+        line = '| `%s`%s| %d |%s|' % (m.group(1), m.group(2), count, m.group(4))
+    elif line.startswith('| sums |'):
+        line = '| sums | %s |' % ' | '.join(map(str, sums))
+    made.append(line)
+if '--lines' in sys.argv:
+    with open(os.path.join(ROOT, AUDIT), 'w', encoding='utf-8') as file:
+        file.write('\n'.join(made))
+elif '\n'.join(made) != text_of(AUDIT):
+    wrong.append('%s: the lines of the files are others; --lines writes them' % AUDIT)
+if max(sums[1:]) > MOST:
+    wrong.append('%s: a demand rests on %d lines, over %d' % (AUDIT, max(sums[1:]), MOST))
+
 # the numbers of RULES T4 and R5, held to those of the definitions
 def numbered(start, end):
     """The cells of the tables between two rules: (first, last, text)."""
@@ -113,11 +141,11 @@ held('R5', [(low, high, row_names(text)) for low, high, text in numbered('R5', '
 # long lines
 for document in [CONTRACTS] + CITING:
     for number, line in enumerate(text_of(document).split('\n'), 1):
-        if len(line) > 200:
+        if len(line) > 200 and not (document == AUDIT and line.startswith('|')):
             wrong.append('%s:%d: %d characters' % (document, number, len(line)))
 
 if wrong:
     print('\n'.join(wrong))
     print('0 passed, %d failed' % len(wrong))
     sys.exit(1)
-print('tests/contracts.py: %d public functions are named, and %d names that the rules cite are there' % (functions, cited))
+print('tests/contracts.py: %d public functions are named, and %d names that the rules and the map cite are there; a demand rests on at most %d lines' % (functions, cited, max(sums[1:])))
