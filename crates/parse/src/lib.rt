@@ -276,12 +276,12 @@ fn params(
         records: said,
     };
     let mut kids = 0;
-    loop {
+    let read = loop {
         let place = c.at;
         let k = tokens::kind_at(kinds, place);
         if k == kind::R_PAREN {
             c.at = place + 1;
-            break;
+            break c;
         }
         kids += 1;
         if k == kind::DOT3 {
@@ -291,9 +291,8 @@ fn params(
             let got = last(kinds, flags, rows, records, notes, place, n, used, close);
             match got {
                 Step::Fail(cause) => return Listed::Fail(cause),
-                Step::Done(d) => c = d,
+                Step::Done(d) => break d,
             }
-            break;
         }
         let got = element(kinds, flags, rows, records, notes, c.at, c.rows, c.records);
         match got {
@@ -304,13 +303,13 @@ fn params(
         let next = tokens::kind_at(kinds, close);
         c.at = close + 1;
         if next == kind::R_PAREN {
-            break;
+            break c;
         }
         if next != kind::COMMA {
             return Listed::Fail(Cause::Unexpected(close));
         }
-    }
-    Listed::Done(c, kids)
+    };
+    Listed::Done(read, kids)
 }
 
 // `=>` and the body, which is final: a break before `=>` is record 1, and `{` as body is 8.
