@@ -279,10 +279,11 @@ fn wide(k: u8) -> usize
     k as usize
 }
 
-// The levels of the table's operators, four bits each: from `??` to `in`, and from `<<` to `**`.
-const LOOSER_LEVELS: u64 = 9838263432676459297;
+// The levels of the operators from `??` to `in`, four bits each, the lowest first: `??` 1, `||` 2, `&&` 3, `|` 4, `^` 5, `&` 6, four of equality 7, six of comparison 8.
+const COALESCE_TO_IN_LEVELS: u64 = 0x8888_8877_7765_4321;
 
-const TIGHTER_LEVELS: u64 = 54689180057;
+// The levels of the operators from `<<` to `**`, four bits each, the lowest first: three shifts 9, two of sums 10, three of products 11, `**` 12.
+const SHIFT_TO_POWER_LEVELS: u64 = 0xc_bbba_a999;
 
 // The level of a kind in an expression: As and Satisfies are no operators there.
 pub fn expression_precedence(k: u8) -> u8
@@ -292,10 +293,10 @@ pub fn expression_precedence(k: u8) -> u8
         return 0;
     }
     if k <= kind::IN {
-        return level_at(LOOSER_LEVELS, k - kind::QUESTION2);
+        return level_at(COALESCE_TO_IN_LEVELS, k - kind::QUESTION2);
     }
     if k <= kind::STAR2 {
-        return level_at(TIGHTER_LEVELS, k - kind::SHIFT_LEFT);
+        return level_at(SHIFT_TO_POWER_LEVELS, k - kind::SHIFT_LEFT);
     }
     0
 }

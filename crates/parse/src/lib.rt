@@ -58,7 +58,7 @@ pub fn comma(
 }
 
 // 13.15 AssignmentExpression: one token by itself; or where a head could open, it is passed, tried or read for good.
-pub fn assign(
+fn assign(
     kinds: &[u8],
     flags: &[u8],
     rows: &mut [u32],
@@ -97,7 +97,7 @@ pub fn assign(
 }
 
 // The assignment level past a head: an async arrow of one name, or the binary level and what may follow it.
-pub fn value(
+fn value(
     kinds: &[u8],
     flags: &[u8],
     rows: &mut [u32],
@@ -150,7 +150,7 @@ pub fn value(
 }
 
 // 13.15: an assignment, whose left side is converted before the right is read.
-pub fn assigned(
+fn assigned(
     kinds: &[u8],
     flags: &[u8],
     rows: &mut [u32],
@@ -193,7 +193,7 @@ pub fn assigned(
 }
 
 // 13.14 ConditionalExpression, from its `?` on.
-pub fn choice(
+fn choice(
     kinds: &[u8],
     flags: &[u8],
     rows: &mut [u32],
@@ -222,7 +222,7 @@ pub fn choice(
 }
 
 // A head up to its `=>`: optional Async with no break after it, and parameters in parentheses.
-pub fn head(
+fn head(
     kinds: &[u8],
     flags: &[u8],
     rows: &mut [u32],
@@ -257,7 +257,7 @@ pub fn head(
 }
 
 // 15.1 FormalParameters: bindings with optional defaults, one trailing comma unless a rest is last, up to past the `)`.
-pub fn params(
+fn params(
     kinds: &[u8],
     flags: &[u8],
     rows: &mut [u32],
@@ -276,12 +276,12 @@ pub fn params(
         records: said,
     };
     let mut kids = 0;
-    loop {
+    let read = loop {
         let place = c.at;
         let k = tokens::kind_at(kinds, place);
         if k == kind::R_PAREN {
             c.at = place + 1;
-            break;
+            break c;
         }
         kids += 1;
         if k == kind::DOT3 {
@@ -291,9 +291,8 @@ pub fn params(
             let got = last(kinds, flags, rows, records, notes, place, n, used, close);
             match got {
                 Step::Fail(cause) => return Listed::Fail(cause),
-                Step::Done(d) => c = d,
+                Step::Done(d) => break d,
             }
-            break;
         }
         let got = element(kinds, flags, rows, records, notes, c.at, c.rows, c.records);
         match got {
@@ -304,17 +303,17 @@ pub fn params(
         let next = tokens::kind_at(kinds, close);
         c.at = close + 1;
         if next == kind::R_PAREN {
-            break;
+            break c;
         }
         if next != kind::COMMA {
             return Listed::Fail(Cause::Unexpected(close));
         }
-    }
-    Listed::Done(c, kids)
+    };
+    Listed::Done(read, kids)
 }
 
 // `=>` and the body, which is final: a break before `=>` is record 1, and `{` as body is 8.
-pub fn body(
+fn body(
     kinds: &[u8],
     flags: &[u8],
     rows: &mut [u32],
@@ -355,7 +354,7 @@ pub fn body(
 }
 
 // 13.6 to 13.13: an operand, and the operators above the level `floor` that follow it.
-pub fn binary(
+fn binary(
     kinds: &[u8],
     flags: &[u8],
     rows: &mut [u32],
@@ -396,7 +395,7 @@ pub fn binary(
 }
 
 // 13.5 and 13.4: prefix operators over an operand, which a postfix update may follow on its line.
-pub fn unary(
+fn unary(
     kinds: &[u8],
     flags: &[u8],
     rows: &mut [u32],
@@ -427,7 +426,7 @@ pub fn unary(
 }
 
 // 13.3: a primary expression and the members, indexes and calls that follow it.
-pub fn left(
+fn left(
     kinds: &[u8],
     flags: &[u8],
     rows: &mut [u32],
@@ -473,7 +472,7 @@ pub fn left(
 }
 
 // 13.3: a Call, from its `(` on.
-pub fn args(
+fn args(
     kinds: &[u8],
     flags: &[u8],
     rows: &mut [u32],
@@ -521,7 +520,7 @@ pub fn args(
 }
 
 // An Expression between the bracket at the place and its closing token.
-pub fn inside(
+fn inside(
     kinds: &[u8],
     flags: &[u8],
     rows: &mut [u32],
@@ -550,7 +549,7 @@ pub fn inside(
 }
 
 // 13.2 PrimaryExpression.
-pub fn primary(
+fn primary(
     kinds: &[u8],
     flags: &[u8],
     rows: &mut [u32],
@@ -582,7 +581,7 @@ pub fn primary(
 }
 
 // An element or an argument: an AssignmentExpression or a spread.
-pub fn item(
+fn item(
     kinds: &[u8],
     flags: &[u8],
     rows: &mut [u32],
@@ -606,7 +605,7 @@ pub fn item(
 }
 
 // 13.2.4 SpreadElement.
-pub fn spread(
+fn spread(
     kinds: &[u8],
     flags: &[u8],
     rows: &mut [u32],
@@ -626,7 +625,7 @@ pub fn spread(
 }
 
 // 13.2.4 ArrayLiteral: elements and holes up to the `]`.
-pub fn array(
+fn array(
     kinds: &[u8],
     flags: &[u8],
     rows: &mut [u32],
@@ -679,7 +678,7 @@ pub fn array(
 }
 
 // 13.2.5 ObjectLiteral: properties up to the `}`.
-pub fn object(
+fn object(
     kinds: &[u8],
     flags: &[u8],
     rows: &mut [u32],
@@ -728,7 +727,7 @@ pub fn object(
 }
 
 // A part of an object literal: a spread or a property.
-pub fn part(
+fn part(
     kinds: &[u8],
     flags: &[u8],
     rows: &mut [u32],
@@ -749,7 +748,7 @@ pub fn part(
 }
 
 // 13.2.5 PropertyDefinition: a shorthand, or a key with its value.
-pub fn property(
+fn property(
     kinds: &[u8],
     flags: &[u8],
     rows: &mut [u32],
@@ -794,7 +793,7 @@ pub fn property(
 }
 
 // A name's initializer, from its `=` on: the name's row stands at `from`, and its token just before.
-pub fn init(
+fn init(
     kinds: &[u8],
     flags: &[u8],
     rows: &mut [u32],
@@ -816,7 +815,7 @@ pub fn init(
 }
 
 // 13.2.5 PropertyName: a word, a string, a number, or `[` an AssignmentExpression `]`.
-pub fn key(
+fn key(
     kinds: &[u8],
     flags: &[u8],
     rows: &mut [u32],
@@ -846,7 +845,7 @@ pub fn key(
 }
 
 // 14.3.3 BindingPattern, or a BindingIdentifier.
-pub fn binding(
+fn binding(
     kinds: &[u8],
     flags: &[u8],
     rows: &mut [u32],
@@ -897,7 +896,7 @@ pub fn element(
 }
 
 // 14.3.3 BindingRestElement: an initializer is record 2 at its `=`.
-pub fn rest(
+fn rest(
     kinds: &[u8],
     flags: &[u8],
     rows: &mut [u32],
@@ -923,7 +922,7 @@ pub fn rest(
 }
 
 // A rest and its closing token, or 12.
-pub fn last(
+fn last(
     kinds: &[u8],
     flags: &[u8],
     rows: &mut [u32],
@@ -952,7 +951,7 @@ pub fn last(
 }
 
 // 14.3.3 ArrayBindingPattern: elements, holes and a closing rest up to the `]`.
-pub fn barray(
+fn barray(
     kinds: &[u8],
     flags: &[u8],
     rows: &mut [u32],
@@ -1008,7 +1007,7 @@ pub fn barray(
 }
 
 // 14.3.3 ObjectBindingPattern: properties and a closing rest of a bare name, or 11, up to the `}`.
-pub fn bobject(
+fn bobject(
     kinds: &[u8],
     flags: &[u8],
     rows: &mut [u32],
@@ -1063,7 +1062,7 @@ pub fn bobject(
 }
 
 // 14.3.3 BindingProperty: a shorthand, or a key with its element.
-pub fn bproperty(
+fn bproperty(
     kinds: &[u8],
     flags: &[u8],
     rows: &mut [u32],

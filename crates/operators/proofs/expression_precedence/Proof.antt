@@ -13,11 +13,11 @@ use Rattle.operators.proofs.expression_precedence.Statement.{statement}
 use Rattle.operators.proofs.expression_precedence.Tie as tie
 
 -- the code's words of levels, four bits each
-abbrev looser-levels : ℕ
-looser-levels = 9838263432676459297
+abbrev coalesce-to-in-levels : ℕ
+coalesce-to-in-levels = 0x8888887777654321
 
-abbrev tighter-levels : ℕ
-tighter-levels = 54689180057
+abbrev shift-to-power-levels : ℕ
+shift-to-power-levels = 0xcbbbaa999
 
 -- what is tested at each kind of a range, from a on, holds at each kind of it
 in-range : (f : ℕ → ℕ) (a : ℕ) (xs : List ℕ) → T (every (λ i x. eqb (f i) (expression-level (a + i))) 0 xs) → (k : ℕ) → a ≤ k → k - a < length xs → f (k - a) ≡ expression-level k
@@ -32,14 +32,14 @@ unfolding expression-level level
 below k h = in-range (λ i. 0) 0 (replicate 38 0) tt k (omega arith) (omega arith)
 
 -- the levels from `??` to `in`
-looser : (k : ℕ) → 38 ≤ k → k < 54 → looser-levels / 2 ^ (4 * (k - 38)) % 16 ≡ expression-level k
+looser : (k : ℕ) → 38 ≤ k → k < 54 → coalesce-to-in-levels / 2 ^ (4 * (k - 38)) % 16 ≡ expression-level k
 unfolding expression-level level
-looser k low high = in-range (λ i. looser-levels / 2 ^ (4 * i) % 16) 38 (replicate 16 0) tt k low (omega arith)
+looser k low high = in-range (λ i. coalesce-to-in-levels / 2 ^ (4 * i) % 16) 38 (replicate 16 0) tt k low (omega arith)
 
 -- the levels from `<<` to `**`
-tighter : (k : ℕ) → 54 ≤ k → k < 63 → tighter-levels / 2 ^ (4 * (k - 54)) % 16 ≡ expression-level k
+tighter : (k : ℕ) → 54 ≤ k → k < 63 → shift-to-power-levels / 2 ^ (4 * (k - 54)) % 16 ≡ expression-level k
 unfolding expression-level level
-tighter k low high = in-range (λ i. tighter-levels / 2 ^ (4 * i) % 16) 54 (replicate 9 0) tt k low (omega arith)
+tighter k low high = in-range (λ i. shift-to-power-levels / 2 ^ (4 * i) % 16) 54 (replicate 9 0) tt k low (omega arith)
 
 -- none above `**`
 above : (k : ℕ) → 63 ≤ k → k < 256 → 0 ≡ expression-level k
