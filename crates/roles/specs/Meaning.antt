@@ -70,8 +70,8 @@ plan (Refuse cause) = def.refuse cause
 plan (Keep kind n) = def.keep kind (note n)
 plan (Turn c) = change c
 
--- The records before those of the kids are two notes: record 3, of the argument of an object's rest, and then that of the comma after it. So
--- the first note of a row in a role is this one, and of a plan that one.
+-- The records before those of the kids are two notes: record 3, of the argument of an object's rest, and then that of the comma after it.
+-- The first of them that a row gives in a role, and the first of a plan:
 abbrev pub argument-note : def.Role → def.Seen → List Record
 argument-note def.any s = []
 argument-note def.simple s = []
