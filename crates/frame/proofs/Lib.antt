@@ -1,3 +1,4 @@
 pub mod Checked
 pub mod Last
 pub mod Finishing
+pub mod Once

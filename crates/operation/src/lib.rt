@@ -25,7 +25,7 @@ pub fn right_floor(operator: u8) -> u8
 }
 
 // `??`, `||` and `&&` make a Logical row, all other operators a Binary one.
-pub fn operation_kind(operator: u8) -> u32
+fn operation_kind(operator: u8) -> u32
     ensures { λ r. ⌜ r ≡ Binary.operation-kind operator ⌝ }
 {
     if classes::between(kind::QUESTION2, kind::AMP2, operator) {
@@ -106,7 +106,7 @@ pub fn is_assignment_operator(k: u8) -> bool
 }
 
 // 13.5: delete void typeof + - ~ !
-pub fn is_unary_operator(k: u8) -> bool
+fn is_unary_operator(k: u8) -> bool
     ensures { λ r. ⌜ r ≡ Update.is-unary-operator k ⌝ }
 {
     if classes::between(kind::BANG, kind::DELETE, k) {
@@ -116,7 +116,7 @@ pub fn is_unary_operator(k: u8) -> bool
 }
 
 // 13.4: ++ --
-pub fn is_update_operator(k: u8) -> bool
+fn is_update_operator(k: u8) -> bool
     ensures { λ r. ⌜ r ≡ Update.is-update-operator k ⌝ }
 {
     k == kind::PLUS2 || k == kind::MINUS2

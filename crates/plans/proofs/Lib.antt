@@ -1,1 +1,3 @@
+mod First
 mod Patterns
+pub mod Once

@@ -1,7 +1,7 @@
 -- A plain Array or Object becomes its pattern in each role that takes one.
 -- Assumes nothing.
 use Prim.Native.Nat.{ℕ}
-use mathlib.Core.Path.{_≡_, ap, _∙_}
+use mathlib.Core.Path.{_≡_, refl, ap, _∙_}
 use mathlib.Core.Bool.{Bool, true, false}
 use mathlib.Core.List.{[]}
 use native.Mathlib.Omega.{arith}
@@ -11,6 +11,7 @@ use Rattle.rows.specs.Row as row
 use Rattle.conversion.specs.Conversion.{Role, Seen, turn, any, simple, element, last-element, property, last-property, value, name, same, as-any, as-value, as-element, as-last-element, change}
 use Rattle.conversion.specs.KidRoles.{elements, properties}
 use Rattle.conversion.specs.RuleHolds.{by-test}
+use Rattle.roles.specs.Meaning.{argument-note}
 use Rattle.roles.specs.ShortCut.{takes-pattern, is-pattern, pattern-of}
 
 false-true : {A : Type 0} → false ≡ true → A
@@ -48,3 +49,19 @@ pattern-changed role s t =
   where
     Yes : Bool → Type 0
     Yes b = b ≡ true
+
+-- it is no rest of an object
+pub pattern-argument : (role : Role) (s : Seen) → is-pattern role (s .kind) ≡ true → argument-note role s ≡ []
+pattern-argument any s t = refl
+pattern-argument simple s t = refl
+pattern-argument element s t = refl
+pattern-argument (last-element comma) s t = refl
+pattern-argument property s t = refl
+pattern-argument (last-property comma) s t =
+    by-test Yes (eqb (s .kind) row.Array) t (λ _ y. false-true y) (λ _ y. by-test Yes (eqb (s .kind) row.Object) y (λ _ y. false-true y) (λ _ y. false-true y))
+  where
+    Yes : Bool → Type 0
+    Yes b = b ≡ true
+pattern-argument value s t = refl
+pattern-argument name s t = refl
+pattern-argument same s t = refl

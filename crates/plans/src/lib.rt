@@ -186,7 +186,7 @@ fn wrong_argument(seen: Seen) -> Note
 
 // A last Spread is a rest: record 3 where its argument is an Array or Object, record 4, the argument.
 fn as_last_property(comma: Note, seen: Seen) -> Plan
-    ensures { λ r. ⌜ means.plan r ≡ def.as-last-property (means.note comma) (means.seen seen) ⌝ }
+    ensures { λ r. ⌜ means.Planned (def.last-property (means.note comma)) (means.seen seen) r ⌝ }
 {
     if is_with(seen, row::SPREAD, 1) {
         let before = wrong_argument(seen);

@@ -6,6 +6,7 @@ use mathlib.Core.Bool.{Bool, true, false}
 use mathlib.Core.List.{List, [], _∷_, _++_}
 use lib.ListN.{length}
 use Rattle.tokens.specs.Bool.{if_then_else_}
+use Rattle.rows.specs.Row as row
 use Rattle.rows.specs.Record.{Record, says, rest-argument}
 use Rattle.conversion.specs.Conversion as def
 use Rattle.conversion.specs.KidRoles as kid-roles
@@ -69,9 +70,28 @@ plan (Refuse cause) = def.refuse cause
 plan (Keep kind n) = def.keep kind (note n)
 plan (Turn c) = change c
 
--- the plan is the change of a row in a role
+-- The records before those of the kids are two notes: record 3, of the argument of an object's rest, and then that of the comma after it.
+-- The first of them that a row gives in a role, and the first of a plan:
+abbrev pub argument-note : def.Role → def.Seen → List Record
+argument-note def.any s = []
+argument-note def.simple s = []
+argument-note def.element s = []
+argument-note (def.last-element comma) s = []
+argument-note def.property s = []
+argument-note (def.last-property comma) s = if def.is-with s row.Spread 1 then s .in-object else []
+argument-note def.value s = []
+argument-note def.name s = []
+argument-note def.same s = []
+
+abbrev pub first-note : Plan → List Record
+first-note (Refuse cause) = []
+first-note (Keep kind n) = []
+first-note (Turn c) = note (c .before)
+
+-- the plan is the change of a row in a role, with each record in its place
 pub record Planned (r : def.Role) (s : def.Seen) (p : Plan) : Type 0 where
   pub is : plan p ≡ def.change r s
+  pub first : first-note p ≡ argument-note r s
 
 -- the role is that of a kid with so many kids after it
 pub record KidRole (each : Kids) (after : ℕ) (r : Role) : Type 0 where

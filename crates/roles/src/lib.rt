@@ -95,7 +95,7 @@ pub fn takes_name(role: Role) -> bool
 }
 
 // Whether a Member or an Index becomes a target in this role.
-pub fn takes_member(role: Role) -> bool
+fn takes_member(role: Role) -> bool
     ensures { λ r. ⌜ r ≡ short.takes-member (means.role role) ⌝ }
 {
     match role {
@@ -112,7 +112,7 @@ pub fn takes_member(role: Role) -> bool
 }
 
 // Whether an Assign becomes a TargetDefault in this role.
-pub fn takes_default(role: Role) -> bool
+fn takes_default(role: Role) -> bool
     ensures { λ r. ⌜ r ≡ short.takes-default (means.role role) ⌝ }
 {
     match role {

@@ -5,11 +5,12 @@ use mathlib.Core.Path.{_≡_, refl, sym, ap, _∙_}
 use mathlib.Core.Bool.{Bool, true, false}
 use mathlib.Core.List.{List, _++_}
 use lib.ListN.{take, drop, take-append-drop}
+use denote.Ref.{RefT}
 use Rattle.rows.specs.Tree.{Tree, flat}
 use Rattle.rows.specs.Part.{subtree}
 use Rattle.rows.specs.Post.{Pushed, PushedRecord, Word, KindSet, Cleared}
 use Rattle.rows.specs.Stands.{Decides}
-use Rattle.rows.specs.Handed.{Handed, own, empty}
+use Rattle.rows.specs.Handed.{OwnFrom, Handed, own, empty, HandedBack}
 use Rattle.rows.proofs.Flat.{well-formed-once}
 
 -- a list is known by what stands before a place and what stands from there on
@@ -48,9 +49,23 @@ decided-once {a = true} {b = false} g h = absurd (h .fails refl (g .holds refl))
 decided-once {a = false} {b = true} g h = absurd (g .fails refl (h .holds refl))
 decided-once {a = false} {b = false} g h = refl
 
--- subtree
+-- a part that is the caller's own from an element on stands at one place
+pub own-once : {bytes from : ℕ} {lent part part′ : RefT (List ℕ)} → OwnFrom bytes lent from part → OwnFrom bytes lent from part′ → part .ptr ≡ part′ .ptr
+own-once g h = same (g .memory ∙ sym (h .memory)) (g .place ∙ sym (h .place))
+  where
+    same : {p q : ℕ × ℕ} → p .0 ≡ q .0 → p .1 ≡ q .1 → p ≡ q
+    same x y i = (x i, y i)
+
+-- subtree: the words, and where they stand
 pub handed-once : {words : List ℕ} {row : ℕ} {p q : List ℕ} → Handed words row p → Handed words row q → p ≡ q
 handed-once {words} {row} (own i a b) (own j c d) = b ∙ ap (λ (t : Tree). flat (subtree t row)) (well-formed-once (i .whole) (j .whole)) ∙ sym d
 handed-once (own i a b) (empty f d) = absurd (f i)
 handed-once (empty f b) (own j c d) = absurd (f j)
 handed-once (empty f b) (empty g d) = b ∙ sym d
+
+pub handed-back-once : {tree p q : RefT (List ℕ)} {row : ℕ} → HandedBack tree row p → HandedBack tree row q → (p .now ≡ q .now) × (p .ptr ≡ q .ptr)
+handed-back-once {tree} {p} {q} {row} g h = (handed-once (g .words) (h .words), go (g .words) (h .words))
+  where
+    go : {v w : List ℕ} → Handed (tree .now) row v → Handed (tree .now) row w → p .ptr ≡ q .ptr
+    go (own i a b) _ = own-once (g .own-from i) (h .own-from i)
+    go (empty f b) _ = own-once (g .none-from f) (h .none-from f)

@@ -1,3 +1,4 @@
 mod Masks
 mod Shapes
 mod Columns
+mod Beyond

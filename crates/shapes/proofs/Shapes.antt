@@ -3,7 +3,7 @@
 use Prim.Native.Nat.{ℕ, zero, suc, _+_, _-_, _≤_, _<_}
 use mathlib.Core.Path.{_≡_, refl, sym, ap, _∙_}
 use mathlib.Core.Bool.{Bool, true, false}
-use mathlib.Core.List.{List, map}
+use mathlib.Core.List.{List, [], map}
 use native.Mathlib.Omega.{arith}
 use native.Mathlib.Nat.{zero-add}
 use lib.Dec.{eqb, leb}
@@ -11,22 +11,32 @@ use lib.ListN.{length, getD}
 use borrow.Author.Tests.{lt-ltb, le-ltb, le-leb, lt-leb, leb-true, eq-eqb, ne-eqb}
 use Rattle.tokens.specs.Bool.{_or_, _and_}
 use Rattle.rows.specs.Mask.{has, mask, cells, Cell}
-use Rattle.rows.specs.Shape.{Shape, nothing, may-be, least, shape-of}
+use Rattle.rows.specs.Shape.{Shape, exactly, nothing, may-be, least, shape-of}
 use Rattle.shapes.proofs.Masks.{has-mask, numbers, at-place}
+use Rattle.shapes.proofs.Beyond.{beyond}
 
 -- what a test says of each number below n, if it says so of all of them together
 pub all-below : (f : ℕ → Bool) (n : ℕ) → map f (numbers n 0) ≡ map (λ (k : ℕ). true) (numbers n 0) → (k : ℕ) → k < n → f k ≡ true
 all-below f n e k h =
     ap f (sym (zero-add k)) ∙ sym (at-place f n 0 k true h) ∙ ap (λ (l : List Bool). getD l k true) e ∙ at-place (λ (k : ℕ). true) n 0 k true h
 
--- no row has more than three fixed kids in front, and one at the end
-pub front-few : (kind : ℕ) → kind < 51 → length (shape-of kind .front) ≤ 3
-unfolding numbers shape-of
-front-few kind h = leb-true _ _ (all-below (λ (k : ℕ). leb (length (shape-of k .front)) 3) 51 refl kind h)
+-- what a test says of the shape of each kind, if it says so of all in the table together and of no kids
+pub all-shapes : (test : Shape → Bool) → map (λ (k : ℕ). test (shape-of k)) (numbers 51 0) ≡ map (λ (k : ℕ). true) (numbers 51 0) → test (exactly []) ≡ true
+    → (kind : ℕ) → test (shape-of kind) ≡ true
+all-shapes test all none kind = go (native.Mathlib.Decide.decLe 51 kind)
+  where
+    go : Dec (51 ≤ kind) → test (shape-of kind) ≡ true
+    go (yes l) = ap test (beyond kind l) ∙ none
+    go (no l) = all-below (λ (k : ℕ). test (shape-of k)) 51 all kind (omega arith)
 
-pub ending-few : (kind : ℕ) → kind < 51 → length (shape-of kind .ending) ≤ 1
+-- no row has more than three fixed kids in front, and one at the end
+pub front-few : (kind : ℕ) → length (shape-of kind .front) ≤ 3
 unfolding numbers shape-of
-ending-few kind h = leb-true _ _ (all-below (λ (k : ℕ). leb (length (shape-of k .ending)) 1) 51 refl kind h)
+front-few kind = leb-true _ _ (all-shapes (λ (s : Shape). leb (length (s .front)) 3) refl refl kind)
+
+pub ending-few : (kind : ℕ) → length (shape-of kind .ending) ≤ 1
+unfolding numbers shape-of
+ending-few kind = leb-true _ _ (all-shapes (λ (s : Shape). leb (length (s .ending)) 1) refl refl kind)
 
 -- the fixed kids are in front and at the end
 pub enough : {s : Shape} {f e kids : ℕ} → Cell s 0 f → f ≤ kids → Cell s 6 e → leb e (kids - f) ≡ leb (least s) kids

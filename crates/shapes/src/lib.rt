@@ -2,6 +2,7 @@
 ghost use mathlib.Core.Path.{_≡_};
 ghost use Prim.Native.Nat.{_+_, _<_};
 ghost use lib.Dec.{leb};
+ghost use Rattle.tokens.specs.Bool.{_and_};
 ghost use Rattle.rows.specs.Mask.{has, Cell};
 ghost use Rattle.rows.specs.Shape.{is-listed as listed, shape-of, least, may-be, may-end, fits as may-stand};
 use rows::row;
@@ -83,7 +84,7 @@ const ONLY_TARGET_NAME: u64 = 0x100_0000_0000;
 const ONLY_TARGET_REST: u64 = 0x1000_0000_0000;
 
 // The listed kinds: 1 to 36, 40 to 50.
-pub fn is_listed(kind: u32) -> bool
+fn is_listed(kind: u32) -> bool
     ensures { λ r. ⌜ r ≡ listed kind ⌝ }
 {
     if row::TARGET_SHORTHAND_INIT < kind {
@@ -106,7 +107,6 @@ fn holds(kinds: u64, kind: u32) -> bool
 // THE TABLE: for each kind, the kinds of its fixed kids in front, of any number of kids after them, of one closing kid, and of the fixed kid at the
 // end; 0 where a kind has no such kids.
 fn first(kind: u32) -> u64
-    requires { ⌜ kind < 51 ⌝ }
     ensures { λ r. ⌜ Cell (shape-of kind) 1 r ⌝ }
 {
     match kind {
@@ -146,7 +146,6 @@ fn first(kind: u32) -> u64
 
 // The second kid.
 fn second(kind: u32) -> u64
-    requires { ⌜ kind < 51 ⌝ }
     ensures { λ r. ⌜ Cell (shape-of kind) 2 r ⌝ }
 {
     match kind {
@@ -171,7 +170,6 @@ fn second(kind: u32) -> u64
 
 // The third kid: only a Conditional's is fixed.
 fn third(kind: u32) -> u64
-    requires { ⌜ kind < 51 ⌝ }
     ensures { λ r. ⌜ Cell (shape-of kind) 3 r ⌝ }
 {
     match kind {
@@ -182,7 +180,6 @@ fn third(kind: u32) -> u64
 
 // Any number of kids.
 fn many(kind: u32) -> u64
-    requires { ⌜ kind < 51 ⌝ }
     ensures { λ r. ⌜ Cell (shape-of kind) 4 r ⌝ }
 {
     match kind {
@@ -204,7 +201,6 @@ fn many(kind: u32) -> u64
 
 // One closing kid.
 fn closing(kind: u32) -> u64
-    requires { ⌜ kind < 51 ⌝ }
     ensures { λ r. ⌜ Cell (shape-of kind) 5 r ⌝ }
 {
     match kind {
@@ -220,7 +216,6 @@ fn closing(kind: u32) -> u64
 
 // The fixed kid at the end.
 fn last(kind: u32) -> u64
-    requires { ⌜ kind < 51 ⌝ }
     ensures { λ r. ⌜ Cell (shape-of kind) 7 r ⌝ }
 {
     match kind {
@@ -234,7 +229,6 @@ fn last(kind: u32) -> u64
 
 // How many kids stand in front.
 fn front(kind: u32) -> u64
-    requires { ⌜ kind < 51 ⌝ }
     ensures { λ r. ⌜ Cell (shape-of kind) 0 r ⌝ }
 {
     if third(kind) != 0 {
@@ -251,7 +245,7 @@ fn front(kind: u32) -> u64
 
 // The kinds of one of the three kids that may stand in front.
 fn front_kinds(kind: u32, before: u64) -> u64
-    requires { ⌜ (kind < 51) × (before < 3) ⌝ }
+    requires { ⌜ before < 3 ⌝ }
     ensures { λ r. ⌜ Cell (shape-of kind) (before + 1) r ⌝ }
 {
     if before == 0 {
@@ -265,7 +259,6 @@ fn front_kinds(kind: u32, before: u64) -> u64
 
 // How many kids stand at the end: one or none.
 fn ending(kind: u32) -> u64
-    requires { ⌜ kind < 51 ⌝ }
     ensures { λ r. ⌜ Cell (shape-of kind) 6 r ⌝ }
 {
     if last(kind) != 0 {
@@ -274,11 +267,13 @@ fn ending(kind: u32) -> u64
     0
 }
 
-// Whether a row of this kind may have so many kids: no fewer than the fixed ones.
+// Whether the kind is listed and a row of it may have so many kids: no fewer than the fixed ones.
 pub fn is_enough(kind: u32, kids: u64) -> bool
-    requires { ⌜ kind < 51 ⌝ }
-    ensures { λ r. ⌜ r ≡ leb (least (shape-of kind)) kids ⌝ }
+    ensures { λ r. ⌜ r ≡ (listed kind and leb (least (shape-of kind)) kids) ⌝ }
 {
+    if !is_listed(kind) {
+        return false;
+    }
     let fixed = front(kind);
     if kids < fixed {
         return false;
@@ -288,7 +283,7 @@ pub fn is_enough(kind: u32, kids: u64) -> bool
 
 // Whether a row of this kind may have a kid of kind `kid` with so many kids before it and so many after it.
 fn may_be(kind: u32, before: u64, after: u64, kid: u32) -> bool
-    requires { ⌜ (kind < 51) × (kid < 64) ⌝ }
+    requires { ⌜ kid < 64 ⌝ }
     ensures { λ r. ⌜ r ≡ may-be (shape-of kind) before after kid ⌝ }
 {
     if before < front(kind) {
@@ -309,10 +304,12 @@ fn may_be(kind: u32, before: u64, after: u64, kid: u32) -> bool
 
 // Whether a kid of kind `kid` may have a last kid of kind `last` under a row of this kind.
 fn may_end(kind: u32, kid: u32, last: u32) -> bool
-    requires { ⌜ last < 64 ⌝ }
     ensures { λ r. ⌜ r ≡ may-end kind kid last ⌝ }
 {
     if kid == row::PROPERTY {
+        if 63 < last {
+            return false;
+        }
         if kind == row::BINDING_OBJECT {
             return holds(PARAMETERS, last);
         }
@@ -328,11 +325,13 @@ fn may_end(kind: u32, kid: u32, last: u32) -> bool
 }
 
 // Whether a row of this kind may have a kid of kind `kid`, with so many kids before it and so many after it, its own last kid of
-// kind `last` (0 if it has none).
+// kind `last` (0 if it has none). A kind that is not listed has no kids and is none.
 pub fn fits(kind: u32, before: u64, after: u64, kid: u32, last: u32) -> bool
-    requires { ⌜ (kind < 51) × (kid < 64) × (last < 64) ⌝ }
     ensures { λ r. ⌜ r ≡ may-stand kind before after kid last ⌝ }
 {
+    if 63 < kid {
+        return false;
+    }
     if may_be(kind, before, after, kid) {
         may_end(kind, kid, last)
     } else {

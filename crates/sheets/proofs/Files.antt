@@ -1,7 +1,7 @@
 -- Laws of sheet files: each way out of the functions that take a file apart.
 -- Assumes nothing.
 use Prim.Native.Nat.{ℕ, _+_, _-_, _≤_}
-use mathlib.Core.Path.{_≡_, refl, sym, ap, _∙_}
+use mathlib.Core.Path.{_≡_, sym, ap, subst, _∙_}
 use mathlib.Core.Bool.{false}
 use mathlib.Core.List.{List, [], _++_, append-nil}
 use native.Mathlib.Omega.{arith}
@@ -9,9 +9,11 @@ use lib.Dec.{eqb}
 use lib.ListN.{length, take, drop, length-drop, drop-of-length-le}
 use lib.Seq.{drop-drop, take-all}
 use borrow.Author.Tests.{eqb-true, eqb-false}
+use denote.Ref.{RefT}
 use Rattle.rows.specs.Stands.{Decides}
+use Rattle.rows.specs.Handed.{OwnFrom}
 use Rattle.sheets.specs.Layout.{block, Sheet}
-use Rattle.sheets.specs.Post.{Begins, Block, Opens, Handed}
+use Rattle.sheets.specs.Post.{Begins, Block, Opens, Handed, HandedBack, KindsHanded, FlagsHanded}
 use Rattle.sheets.specs.declared.Found.{Found}
 use Rattle.sheets.proofs.Blocks.{long-payload, head, Same, same}
 
@@ -64,17 +66,29 @@ decided b r c = record { holds = λ e. whole b r c (eqb-true _ _ e); fails = λ 
 pub refused : {bytes : List ℕ} → (Sheet bytes → ⊥) → Decides (Sheet bytes) false
 refused none = record { holds = λ e. let z : _≡_ {A = ℕ} 0 1 = cc in absurd (omega arith); fails = λ e. none }
 
--- the parts that are handed back
-pub no-part : {bytes : List ℕ} (wanted : Sheet bytes → List ℕ) → (Sheet bytes → ⊥) → Handed bytes wanted []
-no-part wanted none = Handed.empty none refl
+-- the parts that are handed back, and where they stand
+module _ {bytes part : RefT (List ℕ)} where
+  pub no-part : (wanted : Sheet (bytes .now) → List ℕ) (from : Sheet (bytes .now) → ℕ) → (Sheet (bytes .now) → ⊥) → part .now ≡ [] → OwnFrom 1 bytes 0 part
+      → HandedBack bytes wanted from part
+  no-part wanted from none e o = record { text = Handed.empty none e; own-from = λ s. absurd (none s); none-from = λ _. o }
 
-pub kinds-part : {bytes : List ℕ} {n : ℕ} → Begins bytes 1 n → Sheet bytes → Handed bytes (λ s. s .kinds) (take (6 + n - 6) (drop 6 bytes))
-kinds-part {bytes} {n} b s =
-    let e : 6 + n - 6 ≡ n = omega arith in
-    Handed.own s (ap (λ (k : ℕ). take k (drop 6 bytes)) e ∙ kinds-same b s .payload-is)
+  module _ {n : ℕ} (b : Begins (bytes .now) 1 n) (s : Sheet (bytes .now)) where
+    pub kinds-part : part .now ≡ take (6 + n - 6) (drop 6 (bytes .now)) → OwnFrom 1 bytes 6 part → KindsHanded bytes part
+    kinds-part p o =
+        let e : 6 + n - 6 ≡ n = omega arith in
+        record {
+          text = Handed.own s (p ∙ ap (λ (k : ℕ). take k (drop 6 (bytes .now))) e ∙ kinds-same b s .payload-is);
+          own-from = λ _. o;
+          none-from = λ none. absurd (none s);
+        }
 
-pub flags-part : {bytes : List ℕ} {n : ℕ} → Begins bytes 1 n → Sheet bytes → Handed bytes (λ s. s .flags) (take (length bytes - (6 + n + 6)) (drop (6 + n + 6) bytes))
-flags-part {bytes} {n} b s = Handed.own s (tail bytes (6 + n + 6) ∙ sym (drop-drop 6 (6 + n) bytes) ∙ ap (drop 6) (kinds-same b s .rest-is))
+    pub flags-part : part .now ≡ take (length (bytes .now) - (6 + n + 6)) (drop (6 + n + 6) (bytes .now)) → OwnFrom 1 bytes (6 + n + 6) part → FlagsHanded bytes part
+    flags-part p o =
+        record {
+          text = Handed.own s (p ∙ tail (bytes .now) (6 + n + 6) ∙ sym (drop-drop 6 (6 + n) (bytes .now)) ∙ ap (drop 6) (kinds-same b s .rest-is));
+          own-from = λ t. subst (λ (k : ℕ). OwnFrom 1 bytes (6 + k + 6) part) (kinds-same b t .long) o;
+          none-from = λ none. absurd (none s);
+        }
 
 -- the block of flags is inside
 pub flags-inside : {bytes : List ℕ} {n : ℕ} → Begins bytes 1 n → Sheet bytes → 6 + n + 6 ≤ length bytes

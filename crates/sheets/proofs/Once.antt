@@ -1,15 +1,16 @@
 -- A file is that of one sheet, what is laid out comes back, and any two results that a contract allows coincide.
 -- Assumes nothing.
-use Prim.Native.Nat.{ℕ, _≤_}
+use Prim.Native.Nat.{ℕ, _+_, _≤_}
 use mathlib.Core.Path.{_≡_, refl, sym, _∙_}
 use mathlib.Core.Bool.{Bool, true, false}
 use mathlib.Core.List.{List}
 use native.Mathlib.Omega.{arith}
 use lib.ListN.{length}
+use denote.Ref.{RefT}
 use Rattle.rows.specs.Stands.{Decides}
-use Rattle.rows.proofs.Once.{decided-once}
+use Rattle.rows.proofs.Once.{decided-once, own-once}
 use Rattle.sheets.specs.Layout.{layout, Sheet}
-use Rattle.sheets.specs.Post.{Handed}
+use Rattle.sheets.specs.Post.{Handed, HandedBack, KindsHanded, FlagsHanded}
 use Rattle.sheets.proofs.Blocks.{payload-once, rest-once}
 use Rattle.sheets.proofs.Files.{first-block, second-block}
 
@@ -32,11 +33,26 @@ handed-once wanted one (Handed.empty f a) (Handed.empty g b) = a ∙ sym b
 pub is-sheet-once : {bytes : List ℕ} {a b : Bool} → Decides (Sheet bytes) a → Decides (Sheet bytes) b → a ≡ b
 is-sheet-once = decided-once
 
--- kinds_of
+-- and it stands at one place
+handed-back-once : {bytes p q : RefT (List ℕ)} (wanted : Sheet (bytes .now) → List ℕ) (from : Sheet (bytes .now) → ℕ) → ((s t : Sheet (bytes .now)) → wanted s ≡ wanted t)
+    → HandedBack bytes wanted from p → HandedBack bytes wanted from q → (p .now ≡ q .now) × (p .ptr ≡ q .ptr)
+handed-back-once {bytes} {p} {q} wanted from one g h = (handed-once wanted one (g .text) (h .text), go (g .text))
+  where
+    go : {l : List ℕ} → Handed (bytes .now) wanted l → p .ptr ≡ q .ptr
+    go (Handed.own s a) = own-once (g .own-from s) (h .own-from s)
+    go (Handed.empty f a) = own-once (g .none-from f) (h .none-from f)
+
+-- kinds_of: the bytes, and where they stand
+pub kinds-handed-once : {bytes p q : RefT (List ℕ)} → KindsHanded bytes p → KindsHanded bytes q → (p .now ≡ q .now) × (p .ptr ≡ q .ptr)
+kinds-handed-once = handed-back-once (λ s. s .kinds) (λ s. 6) kinds-once
+
 pub kinds-of-once : {bytes : List ℕ} {p q : List ℕ} → Handed bytes (λ s. s .kinds) p → Handed bytes (λ s. s .kinds) q → p ≡ q
 kinds-of-once = handed-once (λ s. s .kinds) kinds-once
 
--- flags_of
+-- flags_of: the bytes, and where they stand
+pub flags-handed-once : {bytes p q : RefT (List ℕ)} → FlagsHanded bytes p → FlagsHanded bytes q → (p .now ≡ q .now) × (p .ptr ≡ q .ptr)
+flags-handed-once = handed-back-once (λ s. s .flags) (λ s. 6 + length (s .kinds) + 6) flags-once
+
 pub flags-of-once : {bytes : List ℕ} {p q : List ℕ} → Handed bytes (λ s. s .flags) p → Handed bytes (λ s. s .flags) q → p ≡ q
 flags-of-once = handed-once (λ s. s .flags) flags-once
 

@@ -4,6 +4,8 @@ use Prim.Native.Nat.{ℕ, _+_, _*_, _≤_}
 use mathlib.Core.Path.{_≡_}
 use mathlib.Core.List.{List, [], _++_}
 use lib.ListN.{length, getD, take, drop}
+use denote.Ref.{RefT}
+use Rattle.rows.specs.Handed.{OwnFrom}
 use Rattle.sheets.specs.Layout.{block, Sheet}
 use Rattle.sheets.specs.declared.Found.{Found}
 
@@ -11,6 +13,19 @@ use Rattle.sheets.specs.declared.Found.{Found}
 pub data Handed (bytes : List ℕ) (wanted : Sheet bytes → List ℕ) (part : List ℕ) : Type 0 where
   own : (s : Sheet bytes) → part ≡ wanted s → Handed bytes wanted part
   empty : (Sheet bytes → ⊥) → part ≡ [] → Handed bytes wanted part
+
+-- the bytes of the part, and that they are the caller's own from a place on. Where the file is no sheet's, the empty part stands at the start.
+pub record HandedBack (bytes : RefT (List ℕ)) (wanted : Sheet (bytes .now) → List ℕ) (from : Sheet (bytes .now) → ℕ) (part : RefT (List ℕ)) : Type 0 where
+  pub text : Handed (bytes .now) wanted (part .now)
+  pub own-from : (s : Sheet (bytes .now)) → OwnFrom 1 bytes (from s) part
+  pub none-from : (Sheet (bytes .now) → ⊥) → OwnFrom 1 bytes 0 part
+
+-- the kinds stand after the head of the first block, and the flags after the head of the second
+abbrev pub KindsHanded : RefT (List ℕ) → RefT (List ℕ) → Type 0
+KindsHanded bytes part = HandedBack bytes (λ s. s .kinds) (λ s. 6) part
+
+abbrev pub FlagsHanded : RefT (List ℕ) → RefT (List ℕ) → Type 0
+FlagsHanded bytes part = HandedBack bytes (λ s. s .flags) (λ s. 6 + length (s .kinds) + 6) part
 
 -- the number that the first four bytes are, the lowest first
 abbrev pub first-u32 : List ℕ → ℕ

@@ -4,7 +4,7 @@ ghost use mathlib.Core.Path.{_≡_};
 ghost use lib.ListN.{length};
 ghost use Rattle.rows.specs.Stands.{Decides};
 ghost use Rattle.sheets.specs.Layout.{Sheet};
-ghost use Rattle.sheets.specs.Post.{Handed, Opens, first-u32};
+ghost use Rattle.sheets.specs.Post.{KindsHanded, FlagsHanded, Opens, first-u32};
 
 // What the bytes of a block say: how many bytes its payload has, or that no such block stands there.
 enum Found {
@@ -73,7 +73,7 @@ pub fn is_sheet(bytes: &[u8]) -> bool
 
 // The caller's own bytes of the kinds, and none if the bytes are no sheet file.
 pub fn kinds_of<'a>(bytes: &'a [u8]) -> &'a [u8]
-    ensures { λ r. ⌜ Handed (now (bytes .entry)) (λ s. s .kinds) (now r) ⌝ }
+    ensures { λ r. ⌜ KindsHanded (bytes .entry) r ⌝ }
 {
     if !is_sheet(bytes) {
         return &bytes[0..0];
@@ -88,7 +88,7 @@ pub fn kinds_of<'a>(bytes: &'a [u8]) -> &'a [u8]
 
 // The caller's own bytes of the flags, and none if the bytes are no sheet file.
 pub fn flags_of<'a>(bytes: &'a [u8]) -> &'a [u8]
-    ensures { λ r. ⌜ Handed (now (bytes .entry)) (λ s. s .flags) (now r) ⌝ }
+    ensures { λ r. ⌜ FlagsHanded (bytes .entry) r ⌝ }
 {
     if !is_sheet(bytes) {
         return &bytes[0..0];

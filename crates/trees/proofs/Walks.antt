@@ -6,10 +6,9 @@ use mathlib.Core.Bool.{Bool, true, false}
 use mathlib.Core.List.{List}
 use native.Mathlib.Omega.{arith}
 use native.Mathlib.Nat.{add-zero}
-use native.Mathlib.Decide.{decLe}
 use lib.Dec.{leb, eqb}
 use lib.ListN.{length, getD}
-use borrow.Author.Tests.{le-leb, lt-leb, eqb-true, eqb-false}
+use borrow.Author.Tests.{eqb-true, eqb-false}
 use Rattle.tokens.specs.Bool.{_and_}
 use Rattle.rows.specs.Tree.{Tree, Forest, node, nil, cons, one, join, count, size, sizes, row, kind-of, kids-of}
 use Rattle.rows.specs.Shape.{well-formed, all-well-formed, is-shaped, is-listed, all-fit, fits, last-kind, least, shape-of}
@@ -20,24 +19,6 @@ use Rattle.rows.proofs.Flat.{some-row}
 use Rattle.rows.proofs.Parts.{part-none, part-join, part-left, part-right, part-kids, part-node, row-of-words}
 use Rattle.rows.proofs.Subtrees.{part-at, rooted, rooted-once, root-kind, root-kids, root-size}
 use Rattle.rows.proofs.Tests.{and-left, and-right, and-both}
-
--- a listed kind is one of the table
-pub listed-low : (k : ℕ) → is-listed k ≡ true → k < 51
-unfolding is-listed
-listed-low k h = go (decLe k 50)
-  where
-    go : Dec (k ≤ 50) → k < 51
-    go (yes l) = omega arith
-    go (no l) = let z : false ≡ true = rw (le-leb 1 k (omega arith), lt-leb k 36 (omega arith), le-leb 40 k (omega arith), lt-leb k 50 (omega arith)) at h in let e : _≡_ {A = ℕ} 0 1 = cc in absurd (omega arith)
-
-pub root-low : (t : Tree) → well-formed t ≡ true → kind-of t < 51
-unfolding well-formed kind-of is-shaped
-root-low (node kind mark first end kids) h = listed-low kind (and-left _ _ (and-left _ _ h))
-
-last-low : (k : ℕ) (ts : Forest) → k < 51 → all-well-formed ts ≡ true → last-kind k ts < 51
-unfolding last-kind all-well-formed
-last-low k nil l h = l
-last-low k (cons t ts) l h = last-low (kind-of t) ts (root-low t (and-left _ _ h)) (and-right (well-formed t) (all-well-formed ts) h)
 
 kids-good : (t : Tree) → well-formed t ≡ true → all-well-formed (kids-of t) ≡ true
 unfolding well-formed kids-of
@@ -296,14 +277,14 @@ module _ {w : List ℕ} {row kind : ℕ} (k : kind ≡ getD w (6 * row + 0) 0) w
   same-kind : (s : Stands w row) → kind ≡ kind-of (s .tree)
   same-kind s = k ∙ root-kind (s .tree) (s .root)
 
-  pub unlisted : is-listed kind ≡ false → Stands w row → ⊥
-  unlisted f s = true-false (shaped (s .tree) (s .good) .listed) (ap is-listed (sym (same-kind s)) ∙ f)
-
   module _ {kids : ℕ} (n : kids ≡ getD w (6 * row + 4) 0) where
-    pub too-few : leb (least (shape-of kind)) kids ≡ false → Stands w row → ⊥
+    pub too-few : (is-listed kind and leb (least (shape-of kind)) kids) ≡ false → Stands w row → ⊥
     too-few f s =
-        true-false (shaped (s .tree) (s .good) .enough)
-        (ap (λ (x : ℕ). leb (least (shape-of x)) (count (kids-of (s .tree)))) (sym (same-kind s)) ∙ ap (leb (least (shape-of kind))) (sym (n ∙ root-kids (s .tree) (s .root))) ∙ f)
+        let q : Shaped (kind-of (s .tree)) (kids-of (s .tree)) = shaped (s .tree) (s .good) in
+        true-false
+        (and-both (is-listed kind) (leb (least (shape-of kind)) kids) (ap is-listed (same-kind s) ∙ q .listed)
+        (ap (λ (x : ℕ). leb (least (shape-of x)) kids) (same-kind s) ∙ ap (leb (least (shape-of (kind-of (s .tree))))) (n ∙ root-kids (s .tree) (s .root)) ∙ q .enough))
+        f
 
     module _ {size-word : ℕ} (z : size-word ≡ getD w (6 * row + 5) 0) where
       same-size : (s : Stands w row) → size-word ≡ size (s .tree)
@@ -316,7 +297,7 @@ module _ {w : List ℕ} {row kind : ℕ} (k : kind ≡ getD w (6 * row + 0) 0) w
       too-long e s = omega (arith, same-size s, root-small (s .root))
 
       -- the row stands exactly if its kids do
-      module _ (listed : is-listed kind ≡ true) (enough : leb (least (shape-of kind)) kids ≡ true) (some : size-word ≡ 0 → ⊥) (long : size-word ≤ row + 1) (room : 6 * row + 6 ≤ length w) where
+      module _ (enough : (is-listed kind and leb (least (shape-of kind)) kids) ≡ true) (some : size-word ≡ 0 → ⊥) (long : size-word ≤ row + 1) (room : 6 * row + 6 ≤ length w) where
         from-kids : KidsStand w kind kids (row + 1 - size-word) row → Stands w row
         unfolding well-formed is-shaped
         from-kids s =
@@ -325,7 +306,7 @@ module _ {w : List ℕ} {row kind : ℕ} (k : kind ≡ getD w (6 * row + 0) 0) w
             record {
               tree = node kind (getD w (6 * row + 1) 0) (getD w (6 * row + 2) 0) (getD w (6 * row + 3) 0) ts;
               root = rooted (part-node (s .part) room (row-of-words w row k (s .number ∙ n) r)) refl;
-              good = and-both (is-shaped kind ts) (all-well-formed ts) (and-both (is-listed kind) (leb (least (shape-of kind)) (count ts) and all-fit kind 0 ts) listed (and-both (leb (least (shape-of kind)) (count ts)) (all-fit kind 0 ts) (rw (s .number) enough) (s .fit))) (s .good);
+              good = and-both (is-shaped kind ts) (all-well-formed ts) (and-both (is-listed kind) (leb (least (shape-of kind)) (count ts) and all-fit kind 0 ts) (and-left _ _ enough) (and-both (leb (least (shape-of kind)) (count ts)) (all-fit kind 0 ts) (rw (s .number) (and-right (is-listed kind) (leb (least (shape-of kind)) kids) enough)) (s .fit))) (s .good);
             }
 
         to-kids : Stands w row → KidsStand w kind kids (row + 1 - size-word) row
@@ -340,13 +321,6 @@ module _ {w : List ℕ} {row kind : ℕ} (k : kind ≡ getD w (6 * row + 0) 0) w
 
         pub by-kids : {answer : Bool} → Decides (KidsStand w kind kids (row + 1 - size-word) row) answer → Decides (Stands w row) answer
         by-kids d = record { holds = λ e. from-kids (d .holds e); fails = λ e s. d .fails e (to-kids s) }
-
--- a kid's kind, and its last kid's, are kinds of the table
-pub kid-low : {w : List ℕ} {n x : ℕ} → x ≡ getD w (6 * n + 0) 0 → Stands w n → x < 64
-kid-low e s = omega (arith, e, root-kind (s .tree) (s .root), root-low (s .tree) (s .good))
-
-pub last-kid-low : {w : List ℕ} {n x : ℕ} → LastKind w n x → Stands w n → x < 64
-last-kid-low e s = omega (arith, e .is (s .tree) (s .root), last-low 0 (kids-of (s .tree)) (omega arith) (kids-good (s .tree) (s .good)))
 
 pub kid-fits : {w : List ℕ} {n kind before after x y : ℕ} {answer : Bool} → x ≡ getD w (6 * n + 0) 0 → LastKind w n y → answer ≡ fits kind before after x y
     → KidFits w n kind before after answer

@@ -7,12 +7,13 @@ use native.Mathlib.Omega.{arith}
 use lib.Dec.{eqb}
 use lib.ListN.{length, take, drop, getD}
 use lib.Seq.{take-length}
+use denote.Ref.{RefT}
 use borrow.Author.Tests.{eqb-true, eqb-false}
 use Rattle.rows.specs.Tree.{Tree, size, sizes, flat, flats}
 use Rattle.rows.specs.Words.{WellFormed}
 use Rattle.rows.specs.Part.{Rooted, subtree}
 use Rattle.rows.specs.Stands.{Decides, Stands}
-use Rattle.rows.specs.Handed.{Handed, own, empty}
+use Rattle.rows.specs.Handed.{OwnFrom, Inside, Handed, own, empty, HandedBack}
 use Rattle.rows.proofs.Flat.{length-flat, some-row}
 use Rattle.rows.proofs.Parts.{part-whole}
 use Rattle.trees.proofs.Walks.{root-small}
@@ -74,31 +75,42 @@ module _ {w : List ℕ} where
         }
 
 module _ {w : List ℕ} {row : ℕ} where
-  pub refused : (WellFormed w → ⊥) → Handed w row []
-  refused f = empty (λ i. f (i .whole)) refl
+  pub outside : length w / 6 ≤ row → Inside w row → ⊥
+  outside l i = omega (arith, i .has-row, long (i .whole))
 
-  pub outside : length w / 6 ≤ row → Handed w row []
-  outside l = empty (λ i. omega (arith, i .has-row, long (i .whole))) refl
-
-  module _ (v : WellFormed w) (l : row < length w / 6) {x : ℕ} (e : x ≡ getD w (6 * row + 5) 0) where
-    low : row < size (v .tree)
-    low = omega (arith, long v)
-
-    size-is : x ≡ size (subtree (v .tree) row)
-    size-is = e ∙ root-size (subtree (v .tree) row) (subtree-in v low)
+  module _ (i : Inside w row) {x : ℕ} (e : x ≡ getD w (6 * row + 5) 0) where
+    pub size-is : x ≡ size (subtree (i .whole .tree) row)
+    size-is = e ∙ root-size (subtree (i .whole .tree) row) (subtree-in (i .whole) (i .has-row))
 
     pub size-small : x ≤ row + 1
-    size-small = omega (arith, size-is, root-small (subtree-in v low))
+    size-small = omega (arith, size-is, root-small (subtree-in (i .whole) (i .has-row)))
 
     words : take (6 * (row + 1) - 6 * (row + 1 - x)) (drop (6 * (row + 1 - x)) w)
-        ≡ take (6 * size (subtree (v .tree) row)) (drop (6 * (row + 1 - size (subtree (v .tree) row))) w)
+        ≡ take (6 * size (subtree (i .whole .tree) row)) (drop (6 * (row + 1 - size (subtree (i .whole .tree) row))) w)
     words =
         ap (λ (m : ℕ). take m (drop (6 * (row + 1 - x)) w)) (let p : 6 * (row + 1) - 6 * (row + 1 - x) ≡ 6 * x = omega (arith, size-small) in p)
         ∙ ap (λ (m : ℕ). take (6 * m) (drop (6 * (row + 1 - m)) w)) size-is
 
-    pub handed : Handed w row (take (6 * (row + 1) - 6 * (row + 1 - x)) (drop (6 * (row + 1 - x)) w))
+    handed : Handed w row (take (6 * (row + 1) - 6 * (row + 1 - x)) (drop (6 * (row + 1 - x)) w))
     handed =
-        own (record { whole = v; has-row = low }) words
+        own i words
         (words
-        ∙ ap (λ (y : List ℕ). take (6 * size (subtree (v .tree) row)) (drop (6 * (row + 1 - size (subtree (v .tree) row))) y)) (v .text)
-        ∙ subtree-words (v .tree) row low)
+        ∙ ap (λ (y : List ℕ). take (6 * size (subtree (i .whole .tree) row)) (drop (6 * (row + 1 - size (subtree (i .whole .tree) row))) y)) (i .whole .text)
+        ∙ subtree-words (i .whole .tree) row (i .has-row))
+
+pub inside : {w : List ℕ} {row : ℕ} → WellFormed w → row < length w / 6 → Inside w row
+inside v l = record { whole = v; has-row = omega (arith, long v) }
+
+-- what is handed back, and where it stands
+module _ {tree part : RefT (List ℕ)} {row : ℕ} where
+  pub none-handed : (Inside (tree .now) row → ⊥) → part .now ≡ [] → OwnFrom 4 tree 0 part → HandedBack tree row part
+  none-handed f e o = record { words = empty f e; own-from = λ i. absurd (f i); none-from = λ _. o }
+
+  pub own-handed : {x : ℕ} → Inside (tree .now) row → x ≡ getD (tree .now) (6 * row + 5) 0
+      → part .now ≡ take (6 * (row + 1) - 6 * (row + 1 - x)) (drop (6 * (row + 1 - x)) (tree .now)) → OwnFrom 4 tree (6 * (row + 1 - x)) part → HandedBack tree row part
+  own-handed i e p o =
+      record {
+        words = subst (Handed (tree .now) row) (sym p) (handed i e);
+        own-from = λ j. subst (λ (m : ℕ). OwnFrom 4 tree (6 * (row + 1 - m)) part) (size-is j e) o;
+        none-from = λ f. absurd (f i);
+      }

@@ -1,7 +1,7 @@
 // The check of a tree: whether words are a well-formed one, and its subtrees.
 ghost use Rattle.rows.specs.Words.{WellFormed};
 ghost use Rattle.rows.specs.Stands.{Decides};
-ghost use Rattle.rows.specs.Handed.{Handed};
+ghost use Rattle.rows.specs.Handed.{HandedBack};
 use rows::row_word;
 
 mod walk;
@@ -33,7 +33,7 @@ pub fn well_formed(words: &[u32]) -> bool
 
 // The caller's own words of the subtree that a row of a tree roots, and none if the tree is not well-formed or the row is outside.
 pub fn subtree<'a>(tree: &'a [u32], row: usize) -> &'a [u32]
-    ensures { λ r. ⌜ Handed (now (tree .entry)) row (now r) ⌝ }
+    ensures { λ r. ⌜ HandedBack (tree .entry) row r ⌝ }
 {
     if !well_formed(tree) {
         return &tree[0..0];

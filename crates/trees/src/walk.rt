@@ -1,6 +1,6 @@
 // The check of a tree, row by row: the kids of a row are found from the last to the first, since a kid's root stands just below
 // its next sibling's first row.
-ghost use Prim.Native.Nat.{_≤_, _<_};
+ghost use Prim.Native.Nat.{_≤_};
 ghost use Rattle.rows.specs.Stands.{Decides, Stands, Before, KidsStand, LastKind, KidFits};
 use rows::row_word;
 
@@ -18,7 +18,6 @@ fn last_kind(words: &[u32], row: usize) -> u32
 // Whether a row may be a kid of a row of this kind, with so many kids before it and after it.
 fn kid_fits(words: &[u32], row: usize, kind: u32, before: u64, after: u64) -> bool
     requires { ⌜ Stands (now words) row ⌝ }
-    requires { ⌜ kind < 51 ⌝ }
     ensures { λ r. ⌜ KidFits (now (words .entry)) row kind before after r ⌝ }
 {
     let kid = row_word(words, row, 0);
@@ -29,7 +28,7 @@ fn kid_fits(words: &[u32], row: usize, kind: u32, before: u64, after: u64) -> bo
 // Whether the rows from low on, up to row, are so many trees that may stand as the kids of a row of this kind.
 fn kids_stand(words: &[u32], row: usize, kind: u32, kids: u64, low: usize) -> bool
     requires { ⌜ Before (now words) row ⌝ }
-    requires { ⌜ (kind < 51) × (low ≤ row) ⌝ }
+    requires { ⌜ low ≤ row ⌝ }
     ensures { λ r. ⌜ Decides (KidsStand (now (words .entry)) kind kids low row) r ⌝ }
 {
     let mut top = row;
@@ -57,9 +56,6 @@ pub fn row_stands(words: &[u32], row: usize) -> bool
     ensures { λ r. ⌜ Decides (Stands (now (words .entry)) row) r ⌝ }
 {
     let kind = row_word(words, row, 0);
-    if !shapes::is_listed(kind) {
-        return false;
-    }
     let kids = row_word(words, row, 4) as u64;
     if !shapes::is_enough(kind, kids) {
         return false;

@@ -3,7 +3,9 @@
 use mathlib.Core.Path.{sym, _∙_}
 use borrow.Author.Needs.{needs}
 use Rattle.conversion.specs.Conversion.{change}
-use Rattle.plans.proofs.Patterns.{pattern-changed}
+use Rattle.roles.specs.Meaning.{role, seen}
+use Rattle.plans.proofs.First.{keeping, no-first, pattern-none, any-none, simple-none, element-none, last-element-none, property-none, value-none, name-none}
+use Rattle.plans.proofs.Patterns.{pattern-changed, pattern-argument}
 use Rattle.plans.proofs.plan_of.Statement.{statement}
 use Rattle.plans.proofs.plan_of.Tie as tie
 
@@ -69,43 +71,48 @@ keep-requires c κs = search needs
 
 returns : tie.Need-returns
 returns c =
-    record { is = c .pattern-of .ensures ∙ pattern-changed _ _ (sym (c .before .before .is-pattern .ensures) ∙ c .before .if1 .taken) }
+    let args = c .before .before .before .args in
+    let pattern = sym (c .before .before .is-pattern .ensures) ∙ c .before .if1 .taken in
+    record {
+      is = c .pattern-of .ensures ∙ pattern-changed _ _ pattern;
+      first = no-first (c .pattern-of .result) (c .pattern-of .ensures) (pattern-none (args .seen .kind)) ∙ sym (pattern-argument (role (args .role)) (seen (args .seen)) pattern);
+    }
 
 returns-2 : tie.Need-returns-2
 unfolding change
-returns-2 c = record { is = rw (c .before .enum-told .given .1) (c .as-any .ensures) }
+returns-2 c = record { is = rw (c .before .enum-told .given .1) (c .as-any .ensures); first = rw (c .before .enum-told .given .1) (no-first (c .as-any .result) (c .as-any .ensures) (any-none _)) }
 
 returns-3 : tie.Need-returns-3
 unfolding change
-returns-3 c = record { is = rw (c .before .enum-told2 .given .1) (c .as-simple .ensures) }
+returns-3 c = record { is = rw (c .before .enum-told2 .given .1) (c .as-simple .ensures); first = rw (c .before .enum-told2 .given .1) (no-first (c .as-simple .result) (c .as-simple .ensures) (simple-none _)) }
 
 returns-4 : tie.Need-returns-4
 unfolding change
-returns-4 c = record { is = rw (c .before .enum-told3 .given .1) (c .as-element .ensures) }
+returns-4 c = record { is = rw (c .before .enum-told3 .given .1) (c .as-element .ensures); first = rw (c .before .enum-told3 .given .1) (no-first (c .as-element .result) (c .as-element .ensures) (element-none _)) }
 
 returns-5 : tie.Need-returns-5
 unfolding change
-returns-5 c = record { is = rw (c .before .before .role .given .1) (c .as-last-element .ensures) }
+returns-5 c = record { is = rw (c .before .before .role .given .1) (c .as-last-element .ensures); first = rw (c .before .before .role .given .1) (no-first (c .as-last-element .result) (c .as-last-element .ensures) (last-element-none _ _)) }
 
 returns-6 : tie.Need-returns-6
 unfolding change
-returns-6 c = record { is = rw (c .before .enum-told4 .given .1) (c .as-property .ensures) }
+returns-6 c = record { is = rw (c .before .enum-told4 .given .1) (c .as-property .ensures); first = rw (c .before .enum-told4 .given .1) (no-first (c .as-property .result) (c .as-property .ensures) (property-none _)) }
 
 returns-7 : tie.Need-returns-7
 unfolding change
-returns-7 c = record { is = rw (c .before .before .role2 .given .1) (c .as-last-property .ensures) }
+returns-7 c = rw (c .before .before .role2 .given .1) (c .as-last-property .ensures)
 
 returns-8 : tie.Need-returns-8
 unfolding change
-returns-8 c = record { is = rw (c .before .enum-told5 .given .1) (c .as-value .ensures) }
+returns-8 c = record { is = rw (c .before .enum-told5 .given .1) (c .as-value .ensures); first = rw (c .before .enum-told5 .given .1) (no-first (c .as-value .result) (c .as-value .ensures) (value-none _)) }
 
 returns-9 : tie.Need-returns-9
 unfolding change
-returns-9 c = record { is = rw (c .before .enum-told6 .given .1) (c .as-name .ensures) }
+returns-9 c = record { is = rw (c .before .enum-told6 .given .1) (c .as-name .ensures); first = rw (c .before .enum-told6 .given .1) (no-first (c .as-name .result) (c .as-name .ensures) (name-none _)) }
 
 returns-10 : tie.Need-returns-10
 unfolding change
-returns-10 c = record { is = rw (c .before .enum-told7 .given .1) (c .keep .ensures) }
+returns-10 c = record { is = rw (c .before .enum-told7 .given .1) (c .keep .ensures); first = rw (c .before .enum-told7 .given .1) (no-first (c .keep .result) (c .keep .ensures) keeping) }
 
 pub plan-of-spec : {M : Type 1} → statement M
 plan-of-spec = tie.close (tie.spec is-pattern-requires pattern-of-requires returns enum-told as-any-requires enum-told-2 as-simple-requires enum-told-3 as-element-requires enum-known-role as-last-element-requires enum-told-4 as-property-requires enum-known-role-2 as-last-property-requires enum-told-5 as-value-requires enum-told-6 as-name-requires enum-told-7 keep-requires returns-2 returns-3 returns-4 returns-5 returns-6 returns-7 returns-8 returns-9 returns-10)

@@ -42,7 +42,7 @@ same-length-4 : tie.Need-same-length-4
 same-length-4 c = search needs
 
 returns-2 : tie.Need-returns-2
-returns-2 c = shows-reading (c .before .before .before .before .before .before .before .before .before .before .before .before .before .before .before .before .is-sheet .ensures .holds (not-false _ (c .before .before .before .before .before .before .before .before .before .before .before .before .before .before .before .if1 .left))) (c .before .before .before .before .before .before .before .before .before .before .before .before .before .before .kinds-of .ensures) (c .before .before .before .before .before .before .before .before .before .before .before .before .before .flags-of .ensures) (c .before .before .before .before .before .before .before .before .before .before .read .ensures) (words (λ i. c .before .before .before .before .before .before .before .before .slice-known5 .given i .fits)) (words (λ i. c .before .before .before .before .before .before .slice-known6 .given i .fits)) (c .before .before .print-answer .ensures)
+returns-2 c = shows-reading (c .before .before .before .before .before .before .before .before .before .before .before .before .before .before .before .before .is-sheet .ensures .holds (not-false _ (c .before .before .before .before .before .before .before .before .before .before .before .before .before .before .before .if1 .left))) (c .before .before .before .before .before .before .before .before .before .before .before .before .before .before .kinds-of .ensures .text) (c .before .before .before .before .before .before .before .before .before .before .before .before .before .flags-of .ensures .text) (c .before .before .before .before .before .before .before .before .before .before .read .ensures) (words (λ i. c .before .before .before .before .before .before .before .before .slice-known5 .given i .fits)) (words (λ i. c .before .before .before .before .before .before .slice-known6 .given i .fits)) (c .before .before .print-answer .ensures)
 
 pub print-file-spec : {M : Type 1} → statement M
 print-file-spec = tie.close (tie.spec is-sheet-requires print-bad-file-requires same-length returns kinds-of-requires flags-of-requires read-requires print-answer-requires same-length-2 same-length-3 same-length-4 returns-2)

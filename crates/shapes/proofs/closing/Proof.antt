@@ -24,4 +24,4 @@ closing-spec =
     (λ c. at-key (c .match .keys4) refl)
     (λ c. at-key (c .match .keys5) refl)
     (λ c. at-key (c .match .keys6) refl)
-    (λ c. at-rest 5 kinds refl (c .before .pre) (c .match .rest)))
+    (λ c. at-rest 5 kinds (c .before .args .kind) refl refl (c .match .rest)))

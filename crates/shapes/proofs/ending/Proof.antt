@@ -9,10 +9,10 @@ last-requires : tie.Need-last-requires
 last-requires c κs = search needs
 
 returns : tie.Need-returns
-returns c = ending-1 (c .before .before .pre) (c .before .last .ensures) (c .if1 .taken)
+returns c = ending-1 (c .before .before .args .kind) (c .before .last .ensures) (c .if1 .taken)
 
 returns-2 : tie.Need-returns-2
-returns-2 c = ending-0 (c .before .before .pre) (c .before .last .ensures) (c .if1 .left)
+returns-2 c = ending-0 (c .before .before .args .kind) (c .before .last .ensures) (c .if1 .left)
 
 pub ending-spec : {M : Type 1} → statement M
 ending-spec = tie.close (tie.spec last-requires returns returns-2)

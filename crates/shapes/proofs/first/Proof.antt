@@ -48,4 +48,4 @@ first-spec =
     (λ c. at-key (c .match .keys28) refl)
     (λ c. at-key (c .match .keys29) refl)
     (λ c. at-key (c .match .keys30) refl)
-    (λ c. at-rest 1 kinds refl (c .before .pre) (c .match .rest)))
+    (λ c. at-rest 1 kinds (c .before .args .kind) refl refl (c .match .rest)))

@@ -22,4 +22,4 @@ last-spec =
     (λ c. at-key (c .match .keys2) refl)
     (λ c. at-key (c .match .keys3) refl)
     (λ c. at-key (c .match .keys4) refl)
-    (λ c. at-rest 7 kinds refl (c .before .pre) (c .match .rest)))
+    (λ c. at-rest 7 kinds (c .before .args .kind) refl refl (c .match .rest)))

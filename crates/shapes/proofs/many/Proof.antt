@@ -30,4 +30,4 @@ many-spec =
     (λ c. at-key (c .match .keys10) refl)
     (λ c. at-key (c .match .keys11) refl)
     (λ c. at-key (c .match .keys12) refl)
-    (λ c. at-rest 4 kinds refl (c .before .pre) (c .match .rest)))
+    (λ c. at-rest 4 kinds (c .before .args .kind) refl refl (c .match .rest)))

@@ -13,7 +13,7 @@ front-requires c κs = search needs
 
 front-kinds-requires : tie.Need-front-kinds-requires
 unfolding cells
-front-kinds-requires c κs = omega (arith, front-few (c .before .before .args .kind) (c .before .before .pre .0), c .before .front .ensures .is)
+front-kinds-requires c κs = omega (arith, front-few (c .before .before .args .kind), c .before .front .ensures .is)
 
 holds-requires : tie.Need-holds-requires
 holds-requires c κs = search needs
@@ -23,7 +23,7 @@ returns c =
     let args = c .before .before .before .before .args in
     let front = c .before .before .before .front in
     let pre = c .before .before .before .before .pre in
-    c .holds .ensures ∙ in-front (args .after) (front .ensures) (c .before .before .if1 .taken) (front-few _ (pre .0)) (c .before .front-kinds .ensures) (pre .1)
+    c .holds .ensures ∙ in-front (args .after) (front .ensures) (c .before .before .if1 .taken) (front-few (args .kind)) (c .before .front-kinds .ensures) pre
 
 ending-requires : tie.Need-ending-requires
 ending-requires c κs = search needs
@@ -40,7 +40,7 @@ returns-2 c =
     let if1 = c .before .before .before .before .if1 in
     let ending = c .before .before .before .ending in
     let pre = c .before .before .before .before .before .before .pre in
-    c .holds2 .ensures ∙ at-end (front .ensures) (if1 .left) (ending .ensures) (c .before .before .if2 .taken) (ending-few _ (pre .0)) (c .before .last .ensures) (pre .1)
+    c .holds2 .ensures ∙ at-end (front .ensures) (if1 .left) (ending .ensures) (c .before .before .if2 .taken) (ending-few (c .before .before .before .before .before .before .args .kind)) (c .before .last .ensures) pre
 
 many-requires : tie.Need-many-requires
 many-requires c κs = search needs
@@ -55,7 +55,7 @@ returns-3 c =
     let ending = c .before .before .before .before .ending in
     let if2 = c .before .before .before .if2 in
     let pre = c .before .before .before .before .before .before .before .pre in
-    one-of-many (front .ensures) (if1 .left) (ending .ensures) (if2 .left) (c .before .before .many .ensures) (pre .1) (sym (c .before .holds3 .ensures) ∙ c .if3 .taken)
+    one-of-many (front .ensures) (if1 .left) (ending .ensures) (if2 .left) (c .before .before .many .ensures) pre (sym (c .before .holds3 .ensures) ∙ c .if3 .taken)
 
 returns-4 : tie.Need-returns-4
 returns-4 c =
@@ -65,7 +65,7 @@ returns-4 c =
     let if2 = c .before .before .before .before .if2 in
     let many = c .before .before .before .many in
     let pre = c .before .before .before .before .before .before .before .before .pre in
-    no-closing (front .ensures) (if1 .left) (ending .ensures) (if2 .left) (many .ensures) (pre .1) (sym (c .before .before .holds3 .ensures) ∙ c .before .if3 .left) (c .if4 .taken)
+    no-closing (front .ensures) (if1 .left) (ending .ensures) (if2 .left) (many .ensures) pre (sym (c .before .before .holds3 .ensures) ∙ c .before .if3 .left) (c .if4 .taken)
 
 closing-requires : tie.Need-closing-requires
 closing-requires c κs = search needs
@@ -83,7 +83,7 @@ returns-5 c =
     let pre = c .before .before .before .before .before .before .before .before .before .before .pre in
     let holds3 = c .before .before .before .before .holds3 in
     let if3 = c .before .before .before .if3 in
-    c .holds4 .ensures ∙ closing (front .ensures) (if1 .left) (ending .ensures) (if2 .left) (many .ensures) (pre .1) (sym (holds3 .ensures) ∙ if3 .left) (c .before .before .if4 .left) (c .before .closing .ensures)
+    c .holds4 .ensures ∙ closing (front .ensures) (if1 .left) (ending .ensures) (if2 .left) (many .ensures) pre (sym (holds3 .ensures) ∙ if3 .left) (c .before .before .if4 .left) (c .before .closing .ensures)
 
 pub may-be-spec : {M : Type 1} → statement M
 may-be-spec = tie.close (tie.spec front-requires front-kinds-requires holds-requires returns ending-requires last-requires holds-requires-2 returns-2 many-requires holds-requires-3 returns-3 returns-4 closing-requires holds-requires-4 returns-5)

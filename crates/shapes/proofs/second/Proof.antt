@@ -33,4 +33,4 @@ second-spec =
     (λ c. at-key (c .match .keys13) refl)
     (λ c. at-key (c .match .keys14) refl)
     (λ c. at-key (c .match .keys15) refl)
-    (λ c. at-rest 2 kinds refl (c .before .pre) (c .match .rest)))
+    (λ c. at-rest 2 kinds (c .before .args .kind) refl refl (c .match .rest)))

@@ -19,4 +19,4 @@ unfolding numbers bits mask cells is-left-hand-side is-unary is-binary is-logica
 third-spec =
     tie.close (tie.spec
     (λ c. at-key (c .match .keys1) refl)
-    (λ c. at-rest 3 kinds refl (c .before .pre) (c .match .rest)))
+    (λ c. at-rest 3 kinds (c .before .args .kind) refl refl (c .match .rest)))

@@ -1,6 +1,9 @@
 -- `sheets::flags_of` meets its contract: what stands after the head of the second block.
 -- Made from answers/flags_of.ans by tools/fill.py. Assumes nothing.
+use Prim.Native.Nat.{_+_}
+use mathlib.Core.Path.{refl}
 use native.Mathlib.Omega.{arith}
+use lib.ListN.{length}
 use borrow.Author.Needs.{needs}
 use borrow.Author.Tests.{not-true, not-false}
 use Rattle.sheets.proofs.Files.{no-part, no-kinds, flags-part, flags-inside}
@@ -20,7 +23,7 @@ part-result-end : tie.Need-part-result-end
 part-result-end c = search needs
 
 returns : tie.Need-returns
-returns c = no-part (λ s. s .flags) (c .before .before .is-sheet .ensures .fails (not-true _ (c .before .if1 .taken)))
+returns c = no-part (λ s. s .flags) (λ s. 6 + length (s .kinds) + 6) (c .before .before .is-sheet .ensures .fails (not-true _ (c .before .if1 .taken))) refl (record { memory = refl; place = omega arith })
 
 payload-requires : tie.Need-payload-requires
 payload-requires c κs = search needs
@@ -59,7 +62,7 @@ part-result-end-3 : tie.Need-part-result-end-3
 part-result-end-3 c = search needs
 
 returns-3 : tie.Need-returns-3
-returns-3 c = flags-part (c .before .before .before .before .payload .ensures .found _ (c .before .before .kinds .given .1)) (c .before .before .before .before .before .before .is-sheet .ensures .holds (not-false _ (c .before .before .before .before .before .if1 .left)))
+returns-3 c = flags-part (c .before .before .before .before .payload .ensures .found _ (c .before .before .kinds .given .1)) (c .before .before .before .before .before .before .is-sheet .ensures .holds (not-false _ (c .before .before .before .before .before .if1 .left))) refl (record { memory = refl; place = omega arith })
 
 pub flags-of-spec : {M : Type 1} → statement M
 flags-of-spec = tie.close (tie.spec is-sheet-requires sub-result part-result-start part-result-end returns payload-requires enum-known-kinds enum-told sub-result-2 part-result-start-2 part-result-end-2 returns-2 add-start add-start-2 sub-result-3 part-result-start-3 part-result-end-3 returns-3)

@@ -1,7 +1,7 @@
 -- `trees::walk::kid_fits` meets its contract.
 -- Assumes nothing.
 use borrow.Author.Needs.{needs}
-use Rattle.trees.proofs.Walks.{kid-low, last-kid-low, kid-fits}
+use Rattle.trees.proofs.Walks.{kid-fits}
 use Rattle.trees.proofs.walk.kid_fits.Statement.{statement}
 use Rattle.trees.proofs.walk.kid_fits.Tie as tie
 
@@ -12,9 +12,7 @@ last-kind-requires : tie.Need-last-kind-requires
 last-kind-requires c κs = search needs
 
 fits-requires : tie.Need-fits-requires
-fits-requires c κs =
-    let pre = c .before .before .before .pre in
-    (pre .1, kid-low (c .before .row-word .ensures .is) (pre .0), last-kid-low (c .last-kind .ensures) (pre .0))
+fits-requires c κs = search needs
 
 returns : tie.Need-returns
 returns c = kid-fits (c .before .before .row-word .ensures .is) (c .before .last-kind .ensures) (c .fits2 .ensures)

@@ -15,7 +15,7 @@ abbrev μ-loop : tie.MeasureT-loop
 μ-loop words row kind kids low top₀ after₀ top after = kids - after
 
 loop-holds : tie.Need-loop-holds Inv-loop μ-loop
-loop-holds c = walk-none (c .before .pre .1 .1) (omega (arith, c .before .pre .0 .inside))
+loop-holds c = walk-none (c .before .pre .1) (omega (arith, c .before .pre .0 .inside))
 
 returns : tie.Need-returns Inv-loop μ-loop
 returns c = never (none-left (c .before .before .loop .inv) (c .before .loop-test .taken) (c .if1 .taken))
@@ -53,7 +53,7 @@ kid-fits-requires : tie.Need-kid-fits-requires Inv-loop μ-loop
 kid-fits-requires c κs =
     let pre = c .before .before .before .before .before .before .pre in
     let loop = c .before .before .before .before .loop in
-    ((pre .0 .stand (loop .top - 1) (omega (arith, c .before .before .if1 .left, loop .inv .top-row))), pre .1 .0)
+    pre .0 .stand (loop .top - 1) (omega (arith, c .before .before .if1 .left, loop .inv .top-row))
 
 returns-3 : tie.Need-returns-3 Inv-loop μ-loop
 returns-3 c =
