@@ -1,4 +1,4 @@
-"""The token kinds of document 01, "The sheet and its tokens", in its order: the first is 1 and the last 78. The names are 002's and 000's."""
+"""The token kinds of RULES T4, in its order: the first is 1 and the last 78. The names are those of the crate's operator.rs and arrow.rs."""
 
 ORDER = """
 Ident Async As Satisfies Modifier Const This Null True False Str Number RegExp Await Yield Extends Reserved

@@ -2,9 +2,9 @@
 """Prints what the program lookahead_test must print (crates/lookahead_test/stdout); with --input, what it reads
 (crates/lookahead_test/stdin).
 
-`worker` follows is_parenthesized_arrow_function_expression_worker of 000 (arrow.rs) statement by statement, over a cursor as there, with
-what document 01 adds: past the end the kind is 0, and any start but `(`, `<` and Async is False. `entry` runs the checks of document
-01's table that the three-way entry names. Nothing here was taken from the Rattle code.
+`worker` follows is_parenthesized_arrow_function_expression_worker of the crate's arrow.rs statement by statement, over a cursor as there, with
+what RULES T2 and L1 add: past the end the kind is 0, and any start but `(`, `<` and Async is False. `entry` runs the checks that RULES X4
+names for the three-way entry. Nothing here was taken from the Rattle code.
 """
 import sys
 

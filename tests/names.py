@@ -1,5 +1,5 @@
 #!/usr/bin/env python3
-"""Holds the two lists of token kinds, that of the code and that of the definitions, to document 01's list (kinds.py).
+"""Holds the two lists of token kinds, that of the code and that of the definitions, to the list of RULES T4 (kinds.py).
 
 Each has a name for each number from 1 to 78; a name of the one is that of the other in its spelling (L_PAREN and LParen); and the comment
 beside a kind that is spelled by its text has that text.
@@ -30,7 +30,7 @@ for (name, number, text), (other, same, _), word in zip(code, definitions, ORDER
         wrong.append('kind %s is "%s" in the code and "%s" in the definitions' % (number, text, same))
     spelled = WORDS.get(word, word)
     if word not in ('Ident', 'Modifier', 'Str', 'Number', 'RegExp', 'Reserved') and text != spelled:
-        wrong.append('kind %s is "%s", and document 01 has %s' % (number, text, spelled))
+        wrong.append('kind %s is "%s", and RULES T4 has %s' % (number, text, spelled))
 if wrong:
     print('\n'.join(wrong))
     print('0 passed, %d failed' % len(wrong))

@@ -1,8 +1,8 @@
 #!/usr/bin/env python3
 """Prints what the program operators_test must print (crates/operators_test/stdout).
 
-The levels are document 01's sentence on operators and the tiers of ECMA-262 13.6 to 13.13; the mappings are the arms of the five
-functions of 002 (operator.rs), in its order. Nothing here was taken from the Rattle code.
+The levels are those of RULES O1 and the tiers of ECMA-262 13.6 to 13.13; the mappings are the arms of the five
+functions of the crate's operator.rs, in its order. Nothing here was taken from the Rattle code.
 """
 from kinds import KIND
 
@@ -10,7 +10,7 @@ LEVELS = [
     '??', '||', '&&', '|', '^', '&', '== === != !==', '< > <= >= in instanceof As Satisfies', '<< >> >>>', '+ -', '* / %', '**',
 ]
 
-# The arms of each function of 002, by their tokens. Spelled there: Eq2, Neq, Eq3, Neq2, LAngle, LtEq, RAngle, GtEq, ..
+# The arms of each function of operator.rs, by their tokens. Spelled there: Eq2, Neq, Eq3, Neq2, LAngle, LtEq, RAngle, GtEq, ..
 BINARY = '== != === !== < <= > >= << >> >>> + - * / % | ^ & in instanceof **'
 UNARY = '- + ! ~ typeof void delete'
 LOGICAL = '|| && ??'

@@ -4,7 +4,7 @@
     tests/reader.py --input    the program's standard input
     tests/reader.py            what it must print
 
-The sheets: P1 to P10 of document 01, to the last word; those of docs/DECISIONS.md (tests/readings.py); the limits of the checks 1 to 7;
+The sheets: P1 to P10 of docs/RULES.md, to the last word; those of docs/DECISIONS.md (tests/readings.py); the limits of the checks 1 to 7;
 and the longest chains, whose rows are written out here by counting, one formula a family. Nothing here reads a sheet.
 """
 import sys

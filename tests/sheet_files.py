@@ -2,7 +2,7 @@
 """Sheet files, and what the program `sheet` and the program printout_test must print for them. Nothing here reads a sheet.
 
     tests/sheet_files.py --example NAME   the file examples/NAME.sheet, made from the tokens of examples/NAME.js
-    tests/sheet_files.py --p1             the file of the sheet that document 01 prints
+    tests/sheet_files.py --p1             the file of the sheet P1 (RULES F4)
     tests/sheet_files.py --longest        the longest file of two blocks, 8,204 bytes: 4,096 tokens
     tests/sheet_files.py --input          the standard input of printout_test
     tests/sheet_files.py                  what printout_test must print
@@ -82,7 +82,7 @@ def text_of(rows, records, abandoned):
     return 'read ' + ''.join(' '.join(map(str, line)) + '\n' for line in lines)
 
 
-# the sheet of document 01, as it is printed there
+# the sheet P1, printed as RULES F4 has it
 P1 = layout(*tokens('[a, b] = c'))
 P1_TEXT = '''read 5 0 0
 40 1 1 2 0 1

@@ -1,8 +1,8 @@
 #!/usr/bin/env python3
 """Prints what the program tokens_test must print (crates/tokens_test/stdout); with --input, what it reads (crates/tokens_test/stdin).
 
-Written from document 01: the classes from "The sheet and its tokens" and "Three-way answer (000)", the causes and the checks from the
-table of "Answers the box can show". Nothing here was taken from the Rattle code.
+Written from the rules (docs/RULES.md): the classes from T5 to T8, the causes and the checks from A1 to A14.
+Nothing here was taken from the Rattle code.
 """
 import struct
 import sys

@@ -1,4 +1,4 @@
-/* Some of P1 to P10 of document 01, and refusals, from C through the archive. */
+/* Some of P1 to P10 (docs/RULES.md), and refusals, from C through the archive. */
 #include "../../include/vuolmaset.h"
 #include <stdio.h>
 #include <string.h>

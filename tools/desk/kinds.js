@@ -1,4 +1,4 @@
-// The kinds of tokens and of rows, as document 01 numbers them.
+// The kinds of tokens and of rows, as RULES T4 and R5 number them.
 'use strict';
 
 // Kinds 18 to 78 that are spelled by signs, in order; null stands where a word has the number.

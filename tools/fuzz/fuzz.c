@@ -100,7 +100,7 @@ QUICK static int all_are(const uint32_t *words, size_t from, size_t to, uint32_t
     return unlike == 0;
 }
 
-/* A number's place in what document 01 lists for the reader. */
+/* A number's place in what RULES A lists for the reader. */
 static void check_reading(answer_t answer, size_t tokens, const uint32_t *rows, size_t row_words, const uint32_t *records, size_t record_words,
                           uint32_t before) {
     unsigned number = answer.number;

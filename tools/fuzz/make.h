@@ -1,4 +1,4 @@
-/* Makes lists by the grammar of document 01 for libFuzzer, as bytes of fuzz.c: a kind less one, and 128 for a line break before the token. */
+/* Makes lists by the grammar of docs/RULES.md for libFuzzer, as bytes of fuzz.c: a kind less one, and 128 for a line break before the token. */
 #include <stddef.h>
 #include <stdint.h>
 #include <string.h>

@@ -1,4 +1,4 @@
-// The rows of document 01 from an ESTree, so that a whole tree can be held to the tree of acorn or babel.
+// The rows of RULES R from an ESTree, so that a whole tree can be held to the tree of acorn or babel.
 'use strict';
 
 // The kinds of names and patterns, by what they are: an expression, a target or a binding.

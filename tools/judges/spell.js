@@ -54,7 +54,7 @@ function isBareWord(kinds, i) {
   return kinds[i - 1] === 27 || (kinds[i + 1] === 25 && (kinds[i - 1] === 22 || kinds[i - 1] === 24));
 }
 
-// Why a list is outside the comparison (document 01), or nothing.
+// Why a list is outside the comparison (RULES T11), or nothing.
 function outside(kinds, flags) {
   let operand = false; // the token before ends an operand
   for (let i = 0; i < kinds.length; i++) {

@@ -1,4 +1,4 @@
-//! The token kinds of document 01, "The sheet and its tokens", and the groups of them that the rules speak of.
+//! The token kinds (RULES T4), and the groups of them that the rules speak of (T5 to T8).
 
 macro_rules! kinds {
     ($($name:ident = $number:literal),* $(,)?) => { $(pub const $name: u8 = $number;)* };

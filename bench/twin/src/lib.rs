@@ -1,5 +1,5 @@
-//! The reader of document 01 as plain Rust without a heap, safe but for seeing six words as a row (`row.rs`): the same bytes into the same rows
-//! as the proved reader, written from document 01 and ECMA-262. It is what the proved reader is timed and compared with.
+//! The reader of docs/RULES.md as plain Rust without a heap, safe but for seeing six words as a row (`row.rs`): the same bytes into the same rows
+//! as the proved reader, written from the rules and ECMA-262. It is what the proved reader is timed and compared with.
 pub mod arrow;
 pub mod entries;
 pub mod kind;
@@ -15,7 +15,7 @@ use target::Want;
 
 pub use tree::{subtree, well_formed};
 
-/// The numbers of document 01.
+/// The numbers of RULES A1 to A14.
 #[derive(Clone, Copy, PartialEq, Eq, Debug)]
 #[repr(u8)]
 pub enum Refusal {
@@ -118,7 +118,7 @@ fn check(kinds: &[u8], flags: &[u8], rows: &[u32], records: &[u32]) -> Result<()
     check_nesting(kinds)
 }
 
-/// Reads by one start of the grammar, and leaves both buffers as document 01 says.
+/// Reads by one start of the grammar, and leaves both buffers as RULES A17 to A19 say.
 fn run(entry: parse::Entry, kinds: &[u8], flags: &[u8], rows: &mut [u32], records: &mut [u32]) -> Answer {
     check(kinds, flags, rows, records)?;
     let answer = parse::whole(entry, kinds, flags, row::rows_of_mut(rows), records);

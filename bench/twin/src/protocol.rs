@@ -10,8 +10,8 @@
 //! ```
 //!
 //! KINDS and FLAGS are hexadecimal, two digits a byte, `-` for none; other numbers are decimal. A refusal is `refused NUMBER PLACE`. The words
-//! that an answer leaves out are held to document 01 here: lent longer than needed, filled with a sign before, and `broken ..` is the answer
-//! if any of them is not as document 01 says.
+//! that an answer leaves out are held to the rules here: lent longer than needed, filled with a sign before, and `broken ..` is the answer
+//! if any of them is not as RULES A17 to A19 and X3 say.
 use std::io::{self, BufRead, Write};
 
 /// A refusal's number and place.

@@ -1,4 +1,4 @@
-//! The row kinds of document 01, "The tree". A row is six words: kind, mark, first, end, kids, size.
+//! The row kinds (RULES R5). A row is six words: kind, mark, first, end, kids, size.
 
 macro_rules! rows {
     ($($name:ident = $number:literal),* $(,)?) => { $(pub const $name: u32 = $number;)* };

@@ -1,4 +1,4 @@
-//! P1 to P10 of document 01, and one call of each other function, through the archive.
+//! P1 to P10 (docs/RULES.md), and one call of each other function, through the archive.
 use vuolmaset::{
     convert, expression_precedence, pattern, precedence, read, record_sentence, refusal_sentence, subtree, three_way, Counts, Refused, Tristate,
 };

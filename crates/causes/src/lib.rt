@@ -1,9 +1,9 @@
-// The numbers and places of causes (document 01, "Answers the box can show").
+// The numbers and places of causes (RULES A1 to A14).
 ghost use mathlib.Core.Path.{_≡_};
 ghost use Rattle.tokens.specs.Cause.{number, place};
 use tokens::cause::Cause;
 
-// The number that document 01 gives a cause.
+// The number of a cause in RULES A.
 pub fn number_of(cause: Cause) -> u32
     ensures { λ r. ⌜ r ≡ number cause ⌝ }
 {

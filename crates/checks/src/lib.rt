@@ -1,4 +1,4 @@
-// The checks of a list before it is read: 1, 2, 5, 6 and 7 of document 01.
+// The checks of a list before it is read: RULES A1, A2, A5, A6 and A7.
 ghost use mathlib.Core.Path.{_≡_};
 ghost use Prim.Native.Nat.{_≤_};
 ghost use Rattle.tokens.specs.Check.{check-length, check-flag-length, check-flags, check-kinds, check-nesting, depth-after};

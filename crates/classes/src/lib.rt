@@ -1,4 +1,4 @@
-// What a kind is (document 01, "The sheet and its tokens"): names, words, literals, and what the three-way answer takes for names and modifiers.
+// What a kind is (RULES T5 to T8): names, words, literals, and what the three-way answer takes for names and modifiers.
 ghost use mathlib.Core.Path.{_≡_};
 ghost use Rattle.tokens.specs.Bool.{between as is-between};
 ghost use Rattle.tokens.specs.Token.{is-name, is-word, is-literal, is-binding-identifier, is-modifier-kind};

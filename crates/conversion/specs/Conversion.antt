@@ -1,6 +1,6 @@
--- Conversion (document 01, "Conversion (001)"): what was read as an expression becomes an assignment target, or is refused.
+-- Conversion (RULES C1 to C11): what was read as an expression becomes an assignment target, or is refused.
 -- Each row is looked at in a role; the role says what the row becomes, and the roles of its kids. A row that is no expression, one
--- already a target included, is 9; so is a row whose kids are not as document 01 has them, of which a well-formed tree has none.
+-- already a target included, is 9; so is a row whose kids are not as RULES R8 has them, of which a well-formed tree has none.
 -- Assumes nothing: these are definitions.
 use Prim.Native.Nat.{ℕ}
 use mathlib.Core.Bool.{Bool, not}

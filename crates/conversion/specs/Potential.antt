@@ -1,4 +1,4 @@
--- What conversion and the last pass of a reading could still record of a tree (documents 01 and its room for records): a Spread, a
+-- What conversion and the last pass of a reading could still record of a tree (for which RULES A4 asks room): a Spread, a
 -- literal with a comma after its rest, a CompoundAssign and a ShorthandInit one record each.
 -- Assumes nothing: these are definitions.
 use Prim.Native.Nat.{ℕ, _+_}

@@ -1,4 +1,4 @@
--- The sheets to prove by, P1 to P10 of document 01 and G1 to G7 on grouping: one statement over the table, exact to the last word of the tree and the records.
+-- The sheets to prove by, P1 to P10 of docs/RULES.md and G1 to G7 on grouping: one statement over the table, exact to the last word of the tree and the records.
 -- Kinds and rows are plain numbers here: what the names of kinds and rows stand for is not asked.
 -- Assumes nothing.
 use Prim.Native.Nat.{ℕ}

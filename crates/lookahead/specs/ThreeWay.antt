@@ -1,4 +1,4 @@
--- The three-way answer, as 000 (arrow.rs, lines 57 to 215) reads it, token by token: is what starts here the head of an arrow function?
+-- The three-way answer (RULES L), as the crate's arrow.rs (lines 57 to 215) reads it, token by token: is what starts here the head of an arrow function?
 -- Past the end a kind reads as 0. Names are 1 to 5, 14, 15; modifiers 2, 5, 6, 53; literals 8 to 13.
 -- Assumes nothing: these are definitions.
 use Prim.Native.Nat.{ℕ, _+_}

@@ -1,4 +1,4 @@
-// The three-way answer (000): whether an arrow head starts at a place, from the next few tokens.
+// The three-way answer (RULES L; arrow.rs): whether an arrow head starts at a place, from the next few tokens.
 ghost use mathlib.Core.Path.{_≡_};
 ghost use mathlib.Core.Bool.{true, false};
 ghost use Rattle.lookahead.specs.ThreeWay.{three-way, after-open, after-paren, after-angle, no-parameters, rest-parameter, modified-name, after-name, first-parameter, names-type, type-parameter};
@@ -180,7 +180,7 @@ fn after_open(kinds: &[u8], is_ts: bool, is_jsx: bool, is_async: bool, at: usize
     }
 }
 
-// The worker of 000: an Async is eaten, and what opens must stand on its line.
+// The worker of arrow.rs: an Async is eaten, and what opens must stand on its line.
 fn is_parenthesized_arrow_function_expression_worker(
     kinds: &[u8],
     flags: &[u8],

@@ -1,6 +1,6 @@
 // What the three-way answer is, printed: F is False, T True, M Maybe, and - a refusal. `stdin` has the lists: on every branch of the worker,
 // with both flags on and off, at the end of the list, with and without breaks after Async, and lists that break the entry's checks.
-// tests/lookahead.py makes `stdin` and `stdout`; it was written from document 01 and 000 and not from this program.
+// tests/lookahead.py makes `stdin` and `stdout`; it was written from the rules and arrow.rs and not from this program.
 use lookahead::ThreeWay;
 use lookahead::Tristate;
 use tokens::kind;

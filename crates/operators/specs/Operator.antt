@@ -1,4 +1,4 @@
--- The operator that a token kind stands for, by 002's five mapping functions; what was unreachable there is None.
+-- The operator that a token kind stands for (RULES O6), by the five mapping functions of operator.rs; what was unreachable there is None.
 -- Assumes nothing: these are definitions.
 use Prim.Native.Nat.{ℕ}
 use mathlib.Core.List.{List, [], _∷_}

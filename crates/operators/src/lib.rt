@@ -1,4 +1,4 @@
-// The operator tables (002): one constant table of precedence levels over the token kinds, and what operator a kind stands for.
+// The operator tables (RULES O; operator.rs): one constant table of precedence levels over the token kinds, and what operator a kind stands for.
 ghost use mathlib.Core.Path.{_≡_};
 ghost use Prim.Native.Nat.{_*_, _/_, _%_, _^_, _<_};
 ghost use Rattle.operators.specs.Precedence.{level, expression-level};

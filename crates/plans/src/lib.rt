@@ -1,4 +1,4 @@
-// What a row becomes in a role (document 01, "Conversion").
+// What a row becomes in a role (RULES C).
 ghost use mathlib.Core.Path.{_≡_};
 ghost use mathlib.Core.List.{[]};
 ghost use Rattle.tokens.specs.declared.cause.Cause.the-variants.{Target as NoTarget, Spread as SpreadNotLast};

@@ -1,6 +1,6 @@
 // What `printout` prints for files, any bytes at all. `stdin` has files, each after six bytes, low byte first: how many bytes it has, and
 // how many bytes are lent for the text. Where the buffer is too short, it is printed as it is then, with a mark after it.
-// tests/sheet_files.py makes `stdin` and `stdout`; it was written from document 01 and shares nothing with the libraries.
+// tests/sheet_files.py makes `stdin` and `stdout`; it was written from the rules and shares nothing with the libraries.
 ghost use Prim.Native.Nat.{_<_};
 use text::Printed;
 

@@ -1,4 +1,4 @@
-// The reader: a list of token bytes into a flat tree in lent memory (document 01).
+// The reader: a list of token bytes into a flat tree in lent memory (RULES X1, X2).
 ghost use Rattle.grammar.specs.Sheet.{sheet-of};
 ghost use Rattle.making.specs.Lent.{read-entry, pattern-entry};
 ghost use Rattle.frame.specs.Entry.{Answers};

@@ -1,7 +1,7 @@
 // What the reader answers, printed. `stdin` has sheets, each after twelve bytes: the entry (0 read, 1 pattern), what to print (1 the kinds of
 // the rows, 2 the records, 4 the abandoned count, 8 all words of the rows, 16 a sum over them), and five numbers, low byte first: how many
 // kinds and flags there are, how many words of rows and of records are lent, and 0.
-// tests/reader.py makes `stdin` and `stdout`; it was written from document 01 and shares nothing with the reader.
+// tests/reader.py makes `stdin` and `stdout`; it was written from the rules and shares nothing with the reader.
 ghost use Prim.Native.Nat.{_≤_, _<_};
 use tokens::cause::Answer;
 use tokens::cause::Counts;

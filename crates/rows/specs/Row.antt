@@ -1,4 +1,4 @@
--- The kinds of rows by name, as document 01 numbers them.
+-- The kinds of rows by name, as RULES R5 numbers them.
 -- Assumes nothing: these are definitions.
 use Prim.Native.Nat.{ℕ}
 

@@ -1,4 +1,4 @@
-// The flat tree: rows of six words, kids before their parent (document 01, "The tree").
+// The flat tree: rows of six words, kids before their parent (RULES R1, R2).
 ghost use lib.ListN.{length};
 ghost use Rattle.rows.specs.Post.{RowFits, Pushed, RecordFits, PushedRecord, Word, RowInside, KindSet, Cleared};
 

@@ -1,4 +1,4 @@
-// The kinds of rows by name, as document 01 numbers them.
+// The kinds of rows by name, as RULES R5 numbers them.
 // a name that is read
 pub const IDENTIFIER: u32 = 1;
 

@@ -1,4 +1,4 @@
-// Prints what the box shows for a sheet file (document 01, "Sheet files"): that of the file which the first argument names, or that of
+// Prints what the box shows for a sheet file (RULES F): that of the file which the first argument names, or that of
 // standard input where there is none. What it prints is `printout::print_file`'s; here files are opened, read and written.
 ghost use lib.ListN.{length};
 ghost use Rattle.sheet.specs.Post.{Within};

@@ -1,4 +1,4 @@
--- Sheet files (document 01, "Sheet files"): which bytes are the file of which kinds and flags.
+-- Sheet files (RULES F1): which bytes are the file of which kinds and flags.
 -- Assumes nothing: these are definitions.
 use Prim.Native.Nat.{ℕ, zero, suc, _/_, _%_, _≤_}
 use mathlib.Core.Path.{_≡_}

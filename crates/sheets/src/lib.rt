@@ -1,4 +1,4 @@
-// Sheet files (document 01, "Sheet files"): the kinds and flags in the bytes of a file, as functions on slices.
+// Sheet files (RULES F1): the kinds and flags in the bytes of a file, as functions on slices.
 ghost use Prim.Native.Nat.{_≤_};
 ghost use mathlib.Core.Path.{_≡_};
 ghost use lib.ListN.{length};

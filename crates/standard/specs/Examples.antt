@@ -1,4 +1,4 @@
--- The sheets P1 to P10 of document 01 in the standard's terms: which of them ECMA-262 derives, with which tree, and which it does not.
+-- The sheets P1 to P10 of docs/RULES.md in the standard's terms: which of them ECMA-262 derives, with which tree, and which it does not.
 -- Assumes nothing.
 use Prim.Native.Nat.{ℕ}
 use mathlib.Core.Path.{_≡_, refl}

@@ -1,4 +1,4 @@
--- Conversion as its own entry (document 01, "Answers the box can show"): for any words, any row and any record buffer, the answer
+-- Conversion as its own entry (RULES X3): for any words, any row and any record buffer, the answer
 -- and every word of both buffers after it.
 -- Assumes nothing: these are definitions.
 use Prim.Native.Nat.{ℕ, _+_, _-_, _*_, _≤_, _<_}

@@ -1,4 +1,4 @@
-// Conversion of what was read as an expression to an assignment target (document 01, "Conversion").
+// Conversion of what was read as an expression to an assignment target (RULES C).
 ghost use mathlib.Core.Path.{_≡_};
 ghost use lib.ListN.{length};
 ghost use Rattle.roles.specs.Meaning as means;

@@ -124,7 +124,7 @@ fn try_text(text: &[u8], row: usize, room: usize) {
     }
 }
 
-// The sheets P1 and P4 to P8 of document 01.
+// The sheets P1 and P4 to P8 of docs/RULES.md.
 fn sheets() {
     // P1: `[a, b]`
     try_text(b"1 1 1 2 0 1 1 3 3 4 0 1 5 0 0 5 2 3", 2, 6);
@@ -140,7 +140,7 @@ fn sheets() {
     try_text(b"1 2 2 3 0 1 10 1 1 3 1 2 1 4 4 5 0 1 5 0 0 6 2 4", 3, 8);
 }
 
-// What document 01 leaves to the order of elements, to defaults and to shorthands.
+// The order of elements, defaults and shorthands (RULES C5 to C10).
 fn elements() {
     // `[a = 1]`, and `[(a = 1)]`, which is no default
     try_text(b"40 1 1 2 0 1 3 3 3 4 0 1 25 2 1 4 2 3 5 0 0 5 1 4", 3, 8);

@@ -1,4 +1,4 @@
--- The texts that document 01 shows, computed: the sheet `[a, b] = c`, a refusal, and a record.
+-- The texts of RULES F4, computed: the sheet `[a, b] = c`, a refusal, and a record.
 -- Assumes nothing.
 use Prim.Native.Nat.{ℕ}
 use mathlib.Core.Path.{_≡_, refl}

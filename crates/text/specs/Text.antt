@@ -1,4 +1,4 @@
--- What the box prints (document 01, "Sheet files"): the text of an answer, byte by byte in ASCII.
+-- What the box prints (RULES F3): the text of an answer, byte by byte in ASCII.
 -- Assumes nothing: these are definitions.
 use Prim.Native.Nat.{ℕ, zero, suc, _+_, _*_, _/_, _%_}
 use Prim.Native.Char.{code}

@@ -1,4 +1,4 @@
-// What the box prints (document 01, "Sheet files"), written into a lent buffer.
+// What the box prints (RULES F3), written into a lent buffer.
 ghost use Prim.Native.Nat.{_+_, _*_, _≤_, _<_};
 ghost use mathlib.Core.Path.{_≡_};
 ghost use lib.ListN.{getD};

@@ -1,4 +1,4 @@
--- The fourteen refusals of document 01: the number of each, and its place.
+-- The fourteen refusals, RULES A1 to A14: the number of each, and its place.
 -- Assumes nothing: these are definitions.
 use Prim.Native.Nat.{ℕ}
 use Rattle.tokens.specs.declared.cause.Cause.{Cause}

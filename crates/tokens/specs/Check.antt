@@ -1,5 +1,5 @@
--- The checks of a list before it is read (document 01, "Answers the box can show", 1, 2, 5, 6, 7), each by itself.
--- An entry runs those that 01 names for it, in the order of their numbers: the first refusal is the answer.
+-- The checks of a list before it is read (RULES A1, A2, A5, A6, A7), each by itself.
+-- An entry runs those that RULES X names for it, in the order of their numbers: the first refusal is the answer.
 -- Assumes nothing: these are definitions.
 use Prim.Native.Nat.{ℕ, suc, _+_, _-_}
 use mathlib.Core.Bool.{Bool}

@@ -1,4 +1,4 @@
--- What document 01 says of single tokens: the kind and flag at a place, and what is a name, a word, a literal.
+-- Single tokens (RULES T2, T5 to T8): the kind and flag at a place, and what is a name, a word, a literal.
 -- Assumes nothing: these are definitions.
 use Prim.Native.Nat.{ℕ}
 use mathlib.Core.Bool.{Bool}

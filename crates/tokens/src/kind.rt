@@ -1,4 +1,4 @@
-// The kinds of tokens by name, as document 01 numbers them. Names are the crate's; a modifier's name and the other reserved words are one kind each.
+// The kinds of tokens by name, as RULES T4 numbers them. Names are the crate's; a modifier's name and the other reserved words are one kind each.
 pub const IDENT: u8 = 1; // a name
 
 pub const ASYNC: u8 = 2; // async

@@ -1,4 +1,4 @@
-// The tokens of a sheet (document 01, "The sheet and its tokens"): kinds by name, what stands at a place, and the answers that the box
+// The tokens of a sheet (RULES T): kinds by name, what stands at a place, and the answers that the box
 // can show.
 ghost use mathlib.Core.Path.{_≡_};
 ghost use Prim.Native.Nat.{_+_};

@@ -1,5 +1,5 @@
 // What `tokens` and `checks` answer, printed: the classes of all 256 bytes, what stands at a place, the causes, and the checks of the lists that
-// `stdin` describes. tests/tokens.py makes `stdin` and `stdout`; it was written from document 01 and not from this program.
+// `stdin` describes. tests/tokens.py makes `stdin` and `stdout`; it was written from the rules and not from this program.
 use tokens::cause::Cause;
 use tokens::check::Checked;
 

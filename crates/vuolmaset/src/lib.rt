@@ -1,4 +1,4 @@
-// The public entries for programs in C and Rust, on numbers and slices. What an entry returns is 0, or the number that document 01 gives a
+// The public entries for programs in C and Rust, on numbers and slices. What an entry returns is 0, or the number that RULES A gives a
 // refusal; what it tells beside that it writes to the words that are lent for it.
 ghost use mathlib.Core.Path.{_≡_};
 ghost use Rattle.operators.specs.Precedence.{level, expression-level};

@@ -1,6 +1,6 @@
 //! The plain reader of demand 3: wherever the assignment level starts at `(` or Async it tries an arrow's head, else goes the way past; it
 //! has no lookahead and remembers nothing. It builds trees on the heap, converts them as trees and writes the rows at the very end, so
-//! that it shares nothing with a reader over lent rows but document 01.
+//! that it shares nothing with a reader over lent rows but the rules.
 use std::collections::BTreeSet;
 
 /// A refusal: number and place.
@@ -34,7 +34,7 @@ pub enum Outcome {
 
 type Got<T> = Result<T, Outcome>;
 
-/// Tokens by their spelling in document 01.
+/// Tokens by their spelling in RULES T4.
 #[rustfmt::skip]
 const SPELLED: [(&str, u8); 24] = [
     ("async", 2), ("this", 7), ("(", 18), (")", 19), ("[", 20), ("]", 21), ("{", 22), ("}", 23), (",", 24), (":", 25), ("?", 26),

@@ -9,7 +9,7 @@ fn bytes(text: &str) -> Vec<u8> {
     text.as_bytes().chunks(2).map(|pair| u8::from_str_radix(std::str::from_utf8(pair).unwrap(), 16).unwrap()).collect()
 }
 
-/// The checks of document 01 that do not look at lent words.
+/// The checks of RULES A that do not look at lent words.
 fn checked(kinds: &[u8], flags: &[u8]) -> Result<(), (u32, usize)> {
     if kinds.is_empty() || kinds.len() > 2048 {
         return Err((1, 0));

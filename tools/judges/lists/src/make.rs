@@ -1,4 +1,4 @@
-//! Lists made by the grammar of document 01, clean unless faults are asked for.
+//! Lists made by the grammar of docs/RULES.md, clean unless faults are asked for.
 use crate::{List, Random};
 
 const OPEN: usize = 60;
