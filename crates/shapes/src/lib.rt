@@ -84,16 +84,19 @@ const ONLY_TARGET_NAME: u64 = 0x100_0000_0000;
 const ONLY_TARGET_REST: u64 = 0x1000_0000_0000;
 
 // The listed kinds: 1 to 36, 40 to 50.
-fn is_listed(kind: u32) -> bool
+pub fn is_listed(kind: u32) -> bool
     ensures { λ r. ⌜ r ≡ listed kind ⌝ }
 {
     if row::TARGET_SHORTHAND_INIT < kind {
         return false;
     }
-    if row::TARGET_NAME <= kind {
+    if kind == 0 {
+        return false;
+    }
+    if kind <= row::BINDING_SHORTHAND_INIT {
         return true;
     }
-    row::IDENTIFIER <= kind && kind <= row::BINDING_SHORTHAND_INIT
+    row::TARGET_NAME <= kind
 }
 
 // Whether a set of kinds has this one.

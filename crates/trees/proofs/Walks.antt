@@ -277,6 +277,9 @@ module _ {w : List ℕ} {row kind : ℕ} (k : kind ≡ getD w (6 * row + 0) 0) w
   same-kind : (s : Stands w row) → kind ≡ kind-of (s .tree)
   same-kind s = k ∙ root-kind (s .tree) (s .root)
 
+  pub unlisted : is-listed kind ≡ false → Stands w row → ⊥
+  unlisted f s = true-false (shaped (s .tree) (s .good) .listed) (ap is-listed (sym (same-kind s)) ∙ f)
+
   module _ {kids : ℕ} (n : kids ≡ getD w (6 * row + 4) 0) where
     pub too-few : (is-listed kind and leb (least (shape-of kind)) kids) ≡ false → Stands w row → ⊥
     too-few f s =

@@ -56,6 +56,9 @@ pub fn row_stands(words: &[u32], row: usize) -> bool
     ensures { λ r. ⌜ Decides (Stands (now (words .entry)) row) r ⌝ }
 {
     let kind = row_word(words, row, 0);
+    if !shapes::is_listed(kind) {
+        return false;
+    }
     let kids = row_word(words, row, 4) as u64;
     if !shapes::is_enough(kind, kids) {
         return false;
