@@ -19,6 +19,7 @@ use Rattle.grammar.specs.Job.{expression, binding-element}
 use Rattle.grammar.specs.Reading.{plain-reading, plain-pattern}
 use Rattle.laws.specs.Promises.{refusals-stand, rows-fit, records-fit}
 use Rattle.standard.specs.Derives.{Expression, BindingElement, Derived}
+use Rattle.standard.specs.Targets.{Own, In, target-rows}
 use Rattle.agreement.specs.Terms.{ReadAs, NoEarly}
 use Rattle.agreement.specs.Agreement.{plain-reads-too, plain-pattern-reads-too}
 use Rattle.agreement.specs.Answers.{read-agrees, pattern-agrees}
@@ -84,7 +85,8 @@ pattern-refused-by-number-and-place {i} g =
 pub convert-refused-by-number : {i : TreeInput} {x : Output} → ByConvert i x → Converted i x
 convert-refused-by-number g = by-converted g
 
--- Whatever bytes and place are handed to vuolmaset_three_way: the three-way answer is told, or it is refused by a number up to 14 at a place that is at most the number of tokens.
+-- Whatever bytes and place are handed to vuolmaset_three_way: the first of the checks 1, 2, 5, 6, 14 that fails is the refusal, at a place that is at most the number of tokens; or the three-way
+-- answer is told.
 pub three-way-refused-by-number-and-place : (kinds flags : List ℕ) (is-ts is-jsx : Bool) (at : ℕ) {told number : ℕ} → ToldThreeWay (three-way-entry kinds flags is-ts is-jsx at) told number
     → ThreeWayAnswered kinds flags is-ts is-jsx at told number
 three-way-refused-by-number-and-place kinds flags is-ts is-jsx at g = by-three-way kinds flags is-ts is-jsx at g
@@ -100,6 +102,10 @@ clean-is-derived {i} g z o =
     let c = by-clean (of-read g) z o in
     let d = read-is-derived (sheet i) (i .rows) (i .records) (passed (refused-by-number-and-place g) z) (c .0) (c .1) (c .2) in
     (d .tree, d .derived, shown-clean (by-shown (of-read g) (d .shows)))
+
+-- So every target in the tree of a clean reading is ECMA-262's: each row of a target's kind is derived as a target, over its own tokens.
+pub clean-targets-are-derived : {i : Input} {x : Output} → ByRead i x → x .number ≡ 0 → x .second ≡ 0 → (t : Tree) × Clean i x t × ((u : Tree) → In u t → Own (sheet i) u)
+clean-targets-are-derived g z o = let d = clean-is-derived g z o in (d .0, d .2, λ u a. target-rows (d .1) a)
 
 -- Past the checks, in a list without the early commit, vuolmaset_read is clean with a tree exactly if ECMA-262 derives the whole list as an Expression with this tree.
 pub clean-exactly-if-derived : {i : Input} {x : Output} → ByRead i x → Passes i → NoEarly (sheet i) → (t : Tree) → Clean i x t ↔ Derived (sheet i) Expression 0 (length (i .kinds)) t

@@ -9,13 +9,12 @@ use native.Mathlib.Omega.{arith}
 use native.Mathlib.Nat.{add-zero}
 use lib.ListN.{length}
 use Rattle.tokens.specs.Cause.{number, place}
-use Rattle.tokens.specs.Check.{_and-then_, check-length, check-flag-length, check-flags, check-kinds}
 use Rattle.tokens.specs.declared.cause.Answer.{Answer}
 use Rattle.tokens.specs.declared.cause.Cause.{Cause}
 use Rattle.tokens.specs.declared.cause.Counts.{Counts}
 use Rattle.tokens.specs.declared.check.Checked.{Checked}
 use Rattle.lookahead.specs.ThreeWay.{three-way}
-use Rattle.lookahead.specs.Entry.{check-place, checked as tell, three-way-entry}
+use Rattle.lookahead.specs.Entry.{checked as tell, three-way-entry}
 use Rattle.lookahead.specs.declared.ThreeWay.{ThreeWay}
 use Rattle.rows.specs.Tree.{Tree, Forest, one, size, sizes, flat, flats}
 use Rattle.rows.specs.Record.{Record, record-words}
@@ -36,7 +35,7 @@ use Rattle.agreement.specs.Terms.{ReadAs}
 use Rattle.agreement.specs.Answers.{Shows}
 use Rattle.vuolmaset.specs.Told.{number-of, first-of, second-of, third-of, Told, ToldThreeWay, ToldSubtree}
 use Rattle.demands.specs.Terms as Terms
-use Rattle.demands.specs.Terms.{Input, Output, TreeInput, sheet, Passes, comes-to, ByConvert, Shown, Clean, Refused, Answered, ThreeWayAnswered}
+use Rattle.demands.specs.Terms.{Input, Output, TreeInput, sheet, Passes, comes-to, ByConvert, Shown, Clean, Refused, Answered, ThreeWayAnswered, three-way-checks}
 use Rattle.demands.specs.Checks.{check-numbers, three-way-numbers}
 use Rattle.demands.specs.Words.{one-forest, one-list}
 
@@ -213,14 +212,13 @@ by-subtree {tree} {row} {x} g = go (g .handed) (g .words)
 
 -- THE THREE-WAY ENTRY
 module _ (kinds flags : List ℕ) (is-ts is-jsx : Bool) (at : ℕ) {told number′ : ℕ} where
-  by-check : (c : Checked)
-      → check-length kinds and-then check-flag-length kinds flags and-then check-flags flags and-then check-kinds kinds and-then check-place kinds at ≡ c
+  by-check : (c : Checked) → three-way-checks kinds flags at ≡ c
       → ToldThreeWay (tell c (ThreeWay.Told (three-way kinds flags is-ts is-jsx at))) told number′ → ThreeWayAnswered kinds flags is-ts is-jsx at told number′
   unfolding tell
-  by-check Checked.Fine e g = Terms.three-told (g .number) (g .told-is)
+  by-check Checked.Fine e g = Terms.three-told e (g .number) (g .told-is)
   by-check (Checked.Refused cause) e g =
       let n = three-way-numbers kinds flags at cause e in
-      Terms.three-refused cause (g .number) (n .from-one) (n .to-high) (g .told-is) (n .there)
+      Terms.three-refused cause e (g .number) (n .from-one) (n .to-high) (g .told-is) (n .there)
 
   pub by-three-way : ToldThreeWay (three-way-entry kinds flags is-ts is-jsx at) told number′ → ThreeWayAnswered kinds flags is-ts is-jsx at told number′
   unfolding three-way-entry

@@ -8,7 +8,9 @@ use lib.ListN.{length, take, drop, replicate}
 use Rattle.tokens.specs.Cause.{number, place}
 use Rattle.tokens.specs.declared.cause.Cause.{Cause}
 use Rattle.tokens.specs.declared.check.Checked.{Checked}
+use Rattle.tokens.specs.Check.{_and-then_, check-length, check-flag-length, check-flags, check-kinds}
 use Rattle.lookahead.specs.ThreeWay.{three-way}
+use Rattle.lookahead.specs.Entry.{check-place}
 use Rattle.rows.specs.Tree.{Tree, Forest, size, sizes, flat, flats}
 use Rattle.rows.specs.Record.{Record, record-words}
 use Rattle.rows.specs.Words.{WellFormed}
@@ -143,10 +145,15 @@ pub data Converted (i : TreeInput) (x : Output) : Type 0 where
       → x .rows ≡ take (6 * (i .row + 1 - size (chosen inside))) (i .tree) ++ (flat t ++ drop (6 * (i .row + 1)) (i .tree))
       → x .records ≡ record-words said ++ replicate (length (i .records) - 2 * length said) 0 → Converted i x
 
+-- the checks of vuolmaset_three_way: 1, 2, 5, 6, 14
+abbrev pub three-way-checks : List ℕ → List ℕ → ℕ → Checked
+three-way-checks kinds flags at =
+    check-length kinds and-then check-flag-length kinds flags and-then check-flags flags and-then check-kinds kinds and-then check-place kinds at
+
 -- the two ways in which vuolmaset_three_way answers
 pub data ThreeWayAnswered (kinds flags : List ℕ) (is-ts is-jsx : Bool) (at told returned : ℕ) : Type 0 where
-  -- 0: the three-way answer at the place, 0 False, 1 True, 2 Maybe
-  three-told : returned ≡ 0 → told ≡ tristate-number (three-way kinds flags is-ts is-jsx at) → ThreeWayAnswered kinds flags is-ts is-jsx at told returned
-  -- refused: the number, and a place that is at most the number of tokens
-  three-refused : (cause : Cause) → returned ≡ number cause → 1 ≤ number cause → number cause ≤ 14 → told ≡ place cause → place cause ≤ length kinds
+  -- 0: the checks pass; the three-way answer at the place, 0 False, 1 True, 2 Maybe
+  three-told : three-way-checks kinds flags at ≡ Checked.Fine → returned ≡ 0 → told ≡ tristate-number (three-way kinds flags is-ts is-jsx at) → ThreeWayAnswered kinds flags is-ts is-jsx at told returned
+  -- refused: the first check that fails; its number, and its place, at most the number of tokens
+  three-refused : (cause : Cause) → three-way-checks kinds flags at ≡ Checked.Refused cause → returned ≡ number cause → 1 ≤ number cause → number cause ≤ 14 → told ≡ place cause → place cause ≤ length kinds
       → ThreeWayAnswered kinds flags is-ts is-jsx at told returned

@@ -81,6 +81,6 @@ module _ (sheet : Sheet) (rows records : List ℕ) (fine : checks sheet rows rec
   pub derived-is-pattern : NoEarly sheet → (t : Tree) → Derived sheet BindingElement 0 (length (sheet .kinds)) t → Shows (pattern-entry sheet rows records) rows records (one t) []
   derived-is-pattern none t d = pattern-agrees sheet rows records fine none (one t) [] (record { after = tt; is-whole = clean-is-bound .1 d })
 
--- In a tree that an entry shows with no record, every row of a target's kind is derived by the standard as a target, over its own tokens.
+-- In a tree that an entry shows with no record, every row of a target's kind is the standard's target, over its own tokens.
 pub clean-targets : {x : Nonterminal} {sheet : Sheet} {given : Given} {rows records : List ℕ} {u : Tree} (d : ShowsDerived x sheet given rows records) → In u (d .tree) → Own sheet u
-clean-targets d a = target-rows (d .derived .derivation) a
+clean-targets d a = target-rows (d .derived) a

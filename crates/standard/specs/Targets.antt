@@ -1,5 +1,5 @@
--- THE TARGETS OF A READING ARE THE STANDARD'S: in the tree of whatever ECMA-262 derives, every row of a target's kind is itself derived as a target over its own tokens: names,
--- parentheses, members and indexes as simple targets (8.6.4), arrays and objects as AssignmentPatterns (13.15.5). Nothing of this is said of trees that were not read.
+-- THE TARGETS OF A READING ARE THE STANDARD'S: in the tree of whatever ECMA-262 has (`Derived`), every row of a target's kind is itself such a target over its own tokens: names, parentheses,
+-- members and indexes simple targets (8.6.4), arrays and objects AssignmentPatterns (13.15.5), with no CoverInitializedName left. Nothing of this is said of trees that were not read.
 -- The statement: `target-rows`. Assumes nothing.
 use Prim.Native.Nat.{ℕ}
 use mathlib.Core.Path.{_≡_, refl}
@@ -12,7 +12,7 @@ use Rattle.rows.specs.Tree.{Tree, Forest, node, nil, cons, one, join, kind-of, 
 use Rattle.rows.specs.Row as Row
 use Rattle.grammar.specs.Sheet.{Sheet}
 use Rattle.standard.specs.Derives as D
-use Rattle.standard.specs.Derives.{Nonterminal, SimpleTarget, AssignmentPattern, TierExpression, LeftToRight, ends-in-spread, array-row, object-row, Derives}
+use Rattle.standard.specs.Derives.{Nonterminal, SimpleTarget, AssignmentPattern, TierExpression, LeftToRight, ends-in-spread, array-row, object-row, Derives, covers-nothing, cover-nothing, Derived}
 use Rattle.standard.specs.Levels.{tier-row}
 use Rattle.standard.specs.Terminals.{line}
 
@@ -23,64 +23,80 @@ is-simple k = k is Row.TargetName or k is Row.TargetParen or k is Row.TargetMemb
 unfoldable pub is-pattern : ℕ → Bool
 is-pattern k = k is Row.TargetArray or k is Row.TargetObject
 
--- a row of a target's kind is derived as such a target, over its own tokens
+-- a row of a target's kind is the standard's target, over its own tokens
 pub record Own (s : Sheet) (t : Tree) : Type 0 where
-  pub simple : is-simple (kind-of t) ≡ true → Derives s SimpleTarget (first-of t) (end-of t) (one t)
-  pub pattern : is-pattern (kind-of t) ≡ true → Derives s AssignmentPattern (first-of t) (end-of t) (one t)
+  pub simple : is-simple (kind-of t) ≡ true → Derived s SimpleTarget (first-of t) (end-of t) t
+  pub pattern : is-pattern (kind-of t) ≡ true → Derived s AssignmentPattern (first-of t) (end-of t) t
+
+-- a tree that stands in another, or is it
+mutual
+  pub data In (u : Tree) : Tree → Type 0 where
+    itself : In u u
+    below : {kind mark first end : ℕ} {kids : Forest} → Among u kids → In u (node kind mark first end kids)
+
+  pub data Among (u : Tree) : Forest → Type 0 where
+    here : {t : Tree} {ts : Forest} → In u t → Among u (cons t ts)
+    later : {t : Tree} {ts : Forest} → Among u ts → Among u (cons t ts)
+
+-- WHAT IS DERIVED
+-- a row of a target's kind is derived as such a target, whatever is below it
+record Stands (s : Sheet) (t : Tree) : Type 0 where
+  simple : is-simple (kind-of t) ≡ true → Derives s SimpleTarget (first-of t) (end-of t) (one t)
+  pattern : is-pattern (kind-of t) ≡ true → Derives s AssignmentPattern (first-of t) (end-of t) (one t)
 
 -- so is every row of a tree
 mutual
-  pub data Owns (s : Sheet) : Tree → Type 0 where
-    row : {kind mark first end : ℕ} {kids : Forest} → Own s (node kind mark first end kids) → AllOwn s kids → Owns s (node kind mark first end kids)
+  data StandTree (s : Sheet) : Tree → Type 0 where
+    row : {kind mark first end : ℕ} {kids : Forest} → Stands s (node kind mark first end kids) → StandAll s kids → StandTree s (node kind mark first end kids)
 
-  pub data AllOwn (s : Sheet) : Forest → Type 0 where
-    none : AllOwn s nil
-    more : {t : Tree} {ts : Forest} → Owns s t → AllOwn s ts → AllOwn s (cons t ts)
+  data StandAll (s : Sheet) : Forest → Type 0 where
+    none : StandAll s nil
+    more : {t : Tree} {ts : Forest} → StandTree s t → StandAll s ts → StandAll s (cons t ts)
 
-both : {s : Sheet} {ts us : Forest} → AllOwn s ts → AllOwn s us → AllOwn s (join ts us)
+both : {s : Sheet} {ts us : Forest} → StandAll s ts → StandAll s us → StandAll s (join ts us)
 unfolding join
 both none b = b
 both (more o a) b = more o (both a b)
 
 -- a row that is no target
-other : {s : Sheet} {kind mark first end : ℕ} {kids : Forest} → is-simple kind ≡ false → is-pattern kind ≡ false → Own s (node kind mark first end kids)
+other : {s : Sheet} {kind mark first end : ℕ} {kids : Forest} → is-simple kind ≡ false → is-pattern kind ≡ false → Stands s (node kind mark first end kids)
 unfolding kind-of
 other a b = record { simple = λ e. let z : _≡_ {A = ℕ} 0 1 = cc in absurd (omega arith); pattern = λ e. let z : _≡_ {A = ℕ} 0 1 = cc in absurd (omega arith) }
 
-simple-row : {s : Sheet} {kind mark first end : ℕ} {kids : Forest} → Derives s SimpleTarget first end (one (node kind mark first end kids)) → is-pattern kind ≡ false → Own s (node kind mark first end kids)
+simple-row : {s : Sheet} {kind mark first end : ℕ} {kids : Forest} → Derives s SimpleTarget first end (one (node kind mark first end kids)) → is-pattern kind ≡ false → Stands s (node kind mark first end kids)
 unfolding kind-of first-of end-of
 simple-row d b = record { simple = λ e. d; pattern = λ e. let z : _≡_ {A = ℕ} 0 1 = cc in absurd (omega arith) }
 
-pattern-row : {s : Sheet} {kind mark first end : ℕ} {kids : Forest} → Derives s AssignmentPattern first end (one (node kind mark first end kids)) → is-simple kind ≡ false → Own s (node kind mark first end kids)
+pattern-row : {s : Sheet} {kind mark first end : ℕ} {kids : Forest} → Derives s AssignmentPattern first end (one (node kind mark first end kids)) → is-simple kind ≡ false → Stands s (node kind mark first end kids)
 unfolding kind-of first-of end-of
 pattern-row d a = record { simple = λ e. let z : _≡_ {A = ℕ} 0 1 = cc in absurd (omega arith); pattern = λ e. d }
 
 -- a literal's row, and an operation's
-array-other : {s : Sheet} {mark first end : ℕ} (kids : Forest) → Own s (node (array-row kids) mark first end kids)
+array-other : {s : Sheet} {mark first end : ℕ} (kids : Forest) → Stands s (node (array-row kids) mark first end kids)
 unfolding array-row is-simple is-pattern
 array-other {s} {mark} {first} {end} kids = go (ends-in-spread kids)
   where
-    go : (b : Bool) → Own s (node (if b then Row.ArrayRestComma else Row.Array) mark first end kids)
+    go : (b : Bool) → Stands s (node (if b then Row.ArrayRestComma else Row.Array) mark first end kids)
     go true = other refl refl
     go false = other refl refl
 
-object-other : {s : Sheet} {mark first end : ℕ} (kids : Forest) → Own s (node (object-row kids) mark first end kids)
+object-other : {s : Sheet} {mark first end : ℕ} (kids : Forest) → Stands s (node (object-row kids) mark first end kids)
 unfolding object-row is-simple is-pattern
 object-other {s} {mark} {first} {end} kids = go (ends-in-spread kids)
   where
-    go : (b : Bool) → Own s (node (if b then Row.ObjectRestComma else Row.Object) mark first end kids)
+    go : (b : Bool) → Stands s (node (if b then Row.ObjectRestComma else Row.Object) mark first end kids)
     go true = other refl refl
     go false = other refl refl
 
-line-other : {s : Sheet} {x y kind mark first end : ℕ} {operators : List ℕ} {kids : Forest} → LeftToRight (TierExpression x) operators (TierExpression y) kind → Own s (node kind mark first end kids)
+line-other : {s : Sheet} {x y kind mark first end : ℕ} {operators : List ℕ} {kids : Forest} → LeftToRight (TierExpression x) operators (TierExpression y) kind → Stands s (node kind mark first end kids)
 unfolding tier-row is-simple is-pattern
 line-other {s} {x} {mark = mark} {first} {end} {kids = kids} l = rw (line l .row-is) (go (leb x 3))
   where
-    go : (b : Bool) → Own s (node (if b then Row.Logical else Row.Binary) mark first end kids)
+    go : (b : Bool) → Stands s (node (if b then Row.Logical else Row.Binary) mark first end kids)
     go true = other refl refl
     go false = other refl refl
 
-targets : {s : Sheet} {x : Nonterminal} {i j : ℕ} {ts : Forest} → Derives s x i j ts → AllOwn s ts
+targets : {s : Sheet} {x : Nonterminal} {i j : ℕ} {ts : Forest} → Derives s x i j ts → StandAll s ts
 unfolding is-simple is-pattern join
 targets (D.first-of-list a) = targets a
 targets (D.next-of-list a _ c) = both (targets a) (targets c)
@@ -195,31 +211,48 @@ targets (D.concise-body _ b) = targets b
 targets (D.async-name _ _ _) = more (row (other refl refl) none) none
 targets (D.async-parameters _ _ c) = targets c
 
--- a tree that stands in another, or is it
-mutual
-  pub data In (u : Tree) : Tree → Type 0 where
-    itself : In u u
-    below : {kind mark first end : ℕ} {kids : Forest} → Among u kids → In u (node kind mark first end kids)
-
-  pub data Among (u : Tree) : Forest → Type 0 where
-    here : {t : Tree} {ts : Forest} → In u t → Among u (cons t ts)
-    later : {t : Tree} {ts : Forest} → Among u ts → Among u (cons t ts)
-
-own : {s : Sheet} {u : Tree} → Owns s u → Own s u
-own (row o a) = o
+top : {s : Sheet} {u : Tree} → StandTree s u → Stands s u
+top (row o a) = o
 
 mutual
-  stands : {s : Sheet} {t u : Tree} → In u t → Owns s t → Own s u
-  stands itself o = own o
+  stands : {s : Sheet} {t u : Tree} → In u t → StandTree s t → Stands s u
+  stands itself o = top o
   stands (below a) (row _ o) = stand a o
 
-  stand : {s : Sheet} {ts : Forest} {u : Tree} → Among u ts → AllOwn s ts → Own s u
+  stand : {s : Sheet} {ts : Forest} {u : Tree} → Among u ts → StandAll s ts → Stands s u
   stand (here a) (more o _) = stands a o
   stand (later a) (more _ o) = stand a o
 
-first-owns : {s : Sheet} {t : Tree} {ts : Forest} → AllOwn s (cons t ts) → Owns s t
-first-owns (more o _) = o
+first-stands : {s : Sheet} {t : Tree} {ts : Forest} → StandAll s (cons t ts) → StandTree s t
+first-stands (more o _) = o
+
+-- NO COVER IS LEFT
+not-then : (b c : Bool) → (if b then false else c) ≡ true → c ≡ true
+not-then false c e = e
+not-then true c e = let z : _≡_ {A = ℕ} 0 1 = cc in absurd (omega arith)
+
+then-first : (b c : Bool) → (if b then c else false) ≡ true → b ≡ true
+then-first true c e = refl
+then-first false c e = e
+
+then-second : (b c : Bool) → (if b then c else false) ≡ true → c ≡ true
+then-second true c e = e
+then-second false c e = let z : _≡_ {A = ℕ} 0 1 = cc in absurd (omega arith)
+
+mutual
+  unfolding covers-nothing cover-nothing
+
+  uncovered : {t u : Tree} → In u t → covers-nothing t ≡ true → covers-nothing u ≡ true
+  uncovered itself e = e
+  uncovered (below {kind = kind} {kids = kids} a) e = all-uncovered a (not-then (kind is Row.ShorthandInit) (cover-nothing kids) e)
+
+  all-uncovered : {ts : Forest} {u : Tree} → Among u ts → cover-nothing ts ≡ true → covers-nothing u ≡ true
+  all-uncovered (here {t = t} {ts} a) e = uncovered a (then-first (covers-nothing t) (cover-nothing ts) e)
+  all-uncovered (later {t = t} {ts} a) e = all-uncovered a (then-second (covers-nothing t) (cover-nothing ts) e)
 
 -- THE STATEMENT
-pub target-rows : {s : Sheet} {x : Nonterminal} {i j : ℕ} {t u : Tree} → Derives s x i j (one t) → In u t → Own s u
-target-rows d a = stands a (first-owns (targets d))
+pub target-rows : {s : Sheet} {x : Nonterminal} {i j : ℕ} {t u : Tree} → Derived s x i j t → In u t → Own s u
+target-rows d a =
+    let w = stands a (first-stands (targets (d .derivation))) in
+    let n = uncovered a (d .no-cover) in
+    record { simple = λ e. record { derivation = w .simple e; no-cover = n }; pattern = λ e. record { derivation = w .pattern e; no-cover = n } }
