@@ -4,7 +4,7 @@
     tests/reader.py --input    the program's standard input
     tests/reader.py            what it must print
 
-The sheets: P1 to P10 of docs/RULES.md, to the last word; those of docs/DECISIONS.md (tests/readings.py); the limits of the checks 1 to 7;
+The sheets: P1 to P10 and G1 to G7 of docs/RULES.md, to the last word; those of docs/DECISIONS.md (tests/readings.py); the limits of the checks 1 to 7;
 and the longest chains, whose rows are written out here by counting, one formula a family. Nothing here reads a sheet.
 """
 import sys
@@ -55,6 +55,16 @@ whole(tokens('[...a,] = b')[0], [(40, 2, 2, 3, 0, 1), (44, 1, 1, 3, 1, 2), (42, 
 refused(tokens('[...a, b] = c')[0], 10, 1)
 whole(tokens('a - b + c')[0], [(1, 0, 0, 1, 0, 1), (1, 2, 2, 3, 0, 1), (22, 1, 0, 3, 2, 3), (1, 4, 4, 5, 0, 1), (22, 3, 0, 5, 2, 5)], [], 0)
 whole(tokens('a ?? b || c')[0], [(1, 0, 0, 1, 0, 1), (1, 2, 2, 3, 0, 1), (1, 4, 4, 5, 0, 1), (23, 3, 2, 5, 2, 3), (23, 1, 0, 5, 2, 5)], [(6, 1)], 0)
+
+# G1 to G7
+whole(tokens('a + b * c')[0], [(1, 0, 0, 1, 0, 1), (1, 2, 2, 3, 0, 1), (1, 4, 4, 5, 0, 1), (22, 3, 2, 5, 2, 3), (22, 1, 0, 5, 2, 5)], [], 0)
+whole(tokens('a * b + c')[0], [(1, 0, 0, 1, 0, 1), (1, 2, 2, 3, 0, 1), (22, 1, 0, 3, 2, 3), (1, 4, 4, 5, 0, 1), (22, 3, 0, 5, 2, 5)], [], 0)
+whole(tokens('a ** b ** c')[0], [(1, 0, 0, 1, 0, 1), (1, 2, 2, 3, 0, 1), (1, 4, 4, 5, 0, 1), (22, 3, 2, 5, 2, 3), (22, 1, 0, 5, 2, 5)], [], 0)
+whole(tokens('a < b == c')[0], [(1, 0, 0, 1, 0, 1), (1, 2, 2, 3, 0, 1), (22, 1, 0, 3, 2, 3), (1, 4, 4, 5, 0, 1), (22, 3, 0, 5, 2, 5)], [], 0)
+whole(tokens('a && b || c')[0], [(1, 0, 0, 1, 0, 1), (1, 2, 2, 3, 0, 1), (23, 1, 0, 3, 2, 3), (1, 4, 4, 5, 0, 1), (23, 3, 0, 5, 2, 5)], [], 0)
+whole(tokens('a = b = c')[0], [(40, 0, 0, 1, 0, 1), (40, 2, 2, 3, 0, 1), (1, 4, 4, 5, 0, 1), (25, 3, 2, 5, 2, 3), (25, 1, 0, 5, 2, 5)], [], 0)
+whole(tokens('a ? b : c ? d : e')[0], [(1, 0, 0, 1, 0, 1), (1, 2, 2, 3, 0, 1), (1, 4, 4, 5, 0, 1), (1, 6, 6, 7, 0, 1), (1, 8, 8, 9, 0, 1), (24, 5, 4, 9, 3, 4),
+                                       (24, 1, 0, 9, 3, 7)], [], 0)
 
 # the sheets of docs/DECISIONS.md
 for text, pattern, kinds, flags, want in cases():

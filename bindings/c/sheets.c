@@ -52,6 +52,10 @@ int main(void) {
     expect("no row", vuolmaset_convert(name, 6, 1, records, 2, &first, &second, &third) == 14);
     const uint8_t head[] = {18, 19, 29};
     expect("a head", vuolmaset_three_way(head, 3, flags, 3, false, false, 0, &first) == 0 && first == 1);
+    const uint8_t typed[] = {18, 19, 25}, generic[] = {48, 1, 24};
+    expect("`() :` without TypeScript", vuolmaset_three_way(typed, 3, flags, 3, false, true, 0, &first) == 0 && first == 0);
+    expect("`() :` in TypeScript", vuolmaset_three_way(typed, 3, flags, 3, true, false, 0, &first) == 0 && first == 1);
+    expect("`< a ,` in JSX", vuolmaset_three_way(generic, 3, flags, 3, false, true, 0, &first) == 0 && first == 1);
     expect("levels", vuolmaset_precedence(3) == 8 && vuolmaset_expression_precedence(3) == 0);
     if (!failed) {
         puts("C: all as expected");

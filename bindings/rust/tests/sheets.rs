@@ -133,5 +133,10 @@ fn the_other_functions() {
     assert_eq!(three_way(&[18, 19, 29], &[0; 3], false, false, 0), Ok(Tristate::True));
     assert_eq!(three_way(&[18, 1, 19], &[0; 3], false, false, 0), Ok(Tristate::Maybe));
     assert_eq!(three_way(&[18, 12, 19], &[0; 3], false, false, 0), Ok(Tristate::False));
+    // `() :` is a head in TypeScript alone, `< a ,` in JSX for certain
+    assert_eq!(three_way(&[18, 19, 25], &[0; 3], false, true, 0), Ok(Tristate::False));
+    assert_eq!(three_way(&[18, 19, 25], &[0; 3], true, false, 0), Ok(Tristate::True));
+    assert_eq!(three_way(&[48, 1, 24], &[0; 3], true, false, 0), Ok(Tristate::Maybe));
+    assert_eq!(three_way(&[48, 1, 24], &[0; 3], false, true, 0), Ok(Tristate::True));
     assert_eq!((precedence(3), expression_precedence(3), precedence(62), precedence(255)), (8, 0, 12, 0));
 }
