@@ -5,7 +5,8 @@
     tests/contracts.py --lines    writes the lines of the files that docs/AUDIT.md lists, and their sums
 
 Every public function of a library crate is named in docs/CONTRACTS.md, under the heading of its crate. Every file of a crate that docs/RULES.md or docs/AUDIT.md
-cites is there, and so is every name that stands after it: `grammar/specs/Arrow.antt body-of`. The files that docs/AUDIT.md lists have as many lines as it says, and
+cites is there, and so is every name that stands after it: `grammar/specs/Arrow.antt body-of`. Every theorem that README names, and every wrong program that
+docs/CONTRACTS.md names, is there. The files that docs/AUDIT.md lists have as many lines as it says, and
 at most 3,300 for each demand. The tables T4 and R5 of the rules are those of the definitions. No line of prose of these documents is longer than 200 characters.
 """
 import glob
@@ -42,17 +43,23 @@ def sections(text):
 
 
 def defined(text):
-    """The names that a file of definitions or of code defines: what stands before a colon or a parenthesis, after words such as `pub`."""
+    """The names that a file of definitions or of code declares: those before the colon of a type, and those of functions and types."""
     names = set()
     for line in text.split('\n'):
         code = re.split(r'(?:^|\s)(?:--|//)', line)[0]
-        m = re.match(r'\s*(?:(?:pub|abbrev|unfoldable|record|data|mutual|const|fn|enum|struct)\s+)*([^:(]+?)\s*[:(]', code)
-        if m and not code.lstrip().startswith(('use ', 'pub use ', 'ghost ')):
+        if code.lstrip().startswith(('use ', 'pub use ', 'ghost ')):
+            continue
+        m = re.match(r'\s*(?:(?:pub|abbrev|unfoldable|const)\s+)*([^\s:(){}=λ,]+(?:\s+[^\s:(){}=λ,]+)*)\s*:', code)
+        if m:
             names.update(m.group(1).split())
-        m = re.match(r'\s*(?:pub )?(?:record|data|enum|struct) (\S+)', code)
+        m = re.match(r'\s*(?:pub )?(?:extern "C" )?(?:record|data|enum|struct|fn) ([^\s(]+)', code)
         if m:
             names.add(m.group(1))
     return names
+
+
+def all_defined(pattern):
+    return set().union(*(defined(text_of(os.path.relpath(path, ROOT))) for path in glob.glob(os.path.join(ROOT, pattern), recursive=True)))
 
 
 # the public functions, by crate
@@ -83,7 +90,7 @@ for document in CITING:
                 wrong.append('%s: %s defines no %s' % (document, full, name))
 
 # the files that have to be read, with their lines, and the sums of each demand's
-LISTED = re.compile(r'^\| `(\S+\.antt)`([^|]*)\| (\d+) \|(.*)\|$')
+LISTED = re.compile(r'^\| `(\S+\.(?:antt|rt))`([^|]*)\| (\d+) \|(.*)\|$')
 sums = [0, 0, 0, 0]
 made = []
 for line in text_of(AUDIT).split('\n'):
@@ -104,6 +111,21 @@ elif '\n'.join(made) != text_of(AUDIT):
     wrong.append('%s: the lines of the files are others; --lines writes them' % AUDIT)
 if max(sums[1:]) > MOST:
     wrong.append('%s: a demand rests on %d lines, over %d' % (AUDIT, max(sums[1:]), MOST))
+
+# what README says of them, and the theorems that it names; the wrong programs that the contracts name
+README = text_of('README.md')
+for number in (sums[0], max(sums[1:])):
+    if '{:,}'.format(number) not in README:
+        wrong.append('README.md does not say %s lines' % '{:,}'.format(number))
+statements = all_defined('crates/*/specs/*.antt')
+for name in re.findall(r'`([a-z]+(?:-[a-z]+)+)`', README[README.index('**Proved,**'):README.index('**Assumed:**')]):
+    if name not in statements:
+        wrong.append('README.md: there is no %s' % name)
+known = all_defined('crates/*/src/*.rt') | {os.path.basename(path)[:-5] for path in glob.glob(os.path.join(ROOT, 'crates/*/must-fail/*.edit'))}
+known |= {crate for crate in os.listdir(os.path.join(ROOT, 'crates'))}
+for name in re.findall(r'`([a-z0-9]+(?:_[a-z0-9]+)+)`', text_of(CONTRACTS)):
+    if name not in known:
+        wrong.append('%s: %s is no function, no crate and no wrong program' % (CONTRACTS, name))
 
 # the numbers of RULES T4 and R5, held to those of the definitions
 def numbered(start, end):

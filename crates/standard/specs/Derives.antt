@@ -7,7 +7,7 @@
 -- need the text of a token (15.1.1 a parameter twice, 13.2.5.1 `__proto__` twice, 13.2.7.1 inside a regular expression) and those of strict mode are not judged: a kind does
 -- not tell a token's text, and the code is not strict.
 -- Nothing here converts, looks ahead, notes or counts steps, and no class or table of the reader is used: every terminal of every production is listed here.
--- What is shared with the reader is the numbers of tokens (tokens/specs/Kind.antt) and rows (rows/specs/Row.antt), and what a tree is.
+-- What is shared with the reader is the numbers of tokens (tokens/specs/Kind.antt) and rows (rows/specs/Row.antt), what a tree is, and the two lists of a Sheet.
 -- Assumes nothing: these are definitions.
 use Prim.Native.Nat.{ℕ, _+_}
 use mathlib.Core.Path.{_≡_}
