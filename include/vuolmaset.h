@@ -17,6 +17,8 @@
  * Returned 0, `*first` is the number of rows, `*second` of records, `*third` of abandoned heads. Returned a refusal, `*first` is its place, and the other
  * two are 0. No global state, no heap, no system call: the functions can be called from any thread, on buffers that are not shared.
  *
+ * What the numbers of token kinds, rows and records mean is in docs/RULES.md, under T4, R1 to R5 and N.
+ *
  * The archive wants one function of its surroundings: `memset`, as the C library has it. It is all that `nm -u` finds undefined.
  *
  * A call takes stack by the depth of what it reads: under 18 KB for the measuring sheets of the bench, VUOLMASET_STACK_MEASURED bytes for the deepest
