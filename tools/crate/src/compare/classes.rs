@@ -13,7 +13,7 @@ pub fn outside(kinds: &[u8], here: &Reading, there: &CrateReading) -> Option<&'s
     }
     let fatal = there.fatal.as_ref()?;
     match (number, fatal.what) {
-        (8, "unexpected_token") if kinds.get(place as usize) == Some(&59) && fatal.span.start > place => {
+        (8, _) if kinds.get(place as usize) == Some(&59) && fatal.span.start > place => {
             Some("`*` as a property's first token: 8 at it here; at a later token there")
         }
         (8, "unexpected_token") if fatal.span.start + 1 == place && matches!(kinds[fatal.span.start as usize], 14 | 15) => {
