@@ -27,7 +27,7 @@ while read -r _ file; do
     [ -f "$source/$file" ] || leave_out "no $file in $source (OXC_SOURCE names the folder src/js of oxc_parser 0.156.0)"
 done < "$here/sums.txt"
 command -v cargo > /dev/null || leave_out "no cargo"
-printf '1.85\n%s\n' "$(rustc --version | cut -d' ' -f2)" | sort --check=quiet --version-sort || leave_out "rustc is older than 1.85 and has no edition 2024"
+printf '1.88\n%s\n' "$(rustc --version | cut -d' ' -f2)" | sort --check=quiet --version-sort || leave_out "rustc is older than 1.88, which the crate's text needs"
 
 # Which text is run.
 if other=$(cd "$source" && sha256sum --check --quiet "$here/sums.txt" 2> /dev/null); then

@@ -25,7 +25,7 @@ pub use stand_in::{ast, diagnostics, lexer, modifiers};
 
 use compare::runs::{How, Run, run};
 use compare::sides::{Entry, Room, read_here, read_there};
-use compare::tally::{Tally, grouped};
+use compare::tally::{Tally, grouped, sum};
 use compare::text::show;
 use lists::List;
 use stand_in::guess::{GUESSES, Guess};
@@ -68,7 +68,7 @@ fn runs(names: &[String]) -> Result<Vec<Run>, String> {
 
 /// One line of the table.
 fn table_line(name: &str, tally: &Tally, seconds: f64, stopped: bool) -> String {
-    let outside: u64 = tally.outside.values().map(|class| class.count).sum();
+    let outside = sum(&tally.outside);
     let end = if stopped { ", stopped by its time" } else { "" };
     format!(
         "{name:<28} {:>14} {:>14} {:>10} {:>11} {seconds:>8.1}  {}{end}",
@@ -84,40 +84,36 @@ fn table_line(name: &str, tally: &Tally, seconds: f64, stopped: bool) -> String 
 fn compare_all(told: &Told, names: &[String]) -> Result<bool, String> {
     let runs = runs(names)?;
     println!("{:<28} {:>14} {:>14} {:>10} {:>11} {:>8}  what", "run", "lists", "compared", "outside", "differences", "seconds");
-    let mut sum = Tally::default();
+    let mut all = Tally::default();
     let begun = Instant::now();
     for one in &runs {
         let start = Instant::now();
         let (tally, stopped) = run(one, told.how, &told.printed);
         println!("{}", table_line(&one.name, &tally, start.elapsed().as_secs_f64(), stopped));
-        sum.add(&tally);
+        all.add(&tally);
     }
-    sum.counts.clear();
-    println!("{}", table_line("all", &sum, begun.elapsed().as_secs_f64(), false));
-    sum.print_classes();
-    Ok(sum.differences.is_empty())
+    all.counts.clear();
+    println!("{}", table_line("all", &all, begun.elapsed().as_secs_f64(), false));
+    all.print_classes();
+    Ok(all.difference_count() == 0)
 }
 
-/// The runs under each guess: whether one changes what is compared, and which classes outside of the comparison it changes.
+/// The runs under each guess: whether one changes what is compared, and what it changes beyond that.
 fn compare_guesses(told: &Told, names: &[String]) -> Result<bool, String> {
     let runs = runs(names)?;
     let mut usual: Option<Tally> = None;
     let mut same = true;
+    println!("| guess | lists | compared | differences | beyond the comparison: of no known class | known classes |\n|---|---|---|---|---|---|");
     for (guess, says) in GUESSES {
-        let mut sum = Tally::default();
-        runs.iter().for_each(|one| sum.add(&run(one, How { guess, ..told.how }, &told.printed).0));
-        let count = |tally: &Tally| tally.outside.iter().map(|(name, class)| (name.clone(), class.count)).collect::<Vec<_>>();
-        let moved = usual.as_ref().is_some_and(|usual| count(usual) != count(&sum));
-        println!(
-            "{says}: {} lists, {} compared, {} differences; classes outside of the comparison {}",
-            grouped(sum.lists),
-            grouped(sum.compared),
-            grouped(sum.difference_count()),
-            if moved { "change" } else { "as they are" }
-        );
-        sum.differences.iter().for_each(|(name, class)| println!("  DIFFERENCE: {name}: {}; smallest: {}", grouped(class.count), class.sample));
-        same &= sum.differences.is_empty();
-        usual.get_or_insert(sum);
+        let mut all = Tally::default();
+        runs.iter().for_each(|one| all.add(&run(one, How { guess, ..told.how }, &told.printed).0));
+        let counts = |tally: &Tally| tally.outside.iter().map(|(name, class)| (*name, class.count)).collect::<Vec<_>>();
+        let moved = usual.as_ref().is_some_and(|usual| counts(usual) != counts(&all));
+        let first = all.beyond.values().next().map_or(String::new(), |class| format!(", as `{}`", class.sample));
+        let numbers = [all.lists, all.compared, sum(&all.differences)].map(grouped).join(" | ");
+        println!("| {says} | {numbers} | {}{first} | {} |", grouped(sum(&all.beyond)), if moved { "other counts" } else { "the same counts" });
+        same &= all.differences.is_empty();
+        usual.get_or_insert(all);
     }
     Ok(same)
 }

@@ -52,7 +52,7 @@ fn clean(list: &List, here: &Reading, there: &CrateReading, tally: &mut Tally) {
         tally.differs("tree of a clean list", list.len(), || format!("{} | {rows:?} here, {:?} there", show(list), there.rows));
     }
     if here.abandoned != there.noted {
-        tally.differs("abandoned heads of a clean list", list.len(), || format!("{} | {} here, {} there", show(list), here.abandoned, there.noted));
+        tally.differs_beyond("abandoned heads of a clean list", list.len(), || format!("{} | {} here, {} there", show(list), here.abandoned, there.noted));
     }
 }
 
@@ -60,15 +60,15 @@ fn clean(list: &List, here: &Reading, there: &CrateReading, tally: &mut Tally) {
 fn with_records(list: &List, here: &Reading, there: &CrateReading, tally: &mut Tally) {
     let numbers: Vec<u32> = there.errors.iter().map(record_number).collect();
     if here.record_numbers() != numbers {
-        return tally.differs("records", list.len(), || told(list, here, there));
+        return tally.differs_beyond("records", list.len(), || told(list, here, there));
     }
     let is_apart = |(record, place): (&[u32; 2], u32)| matches!(record[0], 1 | 3 | 6 | 7) && record[1] != place;
     if here.records.iter().zip(there.errors.iter().map(|error| error.span.start)).any(is_apart) {
-        tally.differs("a record's place", list.len(), || told(list, here, there));
+        tally.differs_beyond("a record's place", list.len(), || told(list, here, there));
     }
     let rows = without_parentheses(&here.rows);
     if rows != there.rows {
-        tally.differs("tree of a list with records", list.len(), || format!("{} | {rows:?} here, {:?} there", show(list), there.rows));
+        tally.differs_beyond("tree of a list with records", list.len(), || format!("{} | {rows:?} here, {:?} there", show(list), there.rows));
     }
 }
 
@@ -81,6 +81,6 @@ fn same_refusal((number, place): (u32, u32), other: u32, start: u32) -> bool {
 fn unlike(list: &List, here: &Reading, there: &CrateReading, tally: &mut Tally) {
     match classes::outside(&list.kinds, here, there) {
         Some(class) => tally.outside(class, list.len(), || told(list, here, there)),
-        None => tally.differs("neither clean, of no known class", list.len(), || told(list, here, there)),
+        None => tally.differs_beyond("neither clean, other refusals or places", list.len(), || told(list, here, there)),
     }
 }

@@ -15,8 +15,9 @@ pub struct Tally {
     pub lists: u64,
     pub compared: u64,
     pub counts: BTreeMap<&'static str, u64>,
-    pub differences: BTreeMap<String, Class>,
-    pub outside: BTreeMap<String, Class>,
+    pub differences: BTreeMap<&'static str, Class>,
+    pub beyond: BTreeMap<&'static str, Class>,
+    pub outside: BTreeMap<&'static str, Class>,
 }
 
 impl Tally {
@@ -26,12 +27,17 @@ impl Tally {
     }
 
     /// A difference in what is to be compared: the run fails.
-    pub fn differs(&mut self, class: &str, length: usize, sample: impl FnOnce() -> String) {
+    pub fn differs(&mut self, class: &'static str, length: usize, sample: impl FnOnce() -> String) {
         hit(&mut self.differences, class, length, sample);
     }
 
+    /// A difference beyond the comparison (a record, a refusal, the abandoned heads), of no known class: the run fails too.
+    pub fn differs_beyond(&mut self, class: &'static str, length: usize, sample: impl FnOnce() -> String) {
+        hit(&mut self.beyond, class, length, sample);
+    }
+
     /// A difference outside of the comparison, of a class that is known.
-    pub fn outside(&mut self, class: &str, length: usize, sample: impl FnOnce() -> String) {
+    pub fn outside(&mut self, class: &'static str, length: usize, sample: impl FnOnce() -> String) {
         hit(&mut self.outside, class, length, sample);
     }
 
@@ -42,7 +48,8 @@ impl Tally {
         for (name, count) in &other.counts {
             *self.counts.entry(name).or_default() += count;
         }
-        for (into, from) in [(&mut self.differences, &other.differences), (&mut self.outside, &other.outside)] {
+        let pairs = [(&mut self.differences, &other.differences), (&mut self.beyond, &other.beyond), (&mut self.outside, &other.outside)];
+        for (into, from) in pairs {
             for (name, class) in from {
                 hit(into, name, class.length, || class.sample.clone());
                 into.get_mut(name).unwrap().count += class.count - 1;
@@ -50,9 +57,9 @@ impl Tally {
         }
     }
 
-    /// How many answers differ in what is compared.
+    /// How many answers differ in a way that no known class has.
     pub fn difference_count(&self) -> u64 {
-        self.differences.values().map(|class| class.count).sum()
+        sum(&self.differences) + sum(&self.beyond)
     }
 
     /// The named counts in one line.
@@ -62,12 +69,17 @@ impl Tally {
 
     /// The classes, a line each.
     pub fn print_classes(&self) {
-        for (sort, classes) in [("DIFFERENCE", &self.differences), ("outside", &self.outside)] {
+        for (sort, classes) in [("DIFFERENCE", &self.differences), ("DIFFERENCE beyond the comparison", &self.beyond), ("outside", &self.outside)] {
             for (name, class) in classes {
                 println!("  {sort}: {name}: {}; smallest: {}", grouped(class.count), class.sample);
             }
         }
     }
+}
+
+/// How many there are in all classes.
+pub fn sum(classes: &BTreeMap<&'static str, Class>) -> u64 {
+    classes.values().map(|class| class.count).sum()
 }
 
 /// Of two samples the shorter one is kept, then the one with fewer breaks, then the first by its text: always the same one.
@@ -76,7 +88,7 @@ fn rank(length: usize, sample: &str) -> (usize, usize, &str) {
 }
 
 /// One more of a class, with the better of its samples.
-fn hit(classes: &mut BTreeMap<String, Class>, name: &str, length: usize, sample: impl FnOnce() -> String) {
+fn hit(classes: &mut BTreeMap<&'static str, Class>, name: &'static str, length: usize, sample: impl FnOnce() -> String) {
     match classes.get_mut(name) {
         Some(class) => {
             class.count += 1;
@@ -88,7 +100,7 @@ fn hit(classes: &mut BTreeMap<String, Class>, name: &str, length: usize, sample:
             }
         }
         None => {
-            classes.insert(name.to_owned(), Class { count: 1, length, sample: sample() });
+            classes.insert(name, Class { count: 1, length, sample: sample() });
         }
     }
 }

@@ -16,10 +16,11 @@ pub enum Guess {
     CommaOfEveryArray,
     ParenthesesAsList,
     ShorthandReports,
+    BindingReports,
 }
 
 /// Each guess, and what it says.
-pub const GUESSES: [(Guess, &str); 13] = [
+pub const GUESSES: [(Guess, &str); 14] = [
     (Guess::Usual, "as the stand-ins are"),
     (Guess::FatalAtEnd, "has_fatal_error is also true at the end of the text"),
     (Guess::RestCommaStops, "a comma after a binding's rest stops instead of being reported"),
@@ -33,4 +34,5 @@ pub const GUESSES: [(Guess, &str); 13] = [
     (Guess::CommaOfEveryArray, "trailing_commas is filled for every array, not for those that end in a spread"),
     (Guess::ParenthesesAsList, "parentheses are read as a list with commas"),
     (Guess::ShorthandReports, "a binding's shorthand that is no name is reported and read on"),
+    (Guess::BindingReports, "a binding's name that is another word is reported and read on"),
 ];

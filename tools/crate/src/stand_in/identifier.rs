@@ -28,10 +28,13 @@ impl<'a, C: ParserConfig> ParserImpl<'a, C> {
 
     /// parse_binding_identifier: a name.
     pub fn parse_binding_identifier(&mut self) -> BindingIdentifier<'a> {
-        if !self.cur_kind().is_name() {
-            return self.unexpected();
-        }
         let span = self.token.span();
+        if !self.cur_kind().is_name() {
+            if self.guess != Guess::BindingReports || !self.cur_kind().is_word() {
+                return self.unexpected();
+            }
+            self.error(diagnostics::unexpected_token(span));
+        }
         self.bump_any();
         BindingIdentifier::new(span, NAME, self)
     }

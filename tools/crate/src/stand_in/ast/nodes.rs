@@ -32,10 +32,12 @@ macro_rules! node {
         }
 
         impl<'a> $name<'a> {
+            /// The node.
             pub fn new<G>(span: Span, $($field: $type,)* _: &G) -> Self {
                 $name { span, $($field,)* arena: PhantomData }
             }
 
+            /// The node in a box.
             pub fn boxed<G>(span: Span, $($field: $type,)* builder: &G) -> ArenaBox<'a, Self> {
                 ArenaBox::of($name::new(span, $($field,)* builder))
             }
