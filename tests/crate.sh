@@ -17,7 +17,7 @@ if [ "$status" != 3 ] || [ "$(wc -l < "$said")" != 1 ]; then
 fi
 
 status=0
-tools/crate/run.sh short > "$said" 2> /dev/null || status=$?
+tools/crate/run.sh short > "$said" 2>&1 || status=$?
 case $status in
     0) grep -E '^(the five files|another text|run  |all  )' "$said" ;;
     3) cat "$said" ;;

@@ -109,7 +109,7 @@ fn compare_guesses(told: &Told, names: &[String]) -> Result<bool, String> {
         runs.iter().for_each(|one| all.add(&run(one, How { guess, ..told.how }, &told.printed).0));
         let counts = |tally: &Tally| tally.outside.iter().map(|(name, class)| (*name, class.count)).collect::<Vec<_>>();
         let moved = usual.as_ref().is_some_and(|usual| counts(usual) != counts(&all));
-        let first = all.beyond.values().next().map_or(String::new(), |class| format!(", as `{}`", class.sample));
+        let first = all.beyond.values().next().map_or(String::new(), |class| format!(", as `{}`", class.sample.split(" | ").next().unwrap()));
         let numbers = [all.lists, all.compared, sum(&all.differences)].map(grouped).join(" | ");
         println!("| {says} | {numbers} | {}{first} | {} |", grouped(sum(&all.beyond)), if moved { "other counts" } else { "the same counts" });
         same &= all.differences.is_empty();

@@ -49,12 +49,12 @@ impl Kind {
         }
     }
 
-    /// A name of the rules (T7).
+    /// A name of the rules (T5).
     pub fn is_name(self) -> bool {
         matches!(self.byte(), 1..=5)
     }
 
-    /// A word of the rules (T7): what may be a key, or stand after a dot. Kind::is_identifier_name in the crate.
+    /// A word of the rules (T6): what may be a key, or stand after a dot. Kind::is_identifier_name in the crate.
     pub fn is_word(self) -> bool {
         matches!(self.byte(), 1..=10 | 14..=17 | 32..=35 | 52 | 53)
     }
@@ -64,7 +64,7 @@ impl Kind {
         self == Kind::Decimal
     }
 
-    /// Kind::is_literal (T8).
+    /// Kind::is_literal (T7).
     pub fn is_literal(self) -> bool {
         matches!(self.byte(), 8..=13)
     }
