@@ -1,4 +1,4 @@
-"""Does the comparison see a fault? Each edit is put alone into a copy below target/, and the short runs must show a difference.
+"""Does the comparison see a fault? Each edit is put alone into a copy below target/, and the short runs must show a difference (with windows of 5 for the worker).
 
     python3 -B tools/crate/sensitivity.py twin      faults in a copy of bench/twin, which is asked instead of the archive
     python3 -B tools/crate/sensitivity.py files     edits of a copy of the crate's five files (the text of 0.156.0, by lines), the archive is asked
@@ -77,15 +77,15 @@ def edited(text, line, old, new):
 def compared(root, source, reader, target):
     """The short runs of a copy: the runs that saw something, how many differences, and the shortest sample with its class."""
     environment = dict(os.environ, OXC_SOURCE=source, READER=reader, CRATE_TARGET=os.path.join(WORK, target))
-    done = subprocess.run([os.path.join(root, 'tools/crate/run.sh'), 'short'], env=environment, capture_output=True, text=True)
+    done = subprocess.run(['bash', os.path.join(root, 'tools/crate/run.sh'), 'short', 'three:looked:5'], env=environment, capture_output=True, text=True)
     if 'could not compile' in done.stderr or done.returncode == 3:
         sys.exit(done.stdout + done.stderr)
     rows = [row.split() for row in re.findall(r'^[a-z]+[a-z0-9:]* +[0-9,]+ .*', done.stdout, re.M)]
     seen = [row[0] for row in rows if row[4] != '0' and row[0] != 'all']
     total = next((row[4] for row in rows if row[0] == 'all'), 'stops')
-    classes = re.findall(r'^  DIFFERENCE: (.*?): [0-9,]+; smallest: (.*)', done.stdout, re.M)
-    class_name, sample = min(classes, key=lambda one: len(one[1]), default=('', ''))
-    return seen, total, '%s: `%s`' % (class_name, sample.split(' | ')[0].replace('|', '\\|')) if classes else ''
+    classes = re.findall(r'^  DIFFERENCE(?: beyond the comparison)?: (.*?): [0-9,]+; smallest: (.*)', done.stdout, re.M)
+    sheets = [(name, re.split(r' \| |, row | at \d+, TypeScript |: ', sample)[0].replace('|', '\\|')) for name, sample in classes]
+    return seen, total, '%s: `%s`' % min(sheets, key=lambda one: len(one[1])) if sheets else ''
 
 
 def show(what, seen, total, sample):
@@ -99,7 +99,8 @@ def faults_in_twin():
     copy = os.path.join(WORK, 'copy')
     shutil.rmtree(copy, ignore_errors=True)
     for folder in COPIED:
-        shutil.copytree(os.path.join(ROOT, folder), os.path.join(copy, folder), ignore=shutil.ignore_patterns('target'))
+        # With new times, so that what was built of an older copy is built again.
+        shutil.copytree(os.path.join(ROOT, folder), os.path.join(copy, folder), copy_function=shutil.copyfile, ignore=shutil.ignore_patterns('target'))
     for what, name, old, new in [('no fault', 'lib.rs', '', '')] + TWIN:
         path = os.path.join(copy, 'bench/twin/src', name)
         text = open(path).read()
