@@ -53,7 +53,7 @@ runs_of() { # LISTS..
     for part in "${parts[@]}"; do for lists in "$@"; do echo "$part:$lists"; done; done
 }
 mapfile -t short < <(printf '%s\n' operators three:windows:{1,2,3} three:looked:4 three:words:{2,3} && runs_of small:{1,2,3} random:1:20000:60)
-mapfile -t more < <(printf '%s\n' three:looked:{5,6} three:words:4 && runs_of small:4 matched:{4,5,6}:{0,1,2} random:2:1000000:100 random:3:20000:2048 && echo object:random:4:2500000:100)
+mapfile -t more < <(printf '%s\n' three:looked:{5,6} three:wide:{4,5} three:words:4 && runs_of small:4 matched:{4,5,6}:{0,1,2} random:2:1000000:100 random:3:20000:2048 && echo object:random:4:2500000:100)
 mapfile -t guessed < <(runs_of small:{1,2,3} matched:{4,5}:{0,1,2} random:4:200000:60)
 case ${1:-short} in
     short) words=("${short[@]}" "${@:2}") ;;

@@ -84,7 +84,7 @@ def compared(root, source, reader, target):
     seen = [row[0] for row in rows if row[4] != '0' and row[0] != 'all']
     total = next((row[4] for row in rows if row[0] == 'all'), 'stops')
     classes = re.findall(r'^  DIFFERENCE(?: beyond the comparison)?: (.*?): [0-9,]+; smallest: (.*)', done.stdout, re.M)
-    sheets = [(name, re.split(r' \| |, row | at \d+, TypeScript |: ', sample)[0].replace('|', '\\|')) for name, sample in classes]
+    sheets = [(name, re.split(r' \| |, row | at \d+, TypeScript |: \S+ here', sample)[0].replace('|', '\\|')) for name, sample in classes]
     return seen, total, '%s: `%s`' % min(sheets, key=lambda one: len(one[1])) if sheets else ''
 
 

@@ -4,7 +4,7 @@
 //!     against guesses RUN..                                             the same runs under each guess of stand_in/guess.rs, a line for each
 //!     against one read|pattern KINDS FLAGS                              one list in hexadecimal, as in bench/twin/src/protocol.rs: what both sides say
 //!
-//!     RUN: operators | three:windows:LENGTH | three:looked:LENGTH | three:words:LENGTH | PART:small:LENGTH | PART:matched:LENGTH:ALPHABET |
+//!     RUN: operators | three:windows:LENGTH | three:looked:LENGTH | three:wide:LENGTH | three:words:LENGTH | PART:small:LENGTH | PART:matched:LENGTH:ALPHABET |
 //!          PART:random:SEED:COUNT:LONGEST, where PART is read, pattern, object or convert
 extern crate self as oxc_allocator;
 extern crate self as oxc_ast;

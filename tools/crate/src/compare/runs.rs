@@ -37,6 +37,8 @@ pub enum Lists {
     Windows(usize),
     /// All windows of a length over the kinds that the worker looks at, from `(`, `<` and `async`: no break, one at each place, all.
     Looked(usize),
+    /// All windows of a length over all kinds, from `(`, `<` and `async`: no break, and one after the first token.
+    Wide(usize),
     /// Windows with each word of the bytes 5 and 17 in turn.
     Words(usize),
     /// All of a length over all kinds, with every break that counts.
@@ -74,6 +76,7 @@ impl Run {
             ("kinds", []) if part == Part::Operators => Lists::Kinds,
             ("windows", &[n]) if part == Part::Three => Lists::Windows(n as usize),
             ("looked", &[n]) if part == Part::Three => Lists::Looked(n as usize),
+            ("wide", &[n]) if part == Part::Three => Lists::Wide(n as usize),
             ("words", &[n]) if part == Part::Three => Lists::Words(n as usize),
             ("small", &[n]) if part as u8 > Part::Three as u8 => Lists::Small(n as usize),
             ("matched", &[n, alphabet]) if part as u8 > Part::Three as u8 && alphabet < 3 => Lists::Matched(n as usize, alphabet as usize),
@@ -102,6 +105,11 @@ fn words_over(alphabet: &[u8], length: usize, each: &mut dyn FnMut(&[u8])) {
     }
 }
 
+/// All words of a length over an alphabet, but for the first token, which is one of those at which the worker is asked.
+fn from_starts(alphabet: &[u8], length: usize, each: &mut dyn FnMut(&[u8])) {
+    words_over(alphabet, length - 1, &mut |after| [2, 18, 48].into_iter().for_each(|start| each(&[&[start], after].concat())));
+}
+
 /// A list with the breaks that the bits of a number say.
 fn with_bits(kinds: &[u8], bits: u32) -> List {
     List { kinds: kinds.to_vec(), flags: (0..kinds.len()).map(|at| (bits >> at & 1) as u8).collect() }
@@ -114,12 +122,12 @@ fn windows(lists: Lists, each: &mut dyn FnMut(&List, &[Kind])) {
         Lists::Windows(length) => words_over(&(1..=78).collect::<Vec<u8>>(), length, &mut |kinds| {
             (0..1 << length).for_each(|bits| each(&with_bits(kinds, bits), &plain(kinds)));
         }),
-        Lists::Looked(length) => words_over(&LOOKED, length - 1, &mut |after| {
-            for start in [2, 18, 48] {
-                let kinds = [&[start], after].concat();
-                let one_or_all = (0..length).map(|at| 1 << at).chain([0, (1 << length) - 1]);
-                one_or_all.for_each(|bits| each(&with_bits(&kinds, bits), &plain(&kinds)));
-            }
+        Lists::Looked(length) => from_starts(&LOOKED, length, &mut |kinds| {
+            let one_or_all = (0..length).map(|at| 1 << at).chain([0, (1 << length) - 1]);
+            one_or_all.for_each(|bits| each(&with_bits(kinds, bits), &plain(kinds)));
+        }),
+        Lists::Wide(length) => from_starts(&(1..=78).collect::<Vec<u8>>(), length, &mut |kinds| {
+            [0, 2].into_iter().for_each(|bits| each(&with_bits(kinds, bits), &plain(kinds)));
         }),
         Lists::Words(length) => {
             for word in MODIFIER_NAMES.into_iter().chain(RESERVED_WORDS) {
@@ -232,7 +240,7 @@ impl Share<'_> {
             Lists::Random(seed, count, longest) => self.work_random(run, seed, count, longest, &mut told),
             _ => windows(run.lists, &mut |list, kinds| {
                 if self.takes_next() {
-                    let places = if matches!(run.lists, Lists::Looked(_)) { 0..1 } else { 0..list.len() };
+                    let places = if matches!(run.lists, Lists::Looked(_) | Lists::Wide(_)) { 0..1 } else { 0..list.len() };
                     lookahead::compare(list, kinds, places, &mut self.tally);
                     self.tell(&mut told);
                 }
