@@ -45,7 +45,7 @@ CRATE = [
     ('a head that failed is not noted', 'arrow.rs', 368, '', ''),
     ('([a]) = b', 'grammar.rs', 42, 'ArrayExpression', 'ThisExpression'),
     ('a spread before others in an array', 'grammar.rs', 112, 'len - 1', 'i'),
-    ("record 3 of an array's rest", 'grammar.rs', 124, '', ''),
+    ("a pattern as an array's rest", 'grammar.rs', 118, 'ArrayExpression', 'ThisExpression'),
     ("record 4 of an array's rest", 'grammar.rs', 129, '', ''),
     ('holes of a target', 'grammar.rs', 136, 'elements.push', 'drop::<Option<()>>'),
     ('record 5', 'grammar.rs', 148, '!=', '=='),

@@ -8,6 +8,6 @@ export OXC_PARSER=${OXC_PARSER:-$(realpath -m "$here/../../target/oxc")}
 if ! [ -d "$OXC_PARSER/node_modules/oxc-parser" ]; then
     command -v npm > /dev/null || { echo "tools/judges/oxc.sh: npm is missing (apt-get install npm)"; exit 1; }
     mkdir -p "$OXC_PARSER"
-    npm install --silent --no-save --prefix "$OXC_PARSER" oxc-parser@0.156.0 || { echo "tools/judges/oxc.sh: oxc-parser 0.156.0 could not be installed in $OXC_PARSER"; exit 1; }
+    npm install --silent --no-save --fetch-retries 1 --prefix "$OXC_PARSER" oxc-parser@0.156.0 || { echo "tools/judges/oxc.sh: oxc-parser 0.156.0 could not be installed in $OXC_PARSER"; exit 1; }
 fi
 exec "$here/run.sh" "$@"
