@@ -4,6 +4,8 @@ use std::{env, fs};
 
 fn main() {
     println!("cargo:rerun-if-env-changed=OXC_SOURCE");
+    // The checksum of the five files: another text is compiled anew even if its files are older.
+    println!("cargo:rerun-if-env-changed=OXC_SUM");
     let folder = PathBuf::from(env::var_os("OXC_SOURCE").expect("OXC_SOURCE names no folder; tools/crate/run.sh does"));
     let folder = folder.canonicalize().expect("OXC_SOURCE is no folder");
     let mut modules = String::new();

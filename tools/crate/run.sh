@@ -38,6 +38,8 @@ fi
 
 # Who is asked.
 export OXC_SOURCE=$source
+OXC_SUM=$(cd "$source" && cut -d' ' -f3 "$here/sums.txt" | xargs cat | sha256sum | cut -d' ' -f1)
+export OXC_SUM
 features=()
 if [ "${READER:-archive}" = archive ]; then
     export VUOLMASET_ARCHIVE=${ARCHIVE:-$root/target/staticlib/libvuolmaset.a}
