@@ -51,5 +51,6 @@ trap 'rm -f "$log"' EXIT
 rt ci </dev/null | tee "$log"
 passes tests/sheet.sh
 passes tests/archive.sh
+passes tests/crate.sh
 passes tests/tools.sh
 tail -n 1 "$log"

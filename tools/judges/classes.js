@@ -99,7 +99,8 @@ function typescriptClass(it, accepts) {
   return null;
 }
 
-const CLASSES = { acorn: acornClass, babel: babelClass, V8: v8Class, SpiderMonkey: spiderMonkeyClass, TypeScript: typescriptClass };
+// The package of the crate has no known class: it was not run where this was written.
+const CLASSES = { acorn: acornClass, babel: babelClass, V8: v8Class, SpiderMonkey: spiderMonkeyClass, TypeScript: typescriptClass, oxc: () => null };
 // The class of a judge's disagreement, or nothing. A tree that differs, and the plain reader, have no class.
 function classOf(it, unlike) {
   if (unlike.how !== 'accepts' && unlike.how !== 'refuses') return null;

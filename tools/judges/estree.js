@@ -1,4 +1,4 @@
-// The rows of RULES R from an ESTree, so that a whole tree can be held to the tree of acorn or babel.
+// The rows of RULES R from an ESTree, so that a whole tree can be held to the tree of acorn, babel or oxc-parser.
 'use strict';
 
 // The kinds of names and patterns, by what they are: an expression, a target or a binding.
@@ -8,19 +8,29 @@ const BINDING = 2;
 const NAME = [1, 40, 30];
 
 class Rows {
-  constructor(spelled) {
+  // `shift` is how far the text was moved to the right; `kinds` are given for a tree without parentheses in targets.
+  constructor(spelled, { shift = 0, kinds = [] } = {}) {
     this.starts = spelled.starts;
     this.ends = spelled.ends;
+    this.shift = shift;
+    this.kinds = kinds;
     this.words = [];
     this.count = 0;
   }
 
   first(node) {
-    return this.starts.get(node.start);
+    return this.starts.get(node.start - this.shift);
   }
 
   end(node) {
-    return this.ends.get(node.end);
+    return this.ends.get(node.end - this.shift);
+  }
+
+  // The place after a target, past the parentheses that its tree has dropped.
+  past(node) {
+    let place = this.end(node);
+    while (this.kinds[place] === 19) place += 1;
+    return place;
   }
 
   push(kind, mark, first, end, kids, from) {
@@ -52,7 +62,7 @@ class Rows {
         place += 1;
       } else {
         this.put(element, side);
-        place = this.end(element) + 1;
+        place = this.past(element) + 1;
       }
     }
   }
@@ -107,7 +117,7 @@ const WRITE = {
   SpreadElement: (r, node, first) => r.over(10, first, node, 1, () => r.put(node.argument, EXPRESSION)),
   RestElement: (r, node, first, side) => r.over([0, 44, 33][side], first, node, 1, () => r.put(node.argument, side)),
   AssignmentPattern: (r, node, first, side) =>
-    r.over([0, 45, 34][side], r.end(node.left), node, 2, () => {
+    r.over([0, 45, 34][side], r.past(node.left), node, 2, () => {
       r.put(node.left, side);
       r.put(node.right, EXPRESSION);
     }),
@@ -124,7 +134,7 @@ const WRITE = {
   ConditionalExpression: (r, node) =>
     r.over(24, r.end(node.test), node, 3, () => r.all([node.test, node.consequent, node.alternate], EXPRESSION)),
   AssignmentExpression: (r, node) =>
-    r.over(node.operator === '=' ? 25 : 26, r.end(node.left), node, 2, () => {
+    r.over(node.operator === '=' ? 25 : 26, r.past(node.left), node, 2, () => {
       r.put(node.left, TARGET);
       r.put(node.right, EXPRESSION);
     }),
@@ -138,8 +148,8 @@ const WRITE = {
 };
 
 // The words of all rows of a tree; of a binding, those of the arrow's one parameter.
-function rowsOf(tree, spelled, pattern) {
-  const rows = new Rows(spelled);
+function rowsOf(tree, spelled, pattern, how) {
+  const rows = new Rows(spelled, how);
   if (pattern) rows.all(tree.params, BINDING);
   else rows.put(tree, EXPRESSION);
   return rows.words;

@@ -1,5 +1,5 @@
-// Holds a reader to the outside judges over many lists: clean or not with all of them, every word of every row with acorn and babel, and every
-// reading with the plain reader of demand 3. Each disagreement is put into a class of classes.js; one that fits none is made small, shown, and fails the run.
+// Holds a reader to the outside judges over many lists: clean or not with all of them, every word of every row with acorn and babel, the rows with
+// oxc-parser where it is installed (oxc.js), and every reading with the plain reader of demand 3. Each disagreement is put into a class of classes.js; one that fits none is made small, shown, and fails the run.
 //
 //     node judge.js [--reader COMMAND] [--jobs N] [--batch N] [--keep FILE] RUN..      RUN: small:LENGTH | matched:LENGTH:ALPHABET |
 //                                                                                      random:SEED:COUNT:LONGEST |
@@ -11,10 +11,11 @@
 const fs = require('fs');
 const path = require('path');
 const { execFileSync, fork } = require('child_process');
-const { spell, outside, outsidePattern, balanced } = require('./spell.js');
+const { spell, outside, outsidePattern, balanced, twice } = require('./spell.js');
 const { rowsOf } = require('./estree.js');
 const parsers = require('./parsers.js');
 const { classOf } = require('./classes.js');
+const oxc = require('./oxc.js');
 
 const LISTS = path.join(__dirname, 'lists/target/release/lists');
 const PLAIN = path.join(__dirname, '../plain/target/release/plain');
@@ -46,13 +47,6 @@ function answerOf(line) {
 
 const same = (a, b) => a.length === b.length && a.every((word, i) => word === b[i]);
 const isEarly = (kinds, flags) => kinds.some((k, i) => k === 2 && kinds[i + 1] === 18 && !flags[i + 1] && kinds[i + 2] === 28 && kinds[i + 3] === 1);
-
-// Names of parameters that kinds 2 to 5 would spell alike: one arrow may not have a name twice (15.3.1), and kinds carry no names.
-function twice(kinds, words) {
-  const names = [];
-  for (let at = 0; at < words.length; at += 6) if (words[at] === 30 && kinds[words[at + 2]] > 1) names.push(words[at + 2]);
-  return names.length > 1 ? new Set(names) : null;
-}
 
 // One list before it is judged: what both readers say, and its text.
 function caseOf(line, reader, plain) {
@@ -89,11 +83,16 @@ function judge(it) {
   }
   it.verdicts.V8 = it.balanced && parsers.byV8(text);
   if (parsers.typescript) it.verdicts.TypeScript = it.balanced && parsers.byTypescript(text);
+  if (!whole) return;
+  const { verdict, how } = oxc.judge(whole, it);
+  it.verdicts.oxc = verdict;
+  if (how) it.unlike.push({ judge: 'oxc', how });
 }
 
 // What each judge says otherwise than the reader, once all verdicts are there.
 function compare(it) {
   for (const [name, verdict] of Object.entries(it.verdicts)) {
+    if (name === 'oxc') continue; // it is held to the reader itself
     if (verdict !== null && verdict !== undefined && verdict !== it.standard.clean) it.unlike.push({ judge: name, how: verdict ? 'accepts' : 'refuses' });
   }
 }
@@ -194,6 +193,7 @@ function tally(it) {
       if (verdict === null) totals.gaveUp[name] = (totals.gaveUp[name] || 0) + 1;
     }
     if (it.standard.clean) totals.trees += ['acorn', 'babel'].filter((name) => it.verdicts[name]).length;
+    if (it.ours.clean && it.verdicts.oxc) totals.trees += 1;
   }
   sort(it);
 }
@@ -223,6 +223,7 @@ const tell = (message) => new Promise((done) => process.send(message, done));
 
 // Judges this process's share of all runs; tells how far it is, and at last what it saw.
 async function work() {
+  whole = await oxc.load();
   for (const run of runs) {
     for (const lines of batches(run)) {
       const cases = judged(lines, options.reader);
@@ -254,6 +255,7 @@ function take(seen) {
   for (const [name, list] of Object.entries(seen.unknown)) unknown[name] = [...(unknown[name] || []), ...list].slice(0, 6);
 }
 
+let whole = null; // oxc-parser, where it is installed
 const begun = Date.now();
 const progress = {}; // the lists judged of each run
 const strangers = []; // the unknown disagreements of each share
@@ -305,7 +307,9 @@ function reportUnknown(name, list) {
 
 // Has all runs judged, and says how it went.
 async function main() {
-  console.log('judges: ' + Object.entries(parsers.versions).map(([name, version]) => `${name} ${version || '(not there)'}`).join(', '));
+  whole = await oxc.load();
+  const versions = { ...parsers.versions, 'oxc-parser': whole && whole.version };
+  console.log('judges: ' + Object.entries(versions).map(([name, version]) => `${name} ${version || '(not there)'}`).join(', '));
   if (options.keep) fs.writeFileSync(options.keep, '');
   await Promise.all(Array.from({ length: Number(options.jobs) }, (_, share) => startShare(share)));
   process.stderr.write('\n');

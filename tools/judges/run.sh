@@ -7,6 +7,7 @@
 #     tools/judges/run.sh all [SEED]               all runs: bracket-matched ones to 6, the million random ones, 100,000 bindings
 #     tools/judges/run.sh RUN..                    small:LENGTH | matched:LENGTH:ALPHABET | random:SEED:COUNT:LONGEST | pattern:SEED:COUNT:LONGEST
 #
+# oxc-parser of npm is a judge too where OXC_PARSER names the folder that it is installed in (tools/judges/oxc.sh installs it and calls this).
 # READER names the reader: a program that answers the lines of bench/twin/src/protocol.rs. Without it the twin is asked.
 set -euo pipefail
 here=$(cd "$(dirname "${BASH_SOURCE[0]}")" && pwd)

@@ -49,6 +49,13 @@ function spell(kinds, flags, { renamed, calm, pattern } = {}) {
   return { text: parts.join(''), starts, ends };
 }
 
+// Names of parameters that kinds 2 to 5 would spell alike: one arrow may not have a name twice (15.3.1), and kinds carry no names.
+function twice(kinds, words) {
+  const names = [];
+  for (let at = 0; at < words.length; at += 6) if (words[at] === 30 && kinds[words[at + 2]] > 1) names.push(words[at + 2]);
+  return names.length > 1 ? new Set(names) : null;
+}
+
 // Whether the token is a word after a dot or a key, by the tokens beside it.
 function isBareWord(kinds, i) {
   return kinds[i - 1] === 27 || (kinds[i + 1] === 25 && (kinds[i - 1] === 22 || kinds[i - 1] === 24));
@@ -92,4 +99,4 @@ function outsidePattern(kinds, flags) {
   return kinds[0] === 28 ? 'a rest as a binding' : outside(kinds, flags);
 }
 
-module.exports = { spell, outside, outsidePattern, balanced, isName };
+module.exports = { spell, outside, outsidePattern, balanced, isName, twice };
