@@ -2,25 +2,12 @@
 // reader's answers. The package itself is not tried here: it comes from npm's registry.
 'use strict';
 const fs = require('fs');
-const os = require('os');
 const path = require('path');
 const { load, judge } = require('../tools/judges/oxc.js');
 const { spell, balanced, twice } = require('../tools/judges/spell.js');
 
 const ACORN = process.env.ACORN || '/usr/share/nodejs/acorn';
-const work = fs.mkdtempSync(path.join(os.tmpdir(), 'oxc-'));
-process.on('exit', () => fs.rmSync(work, { recursive: true, force: true }));
-let tried = 0;
-let failed = 0;
-
-// One thing that must hold.
-function holds(what, truth, told = '') {
-    tried += 1;
-    if (!truth) {
-        failed += 1;
-        console.log(`the judge oxc-parser, ${what}: not so. ${told}`);
-    }
-}
+const { work, holds, ends } = require('./holds.js')('the judge oxc-parser', 'oxc-');
 
 // The stand-in: acorn behind parseSync. Like the crate it drops parentheses in targets and refuses `async(...x)`. `fault` spoils what it gives.
 const MODULE = (fault) => `
@@ -110,8 +97,7 @@ async function main() {
     holds('no folder', (await load('')) === null);
     const missing = await load(work).catch((error) => error.message);
     holds('not installed', missing === `OXC_PARSER: there is no oxc-parser in ${work}/node_modules; tools/judges/oxc.sh installs it`, missing);
-    console.log(`the judge oxc-parser, with stand-ins of its interface: ${tried - failed} of ${tried} as expected (the package itself is not run here)`);
-    process.exitCode = failed ? 1 : 0;
+    ends(', with stand-ins of its interface (the package itself is not run here)');
 }
 
 main();

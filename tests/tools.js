@@ -1,7 +1,6 @@
 // Holds tools/sheet and docs/GUIDE.md to the compiled program: packed sheets, explanations, pictures, and what is said of bad input.
 'use strict';
 const fs = require('fs');
-const os = require('os');
 const path = require('path');
 const { spawnSync } = require('child_process');
 
@@ -11,19 +10,7 @@ const { fileOf, sheetFile, spelled, tokensOf } = require('../tools/desk/pack.js'
 const { ask } = require('../tools/desk/read.js');
 const { NUMBERS, exampleFile, table } = require('../tools/desk/numbers.js');
 
-const work = fs.mkdtempSync(path.join(os.tmpdir(), 'tools-'));
-process.on('exit', () => fs.rmSync(work, { recursive: true, force: true }));
-let tried = 0;
-let failed = 0;
-
-// One thing that must hold.
-function holds(what, truth, told = '') {
-    tried += 1;
-    if (!truth) {
-        failed += 1;
-        console.log(`tools/sheet, ${what}: not so. ${told}`);
-    }
-}
+const { work, holds, ends } = require('./holds.js')('tools/sheet', 'tools-');
 
 // A file of the working folder with this content.
 function file(name, content) {
@@ -266,5 +253,4 @@ function guides() {
 }
 
 [names, packsKinds, packsJudged, packsAndShows, packsWhatIsRead, explains, saysInRust, callsLibrary, draws, saysWhy, guides].forEach((part) => part());
-console.log(`tools/sheet: ${tried - failed} of ${tried} as expected`);
-process.exitCode = failed ? 1 : 0;
+ends();
