@@ -19,7 +19,14 @@ fi
 status=0
 tools/crate/run.sh short > "$said" 2>&1 || status=$?
 case $status in
-    0) grep -E '^(the five files|another text|run  |all  )' "$said" ;;
+    0)
+        grep -E '^(the five files|another text|run  |all  )' "$said"
+        # The lists are fixed, and so are these counts: lists, comparisons, lists outside of the comparison, differences.
+        if ! grep -qE '^all +7,330,429 +48,741,665 +13,531 +0 ' "$said"; then
+            echo "tools/crate/run.sh short: other counts than those that are written down"
+            exit 1
+        fi
+        ;;
     3) cat "$said" ;;
     *)
         cat "$said"

@@ -14,9 +14,10 @@ here=$(cd "$(dirname "${BASH_SOURCE[0]}")" && pwd)
 root=$(cd "$here/../.." && pwd)
 source=${OXC_SOURCE:-$root/../shared/docs/src/src/js}
 if [ "${1:-}" = --source ]; then
-    source=$2
+    source=${2:?--source wants a folder}
     shift 2
 fi
+source=$(realpath -m "$source")
 
 # What is missing is said in one line; status 3 tells the tests to leave this out.
 leave_out() {

@@ -23,6 +23,8 @@ TWIN = [
     ('a rest accepted before others', 'parse.rs', 'if self.kind() != close {', 'if self.kind() != close && self.kind() != kind::COMMA {'),
     ('record 4 lost', 'target.rs', 'matches!(kind, ARRAY_REST_COMMA | OBJECT_REST_COMMA)', 'kind == 0'),
     ('a level off', 'operator.rs', 'kind::STAR..=kind::PERCENT => 11', 'kind::STAR..=kind::PERCENT => 10'),
+    ('refused by a check', 'lib.rs', 'const MAX_OPEN: usize = 64;', 'const MAX_OPEN: usize = 1;'),
+    ('sizes of parents', 'parse.rs', 'kids, size as u32]', 'kids, size as u32 + 1]'),
     ("a shorthand's default dropped", 'target.rs', 'rows[kid][KIND] = TARGET_SHORTHAND_INIT;', 'rows[kid][KIND] = TARGET_SHORTHAND;'),
 ]
 

@@ -1,5 +1,5 @@
 //! Conversion: at every expression row of a tree that is read here, the entry here beside grammar.rs on that row's own tokens.
-use super::sides::{CrateConversion, Entry, Here, Reading, Room, convert_there, read_here, record_number, refusal_number, without_parentheses};
+use super::sides::{CrateConversion, Entry, Here, Reading, Room, convert_there, is_whole, read_here, record_number, refusal_number, without_parentheses};
 use super::tally::Tally;
 use super::text::show;
 use lists::List;
@@ -59,8 +59,12 @@ fn one(asked: &Asked, (fatal, errors, rows): CrateConversion, tally: &mut Tally)
     tally.compared += 1;
     outside_stays(asked, &tree, here, tally);
     match (here, fatal) {
-        (Ok([_, count, _]), None) => {
+        (Ok(counts @ [_, count, _]), None) => {
             tally.count(if count == 0 { "converted" } else { "converted with records" });
+            let rows_after = &tree.as_chunks().0[asked.row + 1 - size as usize..=asked.row];
+            if counts != [size as usize, count, 0] || !is_whole(rows_after, &asked.list.kinds) {
+                tally.differs("counts or sizes of a conversion", length, || asked.told((counts, rows_after)));
+            }
             let mine = target_rows(asked, &tree);
             if mine != rows {
                 tally.differs("target tree", length, || asked.told((&mine, &rows)));

@@ -1,6 +1,8 @@
 //! Whole readings: clean or not, the tree where clean, and beyond the comparison the records, the abandoned heads and the refusals.
 use super::classes;
-use super::sides::{CrateReading, Entry, Reading, Room, read_here, read_there, record_number, refusal_number, without_parentheses};
+use super::sides::{
+    CrateReading, Entry, Reading, Room, is_whole, nests_too_deep, read_here, read_there, record_number, refusal_number, without_parentheses,
+};
 use super::tally::Tally;
 use super::text::show;
 use lists::List;
@@ -11,10 +13,16 @@ pub fn compare(entry: Entry, list: &List, room: &mut Room, tally: &mut Tally) {
     let here = read_here(entry, list, room);
     let there = read_there(entry, list, room);
     tally.lists += 1;
-    if matches!(here.refused, Some((..=7, _))) {
-        return tally.count("refused by a check of our own, not compared");
+    if nests_too_deep(&list.kinds) {
+        return tally.count("nested too deep, not compared");
     }
     tally.compared += 1;
+    if matches!(here.refused, Some((..=7, _))) {
+        return tally.differs("refused by a check of our own", list.len(), || told(list, &here, &there));
+    }
+    if here.refused.is_none() && !is_whole(&here.rows, &list.kinds) {
+        tally.differs("sizes, or parentheses of a target", list.len(), || format!("{} | {:?}", show(list), here.rows));
+    }
     if here.is_clean() != there.is_clean() {
         let class = if here.is_clean() { "clean here, not there" } else { "clean there, not here" };
         return tally.differs(class, list.len(), || told(list, &here, &there));

@@ -68,7 +68,35 @@ impl Reading {
     }
 }
 
-/// Rows of six words without those of kind 41, each without its size.
+/// The sizes add up to one tree, and each row of kind 41 lies on its parentheses: the words that the crate has nothing beside, held to the others and to the tokens.
+pub fn is_whole(rows: &[[u32; 6]], kinds: &[u8]) -> bool {
+    let mut sizes: Vec<u32> = Vec::new();
+    for &[kind, mark, first, end, kids, size] in rows {
+        let Some(from) = sizes.len().checked_sub(kids as usize) else { return false };
+        let below: u32 = sizes.drain(from..).sum();
+        let on_parentheses = kids == 1 && mark == first && first + 1 < end && kinds.get(first as usize) == Some(&18) && kinds.get(end as usize - 1) == Some(&19);
+        if size != below + 1 || kind == 41 && !on_parentheses {
+            return false;
+        }
+        sizes.push(size);
+    }
+    sizes.len() == 1
+}
+
+/// Whether over 64 brackets are open somewhere, which is refused by a check before the reading.
+pub fn nests_too_deep(kinds: &[u8]) -> bool {
+    let mut open = 0u32;
+    kinds.iter().any(|kind| {
+        match kind {
+            18 | 20 | 22 => open += 1,
+            19 | 21 | 23 => open = open.saturating_sub(1),
+            _ => {}
+        }
+        open > 64
+    })
+}
+
+/// Rows of six words without those of kind 41, each without its size (`is_whole` sees to both).
 pub fn without_parentheses(rows: &[[u32; 6]]) -> Vec<Row> {
     rows.iter().filter(|row| row[0] != 41).map(|row| [row[0], row[1], row[2], row[3], row[4]]).collect()
 }
