@@ -26,10 +26,10 @@ cursor at rows records = record { at = at; rows = rows; records = records }
 pub record Comes (ks fs : List ℕ) (job : Job) (m : List ℕ) (out : Out (List ℕ)) : Type 0 where
   pub settles : Settles (box (sheet-of ks fs)) (sheet-of ks fs) job m out
 
--- there is room for a row and a record for each token, and no more than one for each token passed is used
+-- there is room for a row for each token left and for a record for each token; no more rows and no more records are used than tokens passed
 pub record Room (ks r s : List ℕ) (c : Cursor) : Type 0 where
   pub short : length ks ≤ 2048
-  pub wide : 6 * length ks ≤ length r
+  pub wide : 6 * (length ks + c .rows) ≤ length r + 6 * c .at
   pub deep : 2 * length ks ≤ length s
   pub inside : c .at ≤ length ks
   pub few : c .rows ≤ c .at
@@ -167,6 +167,10 @@ pub record NameFits (ks : List ℕ) (c : Cursor) (from : ℕ) : Type 0 where
   pub name : 0 < c .at
   pub row : c .rows ≡ from + 1
   pub few : c .rows ≤ c .at
+
+-- a part of an object begins here, whose row is not written yet: there is room for one row more than for each token left
+pub record PartFits (ks r : List ℕ) (c : Cursor) : Type 0 where
+  pub spare : 6 * (length ks + c .rows + 1) ≤ length r + 6 * c .at
 
 -- an initializer was read, and the row over a name and it was written; or the initializer was refused
 pub record InitTo (ks fs r₀ s₀ m₀ r s m : List ℕ) (at kind from n k : ℕ) (d : Cursor) : Type 0 where

@@ -54,10 +54,10 @@ pub record Finished (ks r₀ s₀ : List ℕ) (d : Cursor) (at first left from :
   pub made : (fs : List ℕ) (a b : Tree) → Grown r₀ from r₀ left (one a) → Grown r₀ left r₀ (d .rows) (one b)
       → Made r₀ s₀ from (d .records) r s u (one (node (operation-kind (getD ks at 0)) at first (d .at) (cons a (one b)))) (operation-records (sheet-of ks fs) at a b)
 
--- an operand stands from `from` up to the cursor; there is room for a row for each token, and for the records of its conversion
+-- an operand stands from `from` up to the cursor; there is room for a row for each token left, and for the records of its conversion
 pub record OperandFits (ks r s : List ℕ) (d : Cursor) (from : ℕ) : Type 0 where
   pub short : length ks ≤ 2048
-  pub wide : 6 * length ks ≤ length r
+  pub wide : 6 * (length ks + d .rows) ≤ length r + 6 * d .at
   pub inside : d .at ≤ length ks
   pub few : d .rows ≤ d .at
   pub some : from < d .rows

@@ -8,7 +8,7 @@ ghost use Rattle.tokens.specs.declared.cause.Cause.{Cause};
 ghost use Rattle.rows.specs.Tree.{nil, one};
 ghost use Rattle.rows.specs.Row as Row;
 ghost use Rattle.grammar.specs.Job as Job;
-ghost use Rattle.making.specs.Post.{cursor, Room, Met, MetOver, MetAfter, MetList, MetClosed, MetInit, Operand, HeadFits, NameFits};
+ghost use Rattle.making.specs.Post.{cursor, Room, Met, MetOver, MetAfter, MetList, MetClosed, MetInit, Operand, HeadFits, NameFits, PartFits};
 use heads::Head;
 use making::cursor::Cursor;
 use making::cursor::Listed;
@@ -738,7 +738,7 @@ fn part(
     said: usize,
 ) -> Step
     requires { ⌜ Room (now kinds) (now rows) (now records) (cursor at made said) ⌝ }
-    requires { ⌜ made < at ⌝ }
+    requires { ⌜ PartFits (now kinds) (now rows) (cursor at made said) ⌝ }
     ensures { λ x. ⌜ Met (now (kinds .entry)) (now (flags .entry)) (now (rows .entry)) (now (records .entry)) (now (notes .entry)) (now (rows .exit)) (now (records .exit)) (now (notes .exit)) (if getD (now (kinds .entry)) at 0 is Dot3 then Job.spread at else Job.property at) made said x ⌝ }
 {
     if tokens::kind_at(kinds, at) == kind::DOT3 {
@@ -759,7 +759,7 @@ fn property(
     said: usize,
 ) -> Step
     requires { ⌜ Room (now kinds) (now rows) (now records) (cursor at made said) ⌝ }
-    requires { ⌜ made < at ⌝ }
+    requires { ⌜ PartFits (now kinds) (now rows) (cursor at made said) ⌝ }
     ensures { λ x. ⌜ Met (now (kinds .entry)) (now (flags .entry)) (now (rows .entry)) (now (records .entry)) (now (notes .entry)) (now (rows .exit)) (now (records .exit)) (now (notes .exit)) (Job.property at) made said x ⌝ }
 {
     if keys::is_shorthand(kinds, at) {
@@ -1073,7 +1073,7 @@ fn bproperty(
     said: usize,
 ) -> Step
     requires { ⌜ Room (now kinds) (now rows) (now records) (cursor at made said) ⌝ }
-    requires { ⌜ made < at ⌝ }
+    requires { ⌜ PartFits (now kinds) (now rows) (cursor at made said) ⌝ }
     ensures { λ x. ⌜ Met (now (kinds .entry)) (now (flags .entry)) (now (rows .entry)) (now (records .entry)) (now (notes .entry)) (now (rows .exit)) (now (records .exit)) (now (notes .exit)) (Job.binding-property at) made said x ⌝ }
 {
     if keys::is_shorthand(kinds, at) {

@@ -33,7 +33,7 @@ use Rattle.frame.proofs.Checked.{ready}
 pub begins : {ks fs r s : List ℕ} {x : Checked} → Checks ks fs r s x → x ≡ Checked.Fine → Room ks r s (cursor 0 0 0)
 begins {ks} {fs} {r} {s} e q =
     let h = ready ks fs r s (sym (e .found) ∙ q) in
-    record { short = h .short; wide = h .wide; deep = h .deep; inside = omega arith; few = omega arith; said = omega arith }
+    record { short = h .short; wide = omega (arith, h .wide); deep = h .deep; inside = omega arith; few = omega arith; said = omega arith }
 
 -- and there still is
 pub ends : {ks fs r₀ s₀ r s : List ℕ} {x : Checked} → Checks ks fs r₀ s₀ x → x ≡ Checked.Fine → length r ≡ length r₀ → length s ≡ length s₀ → Ready ks r s

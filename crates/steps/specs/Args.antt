@@ -37,7 +37,7 @@ pub record ArgsSoFar (ks fs r₀ s₀ m₀ : List ℕ) (first from : ℕ) (start
   pub forward : start .at ≤ here .at
   pub inside : here .at ≤ length ks
   pub more : start .rows ≤ here .rows
-  pub few : here .rows < here .at
+  pub few : here .rows + start .at ≤ start .rows + here .at
   pub few-records : here .records ≤ here .at
   pub number : kids ≤ here .at
   pub rows-long : length r ≡ length r₀

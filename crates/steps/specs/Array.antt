@@ -31,7 +31,7 @@ pub record ArraySoFar (ks fs r₀ s₀ m₀ : List ℕ) (c : Cursor) (r s m : Li
   pub forward : c .at < here .at
   pub inside : here .at ≤ length ks
   pub more : c .rows ≤ here .rows
-  pub few : here .rows < here .at
+  pub few : here .rows + c .at < c .rows + here .at
   pub few-records : here .records ≤ here .at
   pub number : kids ≤ here .at
   pub rows-long : length r ≡ length r₀

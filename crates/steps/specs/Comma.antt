@@ -35,8 +35,8 @@ pub record CommaSoFar (ks fs r₁ s₁ m₁ : List ℕ) (c : Cursor) (mark : ℕ
   pub forward : c .at < here .at
   pub inside : here .at ≤ length ks
   pub more : c .rows ≤ here .rows
-  pub few : here .rows ≤ here .at
-  pub room : here .rows < length ks
+  pub few : here .rows + c .at ≤ c .rows + here .at
+  pub room : here .rows + c .at < c .rows + length ks
   pub few-records : here .records ≤ here .at
   pub number : kids ≤ here .at
   pub rows-long : length r ≡ length r₁
