@@ -787,6 +787,11 @@ fn property(
         return Step::Fail(Cause::Unexpected(colon));
     }
     let start = colon + 1;
+    let single = singles::single_part(kinds, start);
+    if single != 0 {
+        let e = leaf(rows, start, d.rows, d.records, single);
+        return Step::Done(over(rows, e, row::PROPERTY, at, at, e.at, 2, made));
+    }
     let more = assign(kinds, flags, rows, records, notes, start, d.rows, d.records);
     let Step::Done(e) = more else { return more };
     Step::Done(over(rows, e, row::PROPERTY, at, at, e.at, 2, made))
@@ -809,6 +814,11 @@ fn init(
     requires { ⌜ NameFits (now kinds) (cursor at made said) from ⌝ }
     ensures { λ x. ⌜ MetInit (now (kinds .entry)) (now (flags .entry)) (now (rows .entry)) (now (records .entry)) (now (notes .entry)) (now (rows .exit)) (now (records .exit)) (now (notes .exit)) at kind from made said x ⌝ }
 {
+    let single = singles::single_part(kinds, at + 1);
+    if single != 0 {
+        let d = leaf(rows, at + 1, made, said, single);
+        return Step::Done(over(rows, d, kind, at, at - 1, d.at, 2, from));
+    }
     let got = assign(kinds, flags, rows, records, notes, at + 1, made, said);
     let Step::Done(d) = got else { return got };
     Step::Done(over(rows, d, kind, at, at - 1, d.at, 2, from))
@@ -890,6 +900,11 @@ pub fn element(
         return got;
     }
     let start = mark + 1;
+    let single = singles::single_part(kinds, start);
+    if single != 0 {
+        let e = leaf(rows, start, d.rows, d.records, single);
+        return Step::Done(over(rows, e, row::BINDING_DEFAULT, mark, at, e.at, 2, made));
+    }
     let more = assign(kinds, flags, rows, records, notes, start, d.rows, d.records);
     let Step::Done(e) = more else { return more };
     Step::Done(over(rows, e, row::BINDING_DEFAULT, mark, at, e.at, 2, made))
