@@ -11,9 +11,9 @@ import glob, os, subprocess
 ROOT = subprocess.run(['git', 'rev-parse', '--show-toplevel'], capture_output=True, text=True).stdout.strip() + '/'
 CRATE = 'parse'
 RANKS = {
-    'comma': 13, 'item': 12, 'assign': 11, 'value': 10, 'binary': 9, 'unary': 8, 'left': 6, 'primary': 5, 'head': 5, 'part': 5, 'property': 4,
+    'comma': 13, 'item': 12, 'assign': 11, 'start': 10, 'unary': 8, 'left': 6, 'primary': 5, 'head': 5, 'part': 5, 'property': 4,
     'bproperty': 4, 'params': 4, 'element': 3, 'binding': 2, 'key': 2, 'last': 2, 'rest': 1, 'spread': 1, 'array': 1, 'object': 1, 'barray': 1,
-    'bobject': 1, 'inside': 1, 'args': 1, 'body': 1, 'init': 1, 'assigned': 1, 'choice': 1,
+    'bobject': 1, 'inside': 1, 'args': 1, 'init': 1,
 }
 folder = next(p for p in glob.glob(ROOT + 'crates/%s/proofs/+*' % CRATE) if os.path.isdir(p))
 members = os.path.basename(folder)[1:].split('+')

@@ -25,7 +25,7 @@ pub fn right_floor(operator: u8) -> u8
 }
 
 // `??`, `||` and `&&` make a Logical row, all other operators a Binary one.
-fn operation_kind(operator: u8) -> u32
+pub fn operation_kind(operator: u8) -> u32
     ensures { λ r. ⌜ r ≡ Binary.operation-kind operator ⌝ }
 {
     if classes::between(kind::QUESTION2, kind::AMP2, operator) {

@@ -8,7 +8,8 @@ ghost use Rattle.tokens.specs.declared.cause.Cause.{Cause};
 ghost use Rattle.rows.specs.Tree.{nil, one};
 ghost use Rattle.rows.specs.Row as Row;
 ghost use Rattle.grammar.specs.Job as Job;
-ghost use Rattle.making.specs.Post.{cursor, Room, Met, MetOver, MetAfter, MetList, MetClosed, MetInit, Operand, HeadFits, NameFits, PartFits};
+ghost use Rattle.making.specs.Post.{cursor, Room, Met, MetOver, MetList, MetClosed, MetInit, Operand, NameFits, PartFits};
+ghost use Rattle.waiting.specs.Start.{MetStart};
 use heads::Head;
 use making::cursor::Cursor;
 use making::cursor::Listed;
@@ -18,9 +19,11 @@ use making::cursor::over;
 use making::cursor::say;
 use making::keys;
 use rows::row;
-use targets::Conversion;
 use tokens::cause::Cause;
 use tokens::kind;
+use waiting::Group;
+use waiting::Next;
+use waiting::Start;
 
 // 13.16 Expression: one part, or a Sequence of them.
 pub fn comma(
@@ -57,7 +60,7 @@ pub fn comma(
     }
 }
 
-// 13.15 AssignmentExpression: one token by itself; or where a head could open, it is passed, tried or read for good.
+// 13.15 AssignmentExpression: one token by itself; or parts and operands, one after the other, while what they are the last part of waits.
 fn assign(
     kinds: &[u8],
     flags: &[u8],
@@ -75,29 +78,65 @@ fn assign(
     if single != 0 {
         return Step::Done(leaf(rows, at, made, said, single));
     }
-    let way = heads::way_at(kinds, flags, notes, at);
-    let mut kept = said;
-    if !heads::is_pass(way) {
-        let got = head(kinds, flags, rows, records, notes, at, made, said);
-        match got {
-            Listed::Done(d, kids) => {
-                let head = heads::head_of(kinds, at, made, kids);
-                let n = d.rows;
-                return body(kinds, flags, rows, records, notes, d.at, n, d.records, head);
+    let base = rows.len() / 6;
+    let mut top = base;
+    let mut part = true;
+    let mut c = Cursor {
+        at,
+        rows: made,
+        records: said,
+    };
+    loop {
+        let free = 6 * top;
+        let n = c.rows;
+        let used = c.records;
+        let got = start(
+            kinds,
+            flags,
+            &mut rows[..free],
+            records,
+            notes,
+            c.at,
+            n,
+            used,
+            part,
+        );
+        let next = match got {
+            Start::Fail(cause) => return Step::Fail(cause),
+            Start::Opened(d, head) => {
+                waiting::wait_body(kinds, flags, rows, records, d, head, top)
             }
-            Listed::Fail(cause) => {
-                if heads::is_commit(way) {
-                    return Step::Fail(cause);
-                }
-                kept = heads::drop_head(notes, at, said);
+            Start::Operand(d) => {
+                let operand = Group {
+                    at: d.at,
+                    rows: d.rows,
+                    records: d.records,
+                    first: c.at,
+                    from: n,
+                    top,
+                };
+                waiting::follow(kinds, flags, rows, records, operand, base)
+            }
+        };
+        match next {
+            Next::Fail(cause) => return Step::Fail(cause),
+            Next::Ended(d) => return Step::Done(d),
+            Next::Part(d, t) => {
+                c = d;
+                top = t;
+                part = true;
+            }
+            Next::Operand(d, t) => {
+                c = d;
+                top = t;
+                part = false;
             }
         }
     }
-    value(kinds, flags, rows, records, notes, at, made, kept)
 }
 
-// The assignment level past a head: an async arrow of one name, or the binary level and what may follow it.
-fn value(
+// Where a part starts, a head that is tried or read for good, or Async and a name before `=>`; else, and where an operand starts, an operand.
+fn start(
     kinds: &[u8],
     flags: &[u8],
     rows: &mut [u32],
@@ -106,119 +145,43 @@ fn value(
     at: usize,
     made: usize,
     said: usize,
-) -> Step
+    part: bool,
+) -> Start
     requires { ⌜ Room (now kinds) (now rows) (now records) (cursor at made said) ⌝ }
-    ensures { λ x. ⌜ Met (now (kinds .entry)) (now (flags .entry)) (now (rows .entry)) (now (records .entry)) (now (notes .entry)) (now (rows .exit)) (now (records .exit)) (now (notes .exit)) (Job.value at) made said x ⌝ }
+    ensures { λ x. ⌜ MetStart (now (kinds .entry)) (now (flags .entry)) (now (rows .entry)) (now (records .entry)) (now (notes .entry)) (now (rows .exit)) (now (records .exit)) (now (notes .exit)) part at made said x ⌝ }
 {
-    if heads::is_async_name(kinds, flags, at) {
-        let d = leaf(rows, at + 1, made, said, row::BINDING_NAME);
-        let head = Head {
-            kind: row::ASYNC_ARROW,
-            first: at,
-            from: made,
-            kids: 1,
-        };
-        let n = d.rows;
-        return body(kinds, flags, rows, records, notes, d.at, n, d.records, head);
-    }
-    let got = binary(kinds, flags, rows, records, notes, at, made, said, 0);
-    let Step::Done(d) = got else { return got };
-    let next = tokens::kind_at(kinds, d.at);
-    if next == kind::ARROW {
-        if rows::row_word(rows, d.rows - 1, 0) == row::IDENTIFIER {
-            let c = leaf(rows, at, made, d.records, row::BINDING_NAME);
+    let mut kept = said;
+    if part {
+        let way = heads::way_at(kinds, flags, notes, at);
+        if !heads::is_pass(way) {
+            let got = head(kinds, flags, rows, records, notes, at, made, said);
+            match got {
+                Listed::Done(d, kids) => {
+                    return Start::Opened(d, heads::head_of(kinds, at, made, kids));
+                }
+                Listed::Fail(cause) => {
+                    if heads::is_commit(way) {
+                        return Start::Fail(cause);
+                    }
+                    kept = heads::drop_head(notes, at, said);
+                }
+            }
+        }
+        if heads::is_async_name(kinds, flags, at) {
             let head = Head {
-                kind: row::ARROW,
+                kind: row::ASYNC_ARROW,
                 first: at,
                 from: made,
                 kids: 1,
             };
-            let n = c.rows;
-            return body(kinds, flags, rows, records, notes, d.at, n, c.records, head);
-        }
-        return got;
-    }
-    let n = d.rows;
-    let used = d.records;
-    if operation::is_assignment_operator(next) {
-        return assigned(kinds, flags, rows, records, notes, d.at, n, used, at, made);
-    }
-    if next == kind::QUESTION {
-        return choice(kinds, flags, rows, records, notes, d.at, n, used, at, made);
-    }
-    got
-}
-
-// 13.15: an assignment, whose left side is converted before the right is read.
-fn assigned(
-    kinds: &[u8],
-    flags: &[u8],
-    rows: &mut [u32],
-    records: &mut [u32],
-    notes: &mut [u8; 2048],
-    at: usize,
-    made: usize,
-    said: usize,
-    first: usize,
-    from: usize,
-) -> Step
-    requires { ⌜ Room (now kinds) (now rows) (now records) (cursor at made said) ⌝ }
-    requires { ⌜ Operand (now kinds) (now rows) (cursor at made said) first from ⌝ }
-    ensures { λ x. ⌜ MetOver (now (kinds .entry)) (now (flags .entry)) (now (rows .entry)) (now (records .entry)) (now (notes .entry)) (now (rows .exit)) (now (records .exit)) (now (notes .exit)) (Job.assign first at) from made said x ⌝ }
-{
-    let plain = tokens::kind_at(kinds, at) == kind::EQ;
-    let turned = targets::convert_row(rows, made - 1, !plain, records, said);
-    match turned {
-        Conversion::Refused(cause) => Step::Fail(cause),
-        Conversion::Turned(count) => {
-            let got = assign(
-                kinds,
-                flags,
-                rows,
-                records,
-                notes,
-                at + 1,
-                made,
-                said + count,
-            );
-            let Step::Done(d) = got else { return got };
-            let kind = if plain {
-                row::ASSIGN
-            } else {
-                row::COMPOUND_ASSIGN
-            };
-            Step::Done(over(rows, d, kind, at, first, d.at, 2, from))
+            return Start::Opened(leaf(rows, at + 1, made, kept, row::BINDING_NAME), head);
         }
     }
-}
-
-// 13.14 ConditionalExpression, from its `?` on.
-fn choice(
-    kinds: &[u8],
-    flags: &[u8],
-    rows: &mut [u32],
-    records: &mut [u32],
-    notes: &mut [u8; 2048],
-    at: usize,
-    made: usize,
-    said: usize,
-    first: usize,
-    from: usize,
-) -> Step
-    requires { ⌜ Room (now kinds) (now rows) (now records) (cursor at made said) ⌝ }
-    requires { ⌜ Operand (now kinds) (now rows) (cursor at made said) first from ⌝ }
-    ensures { λ x. ⌜ MetOver (now (kinds .entry)) (now (flags .entry)) (now (rows .entry)) (now (records .entry)) (now (notes .entry)) (now (rows .exit)) (now (records .exit)) (now (notes .exit)) (Job.conditional first at) from made said x ⌝ }
-{
-    let got = assign(kinds, flags, rows, records, notes, at + 1, made, said);
-    let Step::Done(d) = got else { return got };
-    let colon = d.at;
-    if tokens::kind_at(kinds, colon) != kind::COLON {
-        return Step::Fail(Cause::Unexpected(colon));
+    let got = unary(kinds, flags, rows, records, notes, at, made, kept);
+    match got {
+        Step::Fail(cause) => Start::Fail(cause),
+        Step::Done(d) => Start::Operand(d),
     }
-    let start = colon + 1;
-    let more = assign(kinds, flags, rows, records, notes, start, d.rows, d.records);
-    let Step::Done(e) = more else { return more };
-    Step::Done(over(rows, e, row::CONDITIONAL, at, first, e.at, 3, from))
 }
 
 // A head up to its `=>`: optional Async with no break after it, and parameters in parentheses.
@@ -310,88 +273,6 @@ fn params(
         }
     };
     Listed::Done(read, kids)
-}
-
-// `=>` and the body, which is final: a break before `=>` is record 1, and `{` as body is 8.
-fn body(
-    kinds: &[u8],
-    flags: &[u8],
-    rows: &mut [u32],
-    records: &mut [u32],
-    notes: &mut [u8; 2048],
-    at: usize,
-    made: usize,
-    said: usize,
-    head: Head,
-) -> Step
-    requires { ⌜ Room (now kinds) (now rows) (now records) (cursor at made said) ⌝ }
-    requires { ⌜ HeadFits (now kinds) (cursor at made said) head ⌝ }
-    ensures { λ x. ⌜ MetAfter (now (kinds .entry)) (now (flags .entry)) (now (rows .entry)) (now (records .entry)) (now (notes .entry)) (now (rows .exit)) (now (records .exit)) (now (notes .exit)) (Job.body (head .kind) (head .first) at) (head .from) made (head .kids) said x ⌝ }
-{
-    if heads::is_block(kinds, at + 1) {
-        return Step::Fail(Cause::Unexpected(at + 1));
-    }
-    let mut c = Cursor {
-        at: at + 1,
-        rows: made,
-        records: said,
-    };
-    if tokens::flag_at(flags, at) == 1 {
-        c = say(records, c, 1, at);
-    }
-    let got = assign(kinds, flags, rows, records, notes, c.at, c.rows, c.records);
-    let Step::Done(d) = got else { return got };
-    Step::Done(over(
-        rows,
-        d,
-        head.kind,
-        at,
-        head.first,
-        d.at,
-        head.kids + 1,
-        head.from,
-    ))
-}
-
-// 13.6 to 13.13: an operand, and the operators above the level `floor` that follow it.
-fn binary(
-    kinds: &[u8],
-    flags: &[u8],
-    rows: &mut [u32],
-    records: &mut [u32],
-    notes: &mut [u8; 2048],
-    at: usize,
-    made: usize,
-    said: usize,
-    floor: u8,
-) -> Step
-    requires { ⌜ Room (now kinds) (now rows) (now records) (cursor at made said) ⌝ }
-    ensures { λ x. ⌜ Met (now (kinds .entry)) (now (flags .entry)) (now (rows .entry)) (now (records .entry)) (now (notes .entry)) (now (rows .exit)) (now (records .exit)) (now (notes .exit)) (Job.binary floor at) made said x ⌝ }
-{
-    let got = unary(kinds, flags, rows, records, notes, at, made, said);
-    let Step::Done(operand) = got else { return got };
-    let mut c = operand;
-    let mut mark = operand.at;
-    let mut operator = tokens::kind_at(kinds, mark);
-    while floor < operators::expression_precedence(operator) {
-        let left = c.rows;
-        let more = binary(
-            kinds,
-            flags,
-            rows,
-            records,
-            notes,
-            mark + 1,
-            left,
-            c.records,
-            operation::right_floor(operator),
-        );
-        let Step::Done(d) = more else { return more };
-        c = operation::finish(kinds, rows, records, d, mark, at, left, made);
-        mark = d.at;
-        operator = tokens::kind_at(kinds, mark);
-    }
-    Step::Done(c)
 }
 
 // 13.5 and 13.4: prefix operators over an operand, which a postfix update may follow on its line.

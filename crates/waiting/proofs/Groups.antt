@@ -1,0 +1,398 @@
+-- `after_binary` and `follow`: from a group that was read to what is read next.
+-- Assumes nothing.
+use Prim.Native.Nat.{ℕ, _+_, _-_, _*_, _≤_, _<_}
+use mathlib.Core.Path.{_≡_, refl, sym, ap, subst, _∙_}
+use mathlib.Core.Bool.{Bool, true, false, not}
+use mathlib.Core.List.{List, [], _∷_, _++_}
+use native.Mathlib.Omega.{arith}
+use native.Mathlib.Decide.{ℕ-discrete}
+use lib.Dec.{leb, ltb}
+use lib.ListN.{length, getD, take, drop, length-append, length-drop}
+use lib.Seq.{length-take-le, take-append-le}
+use borrow.Author.Tests.{lt-ltb, le-ltb, le-leb, lt-leb, leb-true, leb-false, ltb-true, eq-eqb, eqb-true, eqb-false}
+use Rattle.tokens.specs.Bool.{_and_, _is_, if_then_else_, between}
+use Rattle.tokens.specs.Kind.{LCurly, Arrow, Question, Question2, Amp2, Eq}
+use Rattle.tokens.specs.declared.cause.Cause.{Cause}
+use Rattle.tokens.proofs.Stands.{stands-not}
+use Rattle.operators.specs.Precedence.{expression-level}
+use Rattle.rows.specs.Row as Row
+use Rattle.rows.specs.Tree.{Forest}
+use Rattle.rows.specs.Post.{Pushed, Grown, Word}
+use Rattle.targets.specs.declared.Conversion.{Conversion}
+use Rattle.grammar.specs.Assignment.{is-assignment-operator}
+use Rattle.grammar.specs.Binary.{operation-kind, right-floor}
+use Rattle.laws.specs.Good.{and-left, and-right}
+use Rattle.making.specs.Post.{cursor, Made, HeadFits, Room, Operand}
+use Rattle.making.specs.declared.cursor.Cursor.{Cursor}
+use Rattle.making.specs.declared.cursor.Step.{Step}
+use Rattle.heads.specs.declared.Head.{Head}
+use Rattle.operation.specs.Operation.{Finished}
+use Rattle.steps.specs.Assigned.{kind-for}
+use Rattle.steps.specs.Binary.{Grouped, operator-stands}
+use Rattle.steps.specs.Value as Value
+use Rattle.waiting.specs.Waiting.{Waiting, operation, part, choice, Choice, is-operation, words, awaits-operand, floor-of, Whole, Held, Spare, Comes-all, Outcome, Starts, Opens, Linked, Ends, Awaits}
+use Rattle.waiting.specs.Post.{word, end-of, ends-operand, OperationFits, FinishedOperation, WaitFits, WaitsOperand, WaitsChoice, WaitsRight, WaitsBody, opens-body, name-head, NameBody, Goes, PartAt, GroupAt}
+use Rattle.waiting.specs.declared.Group.{Group}
+use Rattle.waiting.specs.declared.Next.{Next}
+use Rattle.waiting.proofs.Cuts.{pushed-kept, same-first, finished-wider, grown-narrower, held-lent, held-waits, held-below, held-word, held-kind, held-next, held-some, held-inside}
+use Rattle.waiting.proofs.Links.{starts-from, linked-spare, operand-ends, waits-operand, operand, part-ends, no-name-ends, waits-choice, right-refused, right-spare, waits-right, no-operation, no-choice, name-opens, body-refuses, body-spare, waits-body}
+use Rattle.waiting.proofs.Parts.{goes-part, goes-operand, goes-fail}
+
+-- AN ARROW'S BODY, from its `=>` on
+pub body-awaits : {ks fs : List ℕ} {all : Whole} {base : ℕ} (ws : List Waiting) {top : ℕ} {r s m : List ℕ} {d : Cursor} {h : Head} {r′ s′ : List ℕ} {x : Next}
+    → Held ks r top base ws → awaits-operand ws ≡ false → Spare ks s top d → HeadFits ks d h → is-operation (h .kind) ≡ false → (h .kind ≡ Choice → ⊥)
+    → Opens ks fs all (Ends ks fs all base ws) r s m d h → WaitsBody ks fs r s d h top r′ s′ x → length r′ ≡ length r → Goes ks fs all m (d .at) r′ s′ base x
+body-awaits {ks} {fs} {all} {base} ws {top} {r} {s} {m} {d} {h} {r′} {s′} {x} held i p f a z o w long = by (ℕ-discrete (getD ks (d .at + 1) 0) LCurly)
+  where
+    wide : 6 * top ≤ length r
+    wide = let e = held .rows in let q = held .room in omega arith
+
+    by : Dec (getD ks (d .at + 1) 0 ≡ LCurly) → Goes ks fs all m (d .at) r′ s′ base x
+    by (yes e) = let q = w .block e in goes-fail (q .gives) (rw (q .rows-same, q .records-same) (body-refuses ws (held .rows) i p wide f o refl e))
+    by (no e) =
+        let q = w .waits e in
+        let b = q .breaks in
+        let some : 1 ≤ top = omega (arith, p, f) in
+        goes-part (q .gives) record {
+          waiting = part (h .kind) (d .at) (h .first) (h .kids + 1) (h .from) a z ∷ ws;
+          held = held-waits held (omega (arith, some)) (q .pushed) long refl;
+          forward = omega (arith, b .at);
+          spare = body-spare ws (held .rows) i p wide f o refl e b a z;
+          operand = refl;
+          starts = starts-from (pushed-kept (q .c .rows) (omega (arith, p, f, b)) (omega (arith, wide)) (q .pushed)) (waits-body ws (held .rows) i p wide f o refl e b a z);
+        }
+
+module _ {ks fs : List ℕ} {all : Whole} {m : List ℕ} {r s : List ℕ} {g : Group} {base : ℕ} where
+  -- what is known of the place where a group ends
+  module _ (ws : List Waiting) (a : GroupAt ks fs all m ws r s g base) where
+    abbrev spare : Spare ks s (g .top) (end-of g)
+    spare = linked-spare (a .held .rows) (a .linked)
+
+    pub group-wide : 6 * g .top ≤ length r
+    group-wide = let e = a .held .rows in let q = a .held .room in omega arith
+
+    pub group-fits : WaitFits (length r) g
+    group-fits =
+        let q = a .linked .grouped in
+        record {
+          some = omega (arith, spare, q);
+          inside = group-wide;
+          place-small = omega (arith, spare);
+          rows-small = omega (arith, spare);
+          first-small = omega (arith, spare, q);
+          from-small = omega (arith, spare, q);
+        }
+
+    pub group-some : 1 ≤ g .rows
+    group-some = omega (arith, a .linked .grouped)
+
+    pub group-from : g .from < g .top
+    group-from = omega (arith, spare, a .linked .grouped)
+
+    pub group-few : g .records ≤ 2048
+    group-few = omega (arith, spare)
+
+    -- a token stands after it
+    pub group-deep : (getD ks (g .at) 0 ≡ 0 → ⊥) → 2 * g .records + 2 ≤ length s
+    group-deep t = let n = stands-not ks (g .at) t in omega (arith, spare, n)
+
+    pub name-deep : {b : Bool} → b ≡ opens-body ks r g → b ≡ true → 2 * g .records + 2 ≤ length s
+    name-deep b-is b-yes =
+        let arrow : getD ks (g .at) 0 ≡ Arrow = eqb-true _ _ (and-left (getD ks (g .at) 0 is Arrow) (word r (g .rows - 1) 0 is Row.Identifier) (sym b-is ∙ b-yes)) in
+        group-deep (λ z. let y : _≡_ {A = ℕ} Arrow 0 = sym arrow ∙ z in omega arith)
+
+    -- an operator waits
+    pub operand-awaits : {above : ℕ} {r′ : List ℕ} {x : Next} → above ≡ expression-level (getD ks (g .at) 0) → floor-of ks ws < above → WaitsOperand ks r g r′ x → length r′ ≡ length r
+        → Goes ks fs all m (g .at) r′ s base x
+    operand-awaits v lt w long =
+        let p = spare in
+        let fit = group-fits in
+        let h = waits-operand (a .held .rows) (a .linked) refl v lt in
+        let n = operator-stands ks refl v lt in
+        goes-operand (w .gives) record {
+          waiting = operation (g .at) (g .first) (g .rows) (g .from) ∷ ws;
+          held = held-waits (a .held) (omega (arith, fit .some)) (w .pushed) long refl;
+          forward = omega arith;
+          spare = record { short = p .short; wide = omega (arith, p, n, fit .some); deep = p .deep; inside = omega (arith, n); few = omega (arith, p); said = omega (arith, p) };
+          operand = refl;
+          starts = starts-from (pushed-kept (g .rows) (omega (arith, p, n)) (omega (arith, fit .inside)) (w .pushed)) h;
+        }
+
+    -- WHERE THE BINARY LEVEL ENDS
+    module _ (i : awaits-operand ws ≡ false) (none : expression-level (getD ks (g .at) 0) ≡ 0) where
+      pub choice-awaits : {r′ : List ℕ} {x : Next} → getD ks (g .at) 0 ≡ Question → WaitsChoice r g r′ x → length r′ ≡ length r → Goes ks fs all m (g .at) r′ s base x
+      choice-awaits q w long =
+          let p = spare in
+          let fit = group-fits in
+          let n = stands-not ks (g .at) (λ z. let y : _≡_ {A = ℕ} Question 0 = sym q ∙ z in omega arith) in
+          goes-part (w .gives) record {
+            waiting = choice (g .at) (g .first) (g .from) ∷ ws;
+            held = held-waits (a .held) (omega (arith, fit .some)) (w .pushed) long refl;
+            forward = omega arith;
+            spare = record { short = p .short; wide = omega (arith, p, n, fit .some); deep = p .deep; inside = omega (arith, n); few = omega (arith, p); said = omega (arith, p) };
+            operand = refl;
+            starts =
+                starts-from (pushed-kept (g .rows) (omega (arith, p, n)) (omega (arith, fit .inside)) (w .pushed))
+                (waits-choice (a .held .rows) (a .linked) i refl refl none group-wide q);
+          }
+
+      -- nothing follows
+      pub part-at : {b o : Bool} → b ≡ opens-body ks r g → b ≡ false → o ≡ is-assignment-operator (getD ks (g .at) 0) → o ≡ false → (getD ks (g .at) 0 ≡ Question → ⊥)
+          → PartAt ks fs all m ws r s (end-of g) (g .top) base
+      part-at {b} b-is b-no o-is o-no q = record { held = a .held; no-operand = i; ends = by (ℕ-discrete (getD ks (g .at) 0) Arrow) }
+        where
+          other : getD ks (g .at) 0 ≡ Arrow → word r (g .rows - 1) 0 ≡ Row.Identifier → ⊥
+          other e f =
+              let y : _≡_ {A = Bool} true false = sym (rw (eq-eqb (getD ks (g .at) 0) Arrow e, eq-eqb (word r (g .rows - 1) 0) Row.Identifier f)) ∙ sym b-is ∙ b-no in
+              let z : _≡_ {A = ℕ} 0 1 = cc in
+              omega arith
+
+          by : Dec (getD ks (g .at) 0 ≡ Arrow) → Ends ks fs all base ws r s m (end-of g)
+          by (yes e) = no-name-ends (a .held .rows) (a .linked) i refl refl none group-wide e record { is = refl } (other e)
+          by (no e) = part-ends (a .held .rows) (a .linked) i refl refl none group-wide o-is o-no q e
+
+      -- the arrow of one name
+      pub name-awaits : {b : Bool} {r′ s′ : List ℕ} {x : Next} → b ≡ opens-body ks r g → b ≡ true → NameBody ks fs r s g r′ s′ x → length r′ ≡ length r → Goes ks fs all m (g .at) r′ s′ base x
+      name-awaits {b} b-is b-yes w long =
+          let both : opens-body ks r g ≡ true = sym b-is ∙ b-yes in
+          let arrow : getD ks (g .at) 0 ≡ Arrow = eqb-true _ _ (and-left (getD ks (g .at) 0 is Arrow) (word r (g .rows - 1) 0 is Row.Identifier) both) in
+          let name : word r (g .rows - 1) 0 ≡ Row.Identifier = eqb-true _ _ (and-right (getD ks (g .at) 0 is Arrow) (word r (g .rows - 1) 0 is Row.Identifier) both) in
+          let n = stands-not ks (g .at) (λ z. let y : _≡_ {A = ℕ} Arrow 0 = sym arrow ∙ z in omega arith) in
+          let p = spare in
+          let q = a .linked .grouped in
+          let rows = ap (λ (c : Cursor). c .rows) (w .leafed .is) in
+          let records = ap (λ (c : Cursor). c .records) (w .leafed .is) in
+          body-awaits ws (held-below (a .held) group-from (w .leafed .pushed) (w .long)) i
+          record { short = p .short; wide = omega (arith, p, q, rows); deep = p .deep; inside = p .inside; few = omega (arith, p, q, rows); said = omega (arith, p, records) }
+          record { arrow = n; first-before = omega (arith, q); from-before = omega (arith, rows); kids-few = omega (arith, q) } refl (λ z. omega (arith, z))
+          (name-opens (a .held .rows) (a .linked) i refl refl none group-wide arrow record { is = refl } name (w .leafed) refl) (w .waits) (long ∙ sym (w .long))
+
+      -- an assignment
+      pub right-room : Room ks (take (6 * g .top) r) s (end-of g)
+      right-room =
+          let p = spare in
+          let e = length-take-le (6 * g .top) r group-wide in
+          record { short = p .short; wide = omega (arith, p, e); deep = p .deep; inside = p .inside; few = p .few; said = p .said }
+
+      -- the group in the part of the tree below the rows that wait
+      low-link : Linked ks fs all (Ends ks fs all base ws) ws (g .top) (take (6 * g .top) r) s m (end-of g) (g .first) (g .from)
+      low-link =
+          let l = a .linked in
+          let q = l .grouped in
+          let p = spare in
+          let below : g .rows ≤ g .top = omega (arith, p) in
+          record {
+            rows₀ = l .rows₀;
+            records₀ = l .records₀;
+            notes₀ = l .notes₀;
+            said₀ = l .said₀;
+            spare = l .spare;
+            room = l .room;
+            deep = l .deep;
+            plain = l .plain;
+            grouped = record {
+              wide = q .wide;
+              deep = q .deep;
+              place = q .place;
+              forward = q .forward;
+              inside = q .inside;
+              some = q .some;
+              few = q .few;
+              tree = q .tree;
+              said = q .said;
+              few-records = q .few-records;
+              made = record { grown = record { used = q .made .grown .used; text = same-first r (g .rows) (g .top) below ∙ q .made .grown .text }; recorded = q .made .recorded };
+              rest = q .rest;
+            };
+            starts = l .starts;
+          }
+
+      low-wide : 6 * g .top ≤ length (take (6 * g .top) r)
+      low-wide = let e = length-take-le (6 * g .top) r group-wide in omega arith
+
+      module _ {b : Bool} (o : b ≡ is-assignment-operator (getD ks (g .at) 0)) (e : b ≡ true) where
+        pub right-operand : Operand ks (take (6 * g .top) r) (end-of g) (g .first) (g .from)
+        right-operand = operand (a .held .rows) low-link i refl refl none low-wide (Value.operator-stands ks (g .at) refl o e)
+
+        pub right-awaits : {r′ s′ : List ℕ} {x : Next} → WaitsRight ks r s g r′ s′ x → length r′ ≡ length r → length s′ ≡ length s → Goes ks fs all m (g .at) r′ s′ base x
+        right-awaits {r′} {s′} {x} w long deep = by (w .turned) refl
+          where
+            root : g .rows ≡ g .rows - 1 + 1
+            root = omega (arith, group-some)
+
+            stands : g .at < length ks
+            stands = Value.operator-stands ks (g .at) refl o e
+
+            by : (z : Conversion) → w .turned ≡ z → Goes ks fs all m (g .at) r′ s′ base x
+            by (Conversion.Refused cause) q =
+                let f = w .refused cause q in
+                goes-fail (f .gives) (rw (f .text) (right-refused (a .held .rows) low-link i refl refl none low-wide o e root (w .converted) deep (drop (6 * g .top) r) (omega (arith, spare, w .long)) q))
+            by (Conversion.Turned count) q =
+                let f = w .waits count q in
+                let p = spare in
+                let fit = group-fits in
+                let lent = held-lent (w .low) (a .held) (w .long) in
+                let same = length-append (w .low) (drop (6 * g .top) r) in
+                let rest = length-drop (6 * g .top) r in
+                goes-part (f .gives) record {
+                  waiting = part (kind-for (getD ks (g .at) 0 is Eq)) (g .at) (g .first) 2 (g .from) (no-operation (getD ks (g .at) 0 is Eq)) (no-choice (getD ks (g .at) 0 is Eq)) ∷ ws;
+                  held = held-waits lent (omega (arith, fit .some)) (f .pushed) (omega (arith, long, same, rest, w .long, fit .inside)) refl;
+                  forward = omega arith;
+                  spare = right-spare (a .held .rows) low-link i refl refl none low-wide o e root (w .converted) deep q;
+                  operand = refl;
+                  starts =
+                      starts-from (pushed-kept (g .rows) (omega (arith, p, stands)) (omega (arith, same, rest, w .long, fit .inside)) (f .pushed)
+                      ∙ take-append-le (6 * g .rows) (w .low) (drop (6 * g .top) r) (omega (arith, w .long, p)))
+                      (waits-right (a .held .rows) low-link i refl refl none low-wide o e root (w .converted) deep q);
+                }
+
+-- THE LOOP OVER THE OPERATORS THAT WAIT
+-- a group, and what waits now
+pub record Groups (ks fs : List ℕ) (all : Whole) (m r s : List ℕ) (g : Group) (base : ℕ) : Type 0 where
+  pub ws : List Waiting
+  pub at : GroupAt ks fs all m ws r s g base
+
+-- from the operand that was read
+pub record Following (ks fs r₀ s₀ : List ℕ) (g₀ : Group) (base : ℕ) (r s : List ℕ) (g : Group) : Type 0 where
+  pub rows-long : length r ≡ length r₀
+  pub records-long : length s ≡ length s₀
+  pub place : g .at ≡ g₀ .at
+  pub goes : (all : Whole) (m : List ℕ) (ws : List Waiting) → GroupAt ks fs all m ws r₀ s₀ g₀ base → Groups ks fs all m r s g base
+
+pub following-starts : {ks fs r s : List ℕ} {g : Group} {base : ℕ} → Following ks fs r s g base r s g
+following-starts = record { rows-long = refl; records-long = refl; place = refl; goes = λ all m ws p. record { ws = ws; at = p } }
+
+-- what `ends_operand` tells
+record Ends-here (r : List ℕ) (top base level : ℕ) : Type 0 where
+  inside : top < base
+  operator : is-operation (getD r (6 * top) 0) ≡ true
+  within : level ≤ word r top 4
+
+never : _≡_ {A = Bool} true false → ⊥
+never e = let z : _≡_ {A = ℕ} 0 1 = cc in omega arith
+
+ends-here : (r : List ℕ) (top base level : ℕ) → ends-operand r top base level ≡ true → Ends-here r top base level
+ends-here r top base level e = go (ltb top base) (is-operation (getD r (6 * top) 0)) (leb level (word r top 4)) refl refl refl e
+  where
+    go : (a b c : Bool) → ltb top base ≡ a → is-operation (getD r (6 * top) 0) ≡ b → leb level (word r top 4) ≡ c → (if a then (if b then c else false) else false) ≡ true → Ends-here r top base level
+    go true true true p q t z = record { inside = ltb-true _ _ p; operator = q; within = leb-true _ _ t }
+    go true true false p q t z = absurd (never (sym z))
+    go true false c p q t z = absurd (never (sym z))
+    go false b c p q t z = absurd (never (sym z))
+
+operation-is : (ks : List ℕ) (mark : ℕ) → is-operation (operation-kind (getD ks mark 0)) ≡ true
+unfolding operation-kind
+operation-is ks mark = go (between Question2 Amp2 (getD ks mark 0))
+  where
+    go : (b : Bool) → is-operation (if b then Row.Logical else Row.Binary) ≡ true
+    go true = refl
+    go false = refl
+
+-- an operator waits first, and its operand ends
+yes-ends : (ks r : List ℕ) (level : ℕ) {top base mark first left from : ℕ} {ws : List Waiting} → Held ks r top base (operation mark first left from ∷ ws) → leb level (word r top 4) ≡ true
+    → ends-operand r top base level ≡ true
+yes-ends ks r level {top} {base} {mark} h e =
+    rw (lt-ltb top base (held-inside h)) (subst (λ (b : Bool). (if b then leb level (word r top 4) else false) ≡ true) (sym (operation-is ks mark) ∙ ap is-operation (sym (held-kind h))) e)
+
+choice-no-operation : is-operation Choice ≡ false
+choice-no-operation = refl
+
+-- the row of an operator that waits first is made
+operation-finishes : {ks fs : List ℕ} {all : Whole} {m r s : List ℕ} {g : Group} {base level : ℕ} → level ≡ expression-level (getD ks (g .at) 0) → (mark first left from : ℕ) (ws : List Waiting)
+    → GroupAt ks fs all m (operation mark first left from ∷ ws) r s g base → level ≤ word r (g .top) 4 → {r′ s′ : List ℕ} {u : Group} → FinishedOperation ks r s g r′ s′ u
+    → length r′ ≡ length r → length s′ ≡ length s → Groups ks fs all m r′ s′ u base
+unfolding Ends
+operation-finishes {ks} {fs} {all} {m} {r} {s} {g} {base} {level} v mark first left from ws a le {r′} {s′} {u} f long deep =
+    let h = a .held in
+    let e = operand-ends (h .rows) (a .linked) refl v refl (subst (λ (i : ℕ). level ≤ i) (held-word h 4) le) in
+    let rows = h .rows in
+    let room = h .room in
+    let fin : Finished ks (take (6 * (g .top + 1)) r) s (end-of g) mark first left from (f .low) s′ (end-of u) =
+    rw (sym (held-word h 1), sym (held-word h 2), sym (held-word h 3), sym (held-word h 5)) (f .made) in
+    let whole : Finished ks r s (end-of g) mark first left from r′ s′ (end-of u) =
+    subst (λ (l : List ℕ). Finished ks r s (end-of g) mark first left from l s′ (end-of u)) (sym (f .text))
+    (finished-wider {t = g .top + 1} (omega (arith, e .left-before)) (omega (arith, e .room, rows)) (omega (arith, e .from-before)) (omega arith) fin (drop (6 * (g .top + 1)) r)) in
+    let linked : Linked ks fs all (Ends ks fs all base ws) ws (base - length ws) r′ s′ m (end-of u) first from = e .made r′ s′ (end-of u) long deep whole in
+    let top : base - length ws ≡ u .top = omega (arith, rows, f .top) in
+    record {
+      ws = ws;
+      at = record {
+        held =
+            subst (λ (t : ℕ). Held ks r′ t base ws) (sym (f .top))
+            (subst (λ (l : List ℕ). Held ks l (g .top + 1) base ws) (sym (f .text)) (held-lent (f .low) (held-next (operation mark first left from) h) (f .long)));
+        linked =
+            subst (λ (t : ℕ). Linked ks fs all (Ends ks fs all base ws) ws t r′ s′ m (end-of u) (u .first) (u .from)) top
+            (subst (λ (i : ℕ). Linked ks fs all (Ends ks fs all base ws) ws (base - length ws) r′ s′ m (end-of u) i (u .from)) (sym (f .first ∙ held-word h 2))
+            (subst (λ (i : ℕ). Linked ks fs all (Ends ks fs all base ws) ws (base - length ws) r′ s′ m (end-of u) first i) (sym (f .from ∙ held-word h 5)) linked));
+      };
+    }
+
+module _ {ks fs : List ℕ} {all : Whole} {m r s : List ℕ} {g : Group} {base : ℕ} {level : ℕ} (v : level ≡ expression-level (getD ks (g .at) 0)) where
+  -- the innermost is an operator, whose right operand ends here
+  module _ (p : Groups ks fs all m r s g base) {b : Bool} (b-is : b ≡ ends-operand r (g .top) base level) (b-yes : b ≡ true) where
+    here : Ends-here r (g .top) base level
+    here = ends-here r (g .top) base level (sym b-is ∙ b-yes)
+
+    pub following-inside : g .top < base
+    following-inside = here .inside
+
+    pub following-fits : OperationFits r s g
+    unfolding Ends
+    following-fits = go (p .ws) (p .at)
+      where
+        go : (ws : List Waiting) → GroupAt ks fs all m ws r s g base → OperationFits r s g
+        go [] a = absurd (held-some (a .held) (here .inside))
+        go (part kind mark first kids from z _ ∷ ws) a = absurd (never (sym (here .operator) ∙ ap is-operation (held-kind (a .held)) ∙ z))
+        go (choice mark first from ∷ ws) a = absurd (never (sym (here .operator) ∙ ap is-operation (held-kind (a .held)) ∙ choice-no-operation))
+        go (operation mark first left from ∷ ws) a =
+            let h = a .held in
+            let e = operand-ends (h .rows) (a .linked) refl v refl (subst (λ (i : ℕ). level ≤ i) (held-word h 4) (here .within)) in
+            let rows = h .rows in
+            let room = h .room in
+            record {
+              inside = omega arith;
+              room = omega (arith, e .room, rows);
+              deep = e .deep;
+              rows-small = e .rows-small;
+              records-small = e .records-small;
+              place-small = e .place-small;
+              mark-small = rw (held-word h 1) (e .mark-small);
+              first-small = rw (held-word h 2) (e .first-small);
+              from-before = rw (held-word h 5, held-word h 3) (e .from-before);
+              left-before = rw (held-word h 3) (e .left-before);
+            }
+
+    pub following-made : {r′ s′ : List ℕ} {u : Group} → FinishedOperation ks r s g r′ s′ u → length r′ ≡ length r → length s′ ≡ length s → Groups ks fs all m r′ s′ u base
+    unfolding Ends
+    following-made {r′} {s′} {u} f long deep = go (p .ws) (p .at)
+      where
+        go : (ws : List Waiting) → GroupAt ks fs all m ws r s g base → Groups ks fs all m r′ s′ u base
+        go [] a = absurd (held-some (a .held) (here .inside))
+        go (part kind mark first kids from z _ ∷ ws) a = absurd (never (sym (here .operator) ∙ ap is-operation (held-kind (a .held)) ∙ z))
+        go (choice mark first from ∷ ws) a = absurd (never (sym (here .operator) ∙ ap is-operation (held-kind (a .held)) ∙ choice-no-operation))
+        go (operation mark first left from ∷ ws) a = operation-finishes v mark first left from ws a (here .within) f long deep
+
+  -- it is not, or reads on
+  module _ (ws : List Waiting) (a : GroupAt ks fs all m ws r s g base) {b : Bool} (b-is : b ≡ ends-operand r (g .top) base level) (b-no : b ≡ false) where
+    pub following-floor : (level ≡ 0 → ⊥) → floor-of ks ws < level
+    following-floor some = go ws a
+      where
+        go : (ws : List Waiting) → GroupAt ks fs all m ws r s g base → floor-of ks ws < level
+        go [] a = omega (arith, some)
+        go (part kind mark first kids from _ _ ∷ ws) a = omega (arith, some)
+        go (choice mark first from ∷ ws) a = omega (arith, some)
+        go (operation mark first left from ∷ ws) a = by (leb level (word r (g .top) 4)) refl
+          where
+            by : (c : Bool) → leb level (word r (g .top) 4) ≡ c → right-floor (getD ks mark 0) < level
+            by true e = absurd (never (sym (yes-ends ks r level (a .held) e) ∙ sym b-is ∙ b-no))
+            by false e = subst (λ (i : ℕ). i < level) (held-word (a .held) 4) (leb-false _ _ e)
+
+    pub following-level : level ≡ 0 → awaits-operand ws ≡ false
+    following-level zero = go ws a
+      where
+        go : (ws : List Waiting) → GroupAt ks fs all m ws r s g base → awaits-operand ws ≡ false
+        go [] a = refl
+        go (part kind mark first kids from _ _ ∷ ws) a = refl
+        go (choice mark first from ∷ ws) a = refl
+        go (operation mark first left from ∷ ws) a =
+            absurd (never (sym (yes-ends ks r level (a .held) (le-leb level (word r (g .top) 4) (omega (arith, zero)))) ∙ sym b-is ∙ b-no))

@@ -1,0 +1,358 @@
+-- What waits, and what comes of it: each way from one state of the loop to the next.
+-- Assumes nothing.
+use Prim.Native.Nat.{ℕ, _+_, _-_, _*_, _≤_, _<_}
+use mathlib.Core.Path.{_≡_, refl, sym, ap, subst, _∙_}
+use mathlib.Core.Bool.{Bool, true, false, not}
+use mathlib.Core.List.{List, [], _∷_, _++_}
+use native.Mathlib.Omega.{arith}
+use lib.ListN.{length, getD, take}
+use Rattle.tokens.specs.Bool.{_is_, if_then_else_}
+use Rattle.tokens.specs.Kind.{Eq, Arrow, Question}
+use Rattle.tokens.specs.declared.cause.Cause.{Cause}
+use Rattle.tokens.proofs.Stands.{stands-not}
+use Rattle.operators.specs.Precedence.{expression-level}
+use Rattle.rows.specs.Tree.{Tree, one}
+use Rattle.rows.specs.Row as Row
+use Rattle.rows.specs.Post.{Grown, Word}
+use Rattle.grammar.specs.Sheet.{sheet-of}
+use Rattle.grammar.specs.Job.{Job, assignment, value, binary, assign, conditional, body}
+use Rattle.grammar.specs.Assignment.{is-async-name, is-assignment-operator}
+use Rattle.grammar.specs.Binary.{right-floor}
+use Rattle.roles.specs.Meaning as means
+use Rattle.targets.specs.Post as Targets
+use Rattle.targets.specs.declared.Conversion.{Conversion}
+use Rattle.making.specs.Post.{cursor, Room, Met, MetOver, MetAfter, Made, Topped, Leafed, Operand, HeadFits}
+use Rattle.making.specs.declared.cursor.Cursor.{Cursor}
+use Rattle.making.specs.declared.cursor.Step.{Step}
+use Rattle.making.proofs.Ends.{moved}
+use Rattle.heads.specs.declared.Head.{Head}
+use Rattle.operation.specs.Operation.{Finished}
+use Rattle.steps.specs.Binary.{Grouped, operator-stands, operand-rows, binary-refuses, binary-ends, binary-stops, binary-operates}
+use Rattle.steps.specs.Value as Value
+use Rattle.steps.specs.Value.{value-refuses, value-operand, value-choices, value-ends, value-stays, value-assigned, value-arrows}
+use Rattle.steps.specs.Choice.{choice-fails, choice-opens, choice-fails-after, choice-done}
+use Rattle.steps.specs.Assigned.{kind-for, assigned-few, assigned-refuses, assigned-fails, assigned-done}
+use Rattle.steps.specs.Body.{Breaks, body-curlies, body-refused, body-dones}
+use Rattle.waiting.specs.Waiting.{Waiting, operation, part, choice, is-operation, Choice, awaits-operand, floor-of, begun, Whole, Spare, Comes-all, Outcome, Starts, Opens, Linked, OperationEnds, PartEnds, ChoiceEnds, Ends}
+use Rattle.waiting.proofs.Cuts.{met-from, met-wider, grown-inside}
+
+-- room in words for what is read below the rows that wait
+pub room-below : {ks r s : List ℕ} {top : ℕ} {c : Cursor} → Spare ks s top c → 6 * top ≤ length r → Room ks r s c
+room-below p h = record { short = p .short; wide = omega (arith, p); deep = p .deep; inside = p .inside; few = p .few; said = p .said }
+
+-- what began, by what it waits for
+begun-operand : (ks : List ℕ) (ws : List Waiting) (first : ℕ) → awaits-operand ws ≡ true → begun ks ws first ≡ binary (floor-of ks ws) first
+begun-operand ks ws first e = rw e
+
+begun-value : (ks : List ℕ) (ws : List Waiting) (first : ℕ) → awaits-operand ws ≡ false → begun ks ws first ≡ value first
+begun-value ks ws first e = rw e
+
+floor-none : (ks : List ℕ) (ws : List Waiting) → awaits-operand ws ≡ false → floor-of ks ws ≡ 0
+floor-none ks [] e = refl
+floor-none ks (operation mark first left from ∷ ws) e = let z : _≡_ {A = ℕ} 0 1 = cc in absurd (omega arith)
+floor-none ks (part kind mark first kids from _ _ ∷ ws) e = refl
+floor-none ks (choice mark first from ∷ ws) e = refl
+
+-- rows of assignments are no operator's
+pub no-operation : (plain : Bool) → is-operation (kind-for plain) ≡ false
+no-operation true = refl
+no-operation false = refl
+
+pub no-choice : (plain : Bool) → kind-for plain ≡ Choice → ⊥
+no-choice true e = omega (arith, e)
+no-choice false e = omega (arith, e)
+
+no-assignment-arrow : {k : ℕ} → k ≡ Arrow → is-assignment-operator k ≡ false
+unfolding is-assignment-operator
+no-assignment-arrow e = rw e
+
+module _ {ks fs : List ℕ} {all : Whole} where
+  -- from another list with the same first rows
+  pub starts-from : {next : List ℕ → List ℕ → List ℕ → Cursor → Type 0} {job : Job} {r r′ s m : List ℕ} {c : Cursor} → take (6 * c .rows) r′ ≡ take (6 * c .rows) r
+      → Starts ks fs all next job r s m c → Starts ks fs all next job r′ s m c
+  starts-from e h = record { goes = λ r″ s″ m″ x long a. h .goes r″ s″ m″ x long (met-from e a) }
+
+module _ {ks fs : List ℕ} {all : Whole} {base : ℕ} {ws : List Waiting} {top : ℕ} {r s m : List ℕ} {u : Cursor} {first from : ℕ}
+    (fits : top + length ws ≡ base) (l : Linked ks fs all (Ends ks fs all base ws) ws top r s m u first from) where
+  abbrev here : Room ks (l .rows₀) (l .records₀) (cursor first from (l .said₀))
+  here = room-below (l .spare) (l .room)
+
+  -- as the job that began with the group
+  as-begun : {job : Job} {r′ s′ m′ : List ℕ} {x : Step} → begun ks ws first ≡ job → length s′ ≡ length s
+      → Met ks fs (l .rows₀) (l .records₀) (l .notes₀) r′ s′ m′ job from (l .said₀) x → Outcome ks fs all (Ends ks fs all base ws) r′ s′ m′ x
+  as-begun {job} {r′} {s′} {m′} {x} e long a =
+      l .starts .goes r′ s′ m′ x (long ∙ l .deep) (subst (λ (j : Job). Met ks fs (l .rows₀) (l .records₀) (l .notes₀) r′ s′ m′ j from (l .said₀) x) (sym e) a)
+
+  -- room where the group ends
+  pub linked-spare : Spare ks s top u
+  linked-spare =
+      let p = l .spare in
+      let g = l .grouped in
+      record {
+        short = p .short;
+        wide = omega (arith, p, g);
+        deep = omega (arith, p, l .deep);
+        inside = omega (arith, g);
+        few = omega (arith, p, g);
+        said = omega (arith, p, g);
+      }
+
+  -- a refusal of the operand that was waited for, or of the binary level
+  stops : {r′ s′ m′ : List ℕ} {x : Step} {cause : Cause} → length s′ ≡ length s → Met ks fs (l .rows₀) (l .records₀) (l .notes₀) r′ s′ m′ (binary (floor-of ks ws) first) from (l .said₀) x
+      → x ≡ Step.Fail cause → Comes-all ks fs all r′ s′ m′ x
+  stops {r′} {s′} {m′} {x} {cause} long a e = go (awaits-operand ws) refl
+    where
+      go : (b : Bool) → awaits-operand ws ≡ b → Comes-all ks fs all r′ s′ m′ x
+      go true i = as-begun (begun-operand ks ws first i) long a .refused cause e
+      go false i =
+          let f : Met ks fs (l .rows₀) (l .records₀) (l .notes₀) r′ s′ m′ (binary 0 first) from (l .said₀) x =
+          subst (λ (n : ℕ). Met ks fs (l .rows₀) (l .records₀) (l .notes₀) r′ s′ m′ (binary n first) from (l .said₀) x) (floor-none ks ws i) a in
+          as-begun (begun-value ks ws first i) long (value-refuses here refl (l .plain i) f e) .refused cause e
+
+  module _ {operator above : ℕ} (t : operator ≡ getD ks (u .at) 0) (v : above ≡ expression-level operator) where
+    -- the operand that was waited for ends here
+    pub operand-ends : awaits-operand ws ≡ true → above ≤ floor-of ks ws → Ends ks fs all base ws r s m u
+    operand-ends i le = as-begun (begun-operand ks ws first i) refl (binary-ends (l .grouped) t v le) .read u refl
+
+    module _ (lt : floor-of ks ws < above) where
+      abbrev now : Waiting
+      now = operation (u .at) first (u .rows) from
+
+      -- an operator waits for its right operand
+      pub waits-operand : Starts ks fs all (Ends ks fs all base (now ∷ ws)) (binary (right-floor (getD ks (u .at) 0)) (u .at + 1)) r s m (cursor (u .at + 1) (u .rows) (u .records))
+      unfolding Ends
+      waits-operand =
+          record {
+            goes = λ r′ s′ m′ x long a.
+                record {
+                  refused = λ cause e. stops long (binary-stops (l .grouped) t v lt (ap right-floor (sym t)) a e) e;
+                  read = λ d e.
+                      let g = a .done-to d e in
+                      let w = moved _ g refl in
+                      let some = operand-rows g in
+                      let p = linked-spare in
+                      let q = l .grouped in
+                      record {
+                        room = omega (arith, w, p, fits);
+                        deep = omega (arith, w, p, long);
+                        rows-small = omega (arith, w, p);
+                        records-small = omega (arith, w, p);
+                        place-small = omega (arith, w, p);
+                        mark-small = omega (arith, p);
+                        first-small = omega (arith, l .spare);
+                        from-before = q .some;
+                        left-before = some;
+                        made = λ r″ s″ z _ long′ fin.
+                            record {
+                              rows₀ = l .rows₀;
+                              records₀ = l .records₀;
+                              notes₀ = l .notes₀;
+                              said₀ = l .said₀;
+                              spare = subst (λ (i : ℕ). Spare ks (l .records₀) i (cursor first from (l .said₀))) (omega (arith, fits)) (l .spare);
+                              room = omega (arith, l .room, fits);
+                              deep = long′ ∙ long ∙ l .deep;
+                              plain = l .plain;
+                              grouped =
+                                  subst (λ (i : ℕ). Grouped ks fs (l .rows₀) (l .records₀) (l .notes₀) (floor-of ks ws) first from (l .said₀) r″ s″ m′ z i) (sym (fin .place))
+                                  (binary-operates (l .grouped) t v lt (ap right-floor (sym t)) a e (grown-inside (q .wide) (q .made .grown)) fin);
+                              starts = l .starts;
+                            };
+                      };
+                };
+          }
+
+  -- THE ASSIGNMENT LEVEL PAST A HEAD: no operator waits, and none follows the group
+  module _ {operator above : ℕ} (i : awaits-operand ws ≡ false) (t : operator ≡ getD ks (u .at) 0) (v : above ≡ expression-level operator) (none : above ≡ 0) (wide : 6 * top ≤ length r) where
+    -- the binary level ends here
+    level : Met ks fs (l .rows₀) (l .records₀) (l .notes₀) r s m (binary 0 first) from (l .said₀) (Step.Done u)
+    level =
+        subst (λ (n : ℕ). Met ks fs (l .rows₀) (l .records₀) (l .notes₀) r s m (binary n first) from (l .said₀) (Step.Done u)) (floor-none ks ws i)
+        (binary-ends (l .grouped) t v (omega (arith, none)))
+
+    valued : {r′ s′ m′ : List ℕ} {x : Step} → length s′ ≡ length s → Met ks fs (l .rows₀) (l .records₀) (l .notes₀) r′ s′ m′ (value first) from (l .said₀) x
+        → Outcome ks fs all (Ends ks fs all base ws) r′ s′ m′ x
+    valued long a = as-begun (begun-value ks ws first i) long a
+
+    -- the group, as an operand of what follows it
+    pub operand : u .at < length ks → Operand ks r u first from
+    operand next = value-operand here refl (l .plain i) level refl t next
+
+    group-room : Room ks r s u
+    group-room = room-below linked-spare wide
+
+    -- nothing follows
+    pub part-ends : {b : Bool} → b ≡ is-assignment-operator operator → b ≡ false → (operator ≡ Question → ⊥) → (operator ≡ Arrow → ⊥) → Ends ks fs all base ws r s m u
+    part-ends o e q a = valued refl (value-ends here refl (l .plain i) level refl t a o e q) .read u refl
+
+    -- `=>` after what is no name
+    pub no-name-ends : {z : ℕ} → operator ≡ Arrow → Word r (u .rows - 1) 0 z → (z ≡ Row.Identifier → ⊥) → Ends ks fs all base ws r s m u
+    no-name-ends a w h = valued refl (value-stays here refl (l .plain i) level refl t a w h) .read u refl
+
+    -- a Conditional waits for its `:`, and then for its last part
+    module _ (q : operator ≡ Question) where
+      next : u .at < length ks
+      next = stands-not ks (u .at) (λ z. let y : _≡_ {A = ℕ} Question 0 = sym q ∙ t ∙ z in omega arith)
+
+      no-arrow : operator ≡ Arrow → ⊥
+      no-arrow e = let z : _≡_ {A = ℕ} Arrow Question = sym e ∙ q in omega arith
+
+      no-assignment : is-assignment-operator operator ≡ false
+      unfolding is-assignment-operator
+      no-assignment = rw q
+
+      chosen : {r′ s′ m′ : List ℕ} {x : Step} → length s′ ≡ length s → MetOver ks fs r s m r′ s′ m′ (conditional first (u .at)) from (u .rows) (u .records) x
+          → Outcome ks fs all (Ends ks fs all base ws) r′ s′ m′ x
+      chosen long a = valued long (value-choices here refl (l .plain i) level refl t no-arrow refl no-assignment q a)
+
+      pub waits-choice : Starts ks fs all (Ends ks fs all base (choice (u .at) first from ∷ ws)) (assignment (u .at + 1)) r s m (cursor (u .at + 1) (u .rows) (u .records))
+      unfolding Ends
+      waits-choice =
+          let p = linked-spare in
+          let o = operand next in
+          record {
+            goes = λ r′ s′ m′ x long a.
+                record {
+                  refused = λ cause e. chosen long (choice-fails group-room o a e) .refused cause e;
+                  read = λ d e.
+                      let w = moved _ (a .done-to d e) refl in
+                      record {
+                        spare = record {
+                          short = p .short;
+                          wide = omega (arith, p, w, fits, next);
+                          deep = omega (arith, p, long);
+                          inside = w .inside;
+                          few = omega (arith, p, w);
+                          said = omega (arith, p, w);
+                        };
+                        no-colon = λ z. chosen long (choice-opens group-room o a e refl z) .refused _ refl;
+                        colon = λ z.
+                            record {
+                              goes = λ r″ s″ m″ y long′ b.
+                                  record {
+                                    refused = λ cause f. chosen (long′ ∙ long) (choice-fails-after group-room o a e refl z b f) .refused cause f;
+                                    read = λ c f.
+                                        let w′ = moved _ (b .done-to c f) refl in
+                                        record {
+                                          no-operand = i;
+                                          fits = record {
+                                            row = record { room = omega (arith, p, w, w′, fits); small = omega (arith, p, w, w′) };
+                                            mark-small = omega (arith, p);
+                                            first-small = omega (arith, l .spare);
+                                            end-small = omega (arith, p, w′);
+                                            kids-small = omega arith;
+                                            from-before = omega (arith, l .grouped, w, w′);
+                                          };
+                                          made = λ r‴ v top. chosen (long′ ∙ long) (choice-done group-room o a e refl z b f top) .read v refl;
+                                        };
+                                  };
+                            };
+                      };
+                };
+          }
+
+    -- an assignment waits for its right side: its left side is converted
+    module _ {b : Bool} (o : b ≡ is-assignment-operator operator) (e : b ≡ true) {root : ℕ} (n : u .rows ≡ root + 1) {r₁ s₁ : List ℕ} {z : Conversion}
+        (h : Targets.RowConverted r s root (means.aim (not (operator is Eq))) (u .records) r₁ s₁ z) (deep₁ : length s₁ ≡ length s) where
+      equals : u .at < length ks
+      equals = Value.operator-stands ks (u .at) t o e
+
+      no-body : operator ≡ Arrow → ⊥
+      no-body q = let y : _≡_ {A = Bool} true false = sym e ∙ o ∙ no-assignment-arrow q in let x : _≡_ {A = ℕ} 0 1 = cc in omega arith
+
+      over : Operand ks r u first from
+      over = operand equals
+
+      assigned : {r′ s′ m′ : List ℕ} {x : Step} → length s′ ≡ length s → MetOver ks fs r s m r′ s′ m′ (assign first (u .at)) from (u .rows) (u .records) x
+          → Outcome ks fs all (Ends ks fs all base ws) r′ s′ m′ x
+      assigned long a = valued long (value-assigned here refl (l .plain i) level refl t no-body o e a)
+
+      pub right-refused : (after : List ℕ) → 6 * u .rows ≤ length r₁ → {cause : Cause} → z ≡ Conversion.Refused cause → Comes-all ks fs all (r₁ ++ after) s₁ m (Step.Fail cause)
+      right-refused after tall q =
+          let a = assigned-refuses group-room over t n h q in
+          let g = l .grouped in
+          assigned deep₁ record { over-one = λ left stands. met-wider (omega (arith, wide, linked-spare, g)) after (omega (arith, tall, g)) (a .over-one left stands) } .refused _ refl
+
+      module _ {counted : ℕ} (q : z ≡ Conversion.Turned counted) where
+        pub right-spare : Spare ks s₁ (top - 1) (cursor (u .at + 1) (u .rows) (u .records + counted))
+        right-spare =
+            let p = linked-spare in
+            let few = assigned-few group-room over t n h q in
+            record { short = p .short; wide = omega (arith, p, equals); deep = omega (arith, p, deep₁); inside = omega (arith, equals); few = omega (arith, p); said = omega (arith, few) }
+
+        pub waits-right : Starts ks fs all (Ends ks fs all base (part (kind-for (operator is Eq)) (u .at) first 2 from (no-operation (operator is Eq)) (no-choice (operator is Eq)) ∷ ws)) (assignment (u .at + 1)) r₁ s₁ m (cursor (u .at + 1) (u .rows) (u .records + counted))
+        unfolding Ends
+        waits-right =
+            let p = linked-spare in
+            record {
+              goes = λ r′ s′ m′ x long a.
+                  record {
+                    refused = λ cause f. assigned (long ∙ deep₁) (assigned-fails group-room over t n h q a f) .refused cause f;
+                    read = λ d f.
+                        let w = moved _ (a .done-to d f) refl in
+                        record {
+                          no-operand = i;
+                          fits = record {
+                            row = record { room = omega (arith, p, w, fits); small = omega (arith, p, w) };
+                            mark-small = omega (arith, p);
+                            first-small = omega (arith, l .spare);
+                            end-small = omega (arith, p, w);
+                            kids-small = omega arith;
+                            from-before = omega (arith, l .grouped, w);
+                          };
+                          made = λ r″ v top. assigned (long ∙ deep₁) (assigned-done group-room over t n h q a f refl top) .read v refl;
+                        };
+                  };
+            }
+
+    -- the name of an arrow without parentheses: what its body comes to
+    pub name-opens : {r₂ : List ℕ} {z : ℕ} {c : Cursor} → operator ≡ Arrow → Word r (u .rows - 1) 0 z → z ≡ Row.Identifier → Leafed r (cursor first from (u .records)) Row.BindingName r₂ c
+        → {h : Head} → h ≡ record { kind = Row.Arrow; first = first; from = from; kids = 1 } → Opens ks fs all (Ends ks fs all base ws) r₂ s m (cursor (u .at) (c .rows) (c .records)) h
+    name-opens a w k top e =
+        rw e record {
+          goes = λ r′ s′ m′ x long f. valued long (value-arrows here refl (l .plain i) level refl t a w k top f);
+        }
+
+-- A HEAD WAS READ, and its `=>` stands here
+module _ {ks fs : List ℕ} {all : Whole} {base : ℕ} (ws : List Waiting) {top : ℕ} {r s m : List ℕ} {d : Cursor} {h : Head}
+    (fits : top + length ws ≡ base) (i : awaits-operand ws ≡ false) (p : Spare ks s top d) (wide : 6 * top ≤ length r) (f : HeadFits ks d h) (o : Opens ks fs all (Ends ks fs all base ws) r s m d h) where
+  abbrev body-room : Room ks r s d
+  body-room = room-below p wide
+
+  pub body-refuses : {y : ℕ} → y ≡ getD ks (d .at + 1) 0 → y ≡ 22 → Comes-all ks fs all r s m (Step.Fail (Cause.Unexpected (d .at + 1)))
+  body-refuses k t = o .goes r s m _ refl (body-curlies body-room f k t) .refused _ refl
+
+  module _ {y : ℕ} {s₁ : List ℕ} {c : Cursor} (k : y ≡ getD ks (d .at + 1) 0) (t : y ≡ 22 → ⊥) (b : Breaks fs s d s₁ c) (a : is-operation (h .kind) ≡ false) (z : h .kind ≡ Choice → ⊥) where
+    pub body-spare : Spare ks s₁ (top - 1) c
+    body-spare =
+        record {
+          short = p .short;
+          wide = omega (arith, p, f, b);
+          deep = omega (arith, p, b .long);
+          inside = omega (arith, f, b);
+          few = omega (arith, p, b);
+          said = omega (arith, p, b);
+        }
+
+    pub waits-body : Starts ks fs all (Ends ks fs all base (part (h .kind) (d .at) (h .first) (h .kids + 1) (h .from) a z ∷ ws)) (assignment (c .at)) r s₁ m c
+    unfolding Ends
+    waits-body =
+        record {
+          goes = λ r′ s′ m′ x long e.
+              record {
+                refused = λ cause q. o .goes r′ s′ m′ x (long ∙ b .long) (body-refused body-room f k t b e q) .refused cause q;
+                read = λ g q.
+                    let w = moved _ (e .done-to g q) refl in
+                    record {
+                      no-operand = i;
+                      fits = record {
+                        row = record { room = omega (arith, p, w, fits, b, f); small = omega (arith, p, w, b) };
+                        mark-small = omega (arith, p);
+                        first-small = omega (arith, p, f);
+                        end-small = omega (arith, p, w);
+                        kids-small = omega (arith, f, p);
+                        from-before = omega (arith, f, w, b);
+                      };
+                      made = λ r″ v top. o .goes r″ s′ m′ _ (long ∙ b .long) (body-dones body-room f k t b e q top) .read v refl;
+                    };
+              };
+        }

@@ -1,0 +1,207 @@
+-- What the functions on rows that wait promise. r and s are the words of rows and records before, r′ and s′ those after.
+-- Assumes nothing: these are definitions.
+use Prim.Native.Nat.{ℕ, _+_, _-_, _*_, _≤_, _<_}
+use mathlib.Core.Path.{_≡_}
+use mathlib.Core.Bool.{Bool, true, false, not}
+use mathlib.Core.List.{List, _++_}
+use lib.Dec.{leb, ltb}
+use lib.ListN.{length, getD, take, drop}
+use Rattle.tokens.specs.Bool.{_and_, _is_, if_then_else_}
+use Rattle.tokens.specs.Kind.{LCurly, Colon, Arrow, Eq}
+use Rattle.tokens.specs.declared.cause.Cause.{Cause}
+use Rattle.operators.specs.Precedence.{expression-level}
+use Rattle.rows.specs.Row as Row
+use Rattle.rows.specs.Post.{Pushed, KindSet}
+use Rattle.roles.specs.Meaning as means
+use Rattle.targets.specs.Post as Targets
+use Rattle.targets.specs.declared.Conversion.{Conversion}
+use Rattle.grammar.specs.Binary.{operation-kind, right-floor}
+use Rattle.making.specs.Post.{cursor, Topped, TopRoom, Leafed}
+use Rattle.making.specs.declared.cursor.Cursor.{Cursor}
+use Rattle.making.specs.declared.cursor.Step.{Step}
+use Rattle.heads.specs.declared.Head.{Head}
+use Rattle.operation.specs.Operation.{Finished}
+use Rattle.steps.specs.Assigned.{kind-for}
+use Rattle.steps.specs.Body.{Breaks}
+use Rattle.waiting.specs.Waiting.{Waiting, is-operation, awaits-operand, Whole, Held, Comes-all, Ends, Linked, Awaits}
+use Rattle.waiting.specs.declared.Group.{Group}
+use Rattle.waiting.specs.declared.Next.{Next}
+
+-- a word of a row
+abbrev pub word : List ℕ → ℕ → ℕ → ℕ
+word r n i = getD r (6 * n + i) 0
+
+-- the cursor at the end of a group
+abbrev pub end-of : Group → Cursor
+end-of g = cursor (g .at) (g .rows) (g .records)
+
+-- the innermost row that waits is an operator's, and its right operand ends before an operator of this level
+abbrev pub ends-operand : List ℕ → ℕ → ℕ → ℕ → Bool
+ends-operand r top base level = if ltb top base then (if is-operation (getD r (6 * top) 0) then leb level (word r top 4) else false) else false
+
+-- an operator waits in the row `top`, and there is room for its row and its record
+pub record OperationFits (r s : List ℕ) (g : Group) : Type 0 where
+  pub inside : 6 * g .top + 6 ≤ length r
+  pub room : g .rows ≤ g .top
+  pub deep : 2 * g .records + 2 ≤ length s
+  pub rows-small : g .rows ≤ 2048
+  pub records-small : g .records ≤ 2048
+  pub place-small : g .at ≤ 2048
+  pub mark-small : word r (g .top) 1 ≤ 2048
+  pub first-small : word r (g .top) 2 ≤ 2048
+  pub from-before : word r (g .top) 5 < word r (g .top) 3
+  pub left-before : word r (g .top) 3 < g .rows
+
+-- its row was made by the words that waited, below the rows that still wait
+pub record FinishedOperation (ks r s : List ℕ) (g : Group) (r′ s′ : List ℕ) (u : Group) : Type 0 where
+  pub first : u .first ≡ word r (g .top) 2
+  pub from : u .from ≡ word r (g .top) 5
+  pub top : u .top ≡ g .top + 1
+  pub low : List ℕ
+  pub long : length low ≡ 6 * (g .top + 1)
+  pub made : Finished ks (take (6 * (g .top + 1)) r) s (end-of g) (word r (g .top) 1) (word r (g .top) 2) (word r (g .top) 3) (word r (g .top) 5) low s′ (end-of u)
+  pub text : r′ ≡ low ++ drop (6 * (g .top + 1)) r
+
+-- there is room for one more row that waits
+pub record WaitFits (words : ℕ) (g : Group) : Type 0 where
+  pub some : 1 ≤ g .top
+  pub inside : 6 * g .top ≤ words
+  pub place-small : g .at ≤ 2048
+  pub rows-small : g .rows ≤ 2048
+  pub first-small : g .first ≤ 2048
+  pub from-small : g .from ≤ 2048
+
+-- an operator waits
+pub record WaitsOperand (ks r : List ℕ) (g : Group) (r′ : List ℕ) (x : Next) : Type 0 where
+  pub gives : x ≡ Next.Operand (cursor (g .at + 1) (g .rows) (g .records)) (g .top - 1)
+  pub pushed : Pushed r (g .top - 1) (operation-kind (getD ks (g .at) 0)) (g .at) (g .first) (g .rows) (right-floor (getD ks (g .at) 0)) (g .from) r′
+
+-- a Conditional waits for its `:`
+pub record WaitsChoice (r : List ℕ) (g : Group) (r′ : List ℕ) (x : Next) : Type 0 where
+  pub gives : x ≡ Next.Part (cursor (g .at + 1) (g .rows) (g .records)) (g .top - 1)
+  pub pushed : Pushed r (g .top - 1) 0 (g .at) (g .first) 0 3 (g .from) r′
+
+-- an assignment's left side was converted below the rows that wait, and the assignment waits; or it was refused
+pub record RightRefused (r : List ℕ) (g : Group) (low r′ : List ℕ) (cause : Cause) (x : Next) : Type 0 where
+  pub gives : x ≡ Next.Fail cause
+  pub text : r′ ≡ low ++ drop (6 * g .top) r
+
+pub record RightWaits (ks r : List ℕ) (g : Group) (low r′ : List ℕ) (count : ℕ) (x : Next) : Type 0 where
+  pub gives : x ≡ Next.Part (cursor (g .at + 1) (g .rows) (g .records + count)) (g .top - 1)
+  pub pushed : Pushed (low ++ drop (6 * g .top) r) (g .top - 1) (kind-for (getD ks (g .at) 0 is Eq)) (g .at) (g .first) 0 2 (g .from) r′
+
+pub record WaitsRight (ks r s : List ℕ) (g : Group) (r′ s′ : List ℕ) (x : Next) : Type 0 where
+  pub low : List ℕ
+  pub long : length low ≡ 6 * g .top
+  pub turned : Conversion
+  pub converted : Targets.RowConverted (take (6 * g .top) r) s (g .rows - 1) (means.aim (not (getD ks (g .at) 0 is Eq))) (g .records) low s′ turned
+  pub refused : (cause : Cause) → turned ≡ Conversion.Refused cause → RightRefused r g low r′ cause x
+  pub waits : (count : ℕ) → turned ≡ Conversion.Turned count → RightWaits ks r g low r′ count x
+
+-- there is room for an arrow that waits, and for its record
+pub record BodyFits (words records : ℕ) (d : Cursor) (h : Head) (top : ℕ) : Type 0 where
+  pub some : 1 ≤ top
+  pub inside : 6 * top ≤ words
+  pub place-small : d .at ≤ 2048
+  pub deep : 2 * d .records + 2 ≤ records
+  pub records-small : d .records ≤ 2048
+  pub first-small : h .first ≤ 2048
+  pub kids-small : h .kids ≤ 2048
+  pub from-small : h .from ≤ 2048
+
+-- a block as body, and nothing changes; or past its `=>`, with a record if a line break stands before it, an arrow waits
+pub record BodyRefused (r s : List ℕ) (d : Cursor) (r′ s′ : List ℕ) (x : Next) : Type 0 where
+  pub gives : x ≡ Next.Fail (Cause.Unexpected (d .at + 1))
+  pub rows-same : r′ ≡ r
+  pub records-same : s′ ≡ s
+
+pub record BodyWaits (fs r s : List ℕ) (d : Cursor) (h : Head) (top : ℕ) (r′ s′ : List ℕ) (x : Next) : Type 0 where
+  pub c : Cursor
+  pub gives : x ≡ Next.Part c (top - 1)
+  pub breaks : Breaks fs s d s′ c
+  pub pushed : Pushed r (top - 1) (h .kind) (d .at) (h .first) 0 (h .kids + 1) (h .from) r′
+
+pub record WaitsBody (ks fs r s : List ℕ) (d : Cursor) (h : Head) (top : ℕ) (r′ s′ : List ℕ) (x : Next) : Type 0 where
+  pub block : getD ks (d .at + 1) 0 ≡ LCurly → BodyRefused r s d r′ s′ x
+  pub waits : (getD ks (d .at + 1) 0 ≡ LCurly → ⊥) → BodyWaits fs r s d h top r′ s′ x
+
+-- a row waits for its last part in the row `top`, and there is room for it
+pub record PartFits (r : List ℕ) (c : Cursor) (top : ℕ) : Type 0 where
+  pub inside : 6 * top + 6 ≤ length r
+  pub fits : TopRoom (6 * (top + 1)) c (word r top 1) (word r top 2) (c .at) (word r top 4) (word r top 5)
+
+-- a Conditional at its `:`
+pub record Colons (r : List ℕ) (c : Cursor) (top : ℕ) (r′ : List ℕ) (x : Next) : Type 0 where
+  pub gives : x ≡ Next.Part (cursor (c .at + 1) (c .rows) (c .records)) top
+  pub set : KindSet r top Row.Conditional r′
+
+pub record NoColon (r : List ℕ) (c : Cursor) (r′ : List ℕ) (x : Next) : Type 0 where
+  pub gives : x ≡ Next.Fail (Cause.Unexpected (c .at))
+  pub same : r′ ≡ r
+
+pub record Otherwise (ks r : List ℕ) (c : Cursor) (top : ℕ) (r′ : List ℕ) (x : Next) : Type 0 where
+  pub colon : getD ks (c .at) 0 ≡ Colon → Colons r c top r′ x
+  pub no-colon : (getD ks (c .at) 0 ≡ Colon → ⊥) → NoColon r c r′ x
+
+-- `=>` stands after a group that is one Identifier
+abbrev pub opens-body : List ℕ → List ℕ → Group → Bool
+opens-body ks r g = getD ks (g .at) 0 is Arrow and word r (g .rows - 1) 0 is Row.Identifier
+
+-- the arrow of one name
+abbrev pub name-head : Group → Head
+name-head g = record { kind = Row.Arrow; first = g .first; from = g .from; kids = 1 }
+
+-- the row of a binding was written over that of the name, and the arrow waits
+pub record NameBody (ks fs r s : List ℕ) (g : Group) (r′ s′ : List ℕ) (x : Next) : Type 0 where
+  pub named : List ℕ
+  pub long : length named ≡ length r
+  pub d : Cursor
+  pub leafed : Leafed r (cursor (g .first) (g .from) (g .records)) Row.BindingName named d
+  pub waits : WaitsBody ks fs named s (cursor (g .at) (d .rows) (d .records)) (name-head g) (g .top) r′ s′ x
+
+-- past a place, what is read next, and what waits for it; or what the whole comes to
+pub record Goes (ks fs : List ℕ) (all : Whole) (m : List ℕ) (at : ℕ) (r s : List ℕ) (base : ℕ) (x : Next) : Type 0 where
+  pub part : (c : Cursor) (top : ℕ) → x ≡ Next.Part c top → Awaits ks fs all m r s base top true (at + 1) c
+  pub operand : (c : Cursor) (top : ℕ) → x ≡ Next.Operand c top → Awaits ks fs all m r s base top false (at + 1) c
+  pub ended : (c : Cursor) → x ≡ Next.Ended c → Comes-all ks fs all r s m (Step.Done c)
+  pub refused : (cause : Cause) → x ≡ Next.Fail cause → Comes-all ks fs all r s m (Step.Fail cause)
+
+-- a part has ended at a cursor, and these wait, no operator first
+pub record PartAt (ks fs : List ℕ) (all : Whole) (m : List ℕ) (ws : List Waiting) (r s : List ℕ) (c : Cursor) (top base : ℕ) : Type 0 where
+  pub held : Held ks r top base ws
+  pub no-operand : awaits-operand ws ≡ false
+  pub ends : Ends ks fs all base ws r s m c
+
+pub record PartEnding (ks r : List ℕ) (c : Cursor) (top base : ℕ) : Type 0 where
+  pub fs : List ℕ
+  pub all : Whole
+  pub m : List ℕ
+  pub s : List ℕ
+  pub ws : List Waiting
+  pub at : PartAt ks fs all m ws r s c top base
+
+pub record PartEnded (ks r : List ℕ) (c : Cursor) (top base : ℕ) (r′ : List ℕ) (x : Next) : Type 0 where
+  pub goes : (fs : List ℕ) (all : Whole) (m s : List ℕ) (ws : List Waiting) → PartAt ks fs all m ws r s c top base → Goes ks fs all m (c .at) r′ s base x
+
+-- a group was read, and these wait
+pub record GroupAt (ks fs : List ℕ) (all : Whole) (m : List ℕ) (ws : List Waiting) (r s : List ℕ) (g : Group) (base : ℕ) : Type 0 where
+  pub held : Held ks r (g .top) base ws
+  pub linked : Linked ks fs all (Ends ks fs all base ws) ws (g .top) r s m (end-of g) (g .first) (g .from)
+
+pub record Grouping (ks fs r s : List ℕ) (g : Group) (base : ℕ) : Type 0 where
+  pub all : Whole
+  pub m : List ℕ
+  pub ws : List Waiting
+  pub at : GroupAt ks fs all m ws r s g base
+
+pub record Followed (ks fs r s : List ℕ) (g : Group) (base : ℕ) (r′ s′ : List ℕ) (x : Next) : Type 0 where
+  pub goes : (all : Whole) (m : List ℕ) (ws : List Waiting) → GroupAt ks fs all m ws r s g base → Goes ks fs all m (g .at) r′ s′ base x
+
+-- the same where the binary level ends: no operator waits, and none follows
+pub record Level (ks fs r s : List ℕ) (g : Group) (base : ℕ) : Type 0 where
+  pub grouping : Grouping ks fs r s g base
+  pub no-operand : awaits-operand (grouping .ws) ≡ false
+  pub no-operator : expression-level (getD ks (g .at) 0) ≡ 0
+
+pub record FollowedLevel (ks fs r s : List ℕ) (g : Group) (base : ℕ) (r′ s′ : List ℕ) (x : Next) : Type 0 where
+  pub goes : (all : Whole) (m : List ℕ) (ws : List Waiting) → GroupAt ks fs all m ws r s g base → awaits-operand ws ≡ false → expression-level (getD ks (g .at) 0) ≡ 0 → Goes ks fs all m (g .at) r′ s′ base x
