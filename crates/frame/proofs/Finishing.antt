@@ -60,7 +60,7 @@ module _ {ks r₀ s₀ m : List ℕ} {got : Step} where
   last-room ready c e =
       let h = c .came .done-to _ e in
       let l = ap length (grown-unconverted (h .rows)) in
-      record { few = omega (arith, ready, h .few); small = omega (arith, ready, h .paid, l); room = omega (arith, ready, h .paid, l) }
+      record { inside = omega (arith, ready, h .few); few = omega (arith, ready, h .few); small = omega (arith, ready, h .paid, l); room = omega (arith, ready, h .paid, l) }
 
   pub finish-reads : {s₁ r s : List ℕ} {d : Cursor} {used abandoned : ℕ} → got ≡ Step.Done d → d .at ≡ length ks
       → GrownRecords s₀ (d .records) s₁ used (unconverted-rows r₀ 0 (d .rows)) → length s₁ ≡ length s₀ → Cleared r₀ (6 * d .rows) r → Cleared s₁ (2 * used) s → abandoned ≡ noted-places m

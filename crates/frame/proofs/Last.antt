@@ -128,6 +128,13 @@ row-silent : {r : List ℕ} {at x : ℕ} → Word r at 0 x → (x ≡ Row.Shorth
 unfolding unconverted-row
 row-silent {x = x} w e = rw (sym (w .is), ne-eqb x Row.ShorthandInit e)
 
+-- the kind and the mark of a row by their places among the words
+pub kind-word : (r : List ℕ) (n : ℕ) → Word r n 0 (getD r (6 * n) 0)
+kind-word r n = let e : 6 * n ≡ 6 * n + 0 = omega arith in record { is = ap (λ (i : ℕ). getD r i 0) e }
+
+pub mark-word : (r : List ℕ) (n : ℕ) → Word r n 1 (getD r (6 * n + 1) 0)
+mark-word r n = record { is = refl }
+
 -- its record has room
 pub said-fits : {r : List ℕ} {words at k x y : ℕ} → LastRowRoom r words at k → Word r at 0 x → x ≡ Row.ShorthandInit → Word r at 1 y → 2 * k + 2 ≤ words
 said-fits room w e v = let l = ap length (row-says w e v) in omega (arith, room, l)
@@ -148,7 +155,7 @@ module _ {r s₀ : List ℕ} {n k : ℕ} where
       let a = fewer r 0 (at + 1) n (omega arith) in
       let b = ap length (one-more r at) ∙ length-append (unconverted-rows r 0 at) (unconverted-row r at) in
       let u = h .grown .used in
-      record { room = omega (arith, a, b, u, room, h .long); small = omega (arith, a, b, u, room) }
+      record { inside = omega (arith, room); room = omega (arith, a, b, u, room, h .long); small = omega (arith, a, b, u, room) }
 
   pub lasting-more : {s s′ : List ℕ} {here here′ at : ℕ} → Lasting r s₀ n k s here at → at < n → GrownRecords s here s′ here′ (unconverted-row r at) → length s′ ≡ length s
       → Lasting r s₀ n k s′ here′ (at + 1)

@@ -33,13 +33,15 @@ unfoldable pub unconverted-rows : List ℕ → ℕ → ℕ → List Record
 unconverted-rows r from zero = []
 unconverted-rows r from (suc n) = unconverted-rows r from n ++ unconverted-row r (from + n)
 
--- in so many words the record of this row, if it has one, has room after the first k
+-- the row n is inside, and in so many words its record, if it has one, has room after the first k
 pub record LastRowRoom (r : List ℕ) (words n k : ℕ) : Type 0 where
+  pub inside : 6 * n + 6 ≤ length r
   pub small : k ≤ 2048
   pub room : 2 * (k + length (unconverted-row r n)) ≤ words
 
--- in so many words the records of the last pass over the first n rows have room after the first k
+-- the first n rows are inside, and in so many words the records of the last pass over them have room after the first k
 pub record LastRoom (r : List ℕ) (words n k : ℕ) : Type 0 where
+  pub inside : 6 * n ≤ length r
   pub few : n ≤ 2048
   pub small : k + length (unconverted-rows r 0 n) ≤ 2048
   pub room : 2 * (k + length (unconverted-rows r 0 n)) ≤ words

@@ -73,13 +73,13 @@ fn noted(notes: &[u8; 2048], tokens: usize) -> usize
     requires { ⌜ tokens ≤ 2048 ⌝ }
     ensures { λ x. ⌜ x ≡ noted-places (now (notes .entry)) ⌝ }
 {
-    let mut count: usize = 0;
+    let mut count: u16 = 0;
     let mut at = 0;
     while at < tokens {
-        count += notes[at] as usize;
+        count += notes[at] as u16;
         at += 1;
     }
-    count
+    count as usize
 }
 
 // Record 8 of a row: a ShorthandInit that was never converted, at its mark. The answer is how many records there are then.
@@ -87,10 +87,11 @@ fn unconverted_row(rows: &[u32], records: &mut [u32], n: usize, used: usize) -> 
     requires { ⌜ LastRowRoom (now rows) (length (now records)) n used ⌝ }
     ensures { λ x. ⌜ GrownRecords (now (records .entry)) used (now (records .exit)) x (unconverted-row (now (rows .entry)) n) ⌝ }
 {
-    if rows::row_word(rows, n, 0) != rows::row::SHORTHAND_INIT {
+    let i = 6 * n;
+    if rows[i] != rows::row::SHORTHAND_INIT {
         return used;
     }
-    let mark = rows::row_word(rows, n, 1);
+    let mark = rows[i + 1];
     rows::push_record(records, used, 8, mark as usize);
     used + 1
 }

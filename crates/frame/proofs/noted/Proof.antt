@@ -34,8 +34,11 @@ loop-less c = omega (arith, c .before .before .loop .inv, c .before .before .bef
 loop-again : tie.Need-loop-again Inv-loop μ-loop
 loop-again c = counted-more (c .before .before .before .pre .0) (c .before .before .before .pre .1 .1) (c .before .before .loop .inv) (c .before .loop-test .taken)
 
+cast-result : tie.Need-cast-result Inv-loop μ-loop
+cast-result c = omega (arith, c .before .loop .inv, c .before .before .pre)
+
 returns : tie.Need-returns Inv-loop μ-loop
 returns c = counted-all (c .before .before .pre .1 .0) (c .before .loop .inv) (c .loop-test .left)
 
 pub noted-spec : {M : Type 1} → statement M
-noted-spec = tie.close (tie.spec Inv-loop μ-loop loop-holds element-copy-out-count cast-count add-count add-at loop-less loop-again returns)
+noted-spec = tie.close (tie.spec Inv-loop μ-loop loop-holds element-copy-out-count cast-count add-count add-at loop-less loop-again cast-result returns)
