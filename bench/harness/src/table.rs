@@ -63,7 +63,7 @@ impl Ratios {
         let line = |(at, other): (usize, &&str)| {
             let worst = self.0.iter().max_by(|one, another| one.1[at].total_cmp(&another.1[at]))?;
             let mean = (self.0.iter().map(|(_, ratios)| ratios[at].ln()).sum::<f64>() / self.0.len() as f64).exp();
-            Some(format!("{last} / {other}: geometric mean **{mean:.2}**, worst **{:.2}** ({}).", worst.1[at], worst.0))
+            Some(format!("- {last} / {other}: geometric mean **{mean:.2}**, worst **{:.2}** ({}).", worst.1[at], worst.0))
         };
         others.iter().enumerate().filter_map(line).collect()
     }
