@@ -1,5 +1,5 @@
 #!/usr/bin/env bash
-# Measures the archive beside the twin, and writes the tables of docs/PERFORMANCE.md between their marker comments; the text around them stays.
+# Measures the archive beside both twins, and writes the tables of docs/PERFORMANCE.md between their marker comments; the text around them stays.
 #
 #     bench/run.sh              all parts: times instructions stack size context
 #     bench/run.sh PART..       some of them
@@ -44,14 +44,14 @@ fill() { # PART TEXT
     printf '%s\n' "$new" > "$document"
 }
 
-# Nanoseconds a token of both readers, in turns.
+# Nanoseconds a token of the three readers, in turns.
 part_times() {
-    echo "Processor, as \`lscpu\` names it: $(lscpu | sed -n 's/^Model name: *//p'). Compiler of the twin: $(rustc --version | cut -d' ' -f1,2)."
+    echo "Processor, as \`lscpu\` names it: $(lscpu | sed -n 's/^Model name: *//p'). Compiler of the twins: $(rustc --version | cut -d' ' -f1,2)."
     echo
     "$programs/bench" "$rounds"
 }
 
-# Instructions a token of both readers, and how they grow.
+# Instructions a token of the three readers, and how they grow.
 part_instructions() { "$programs/count"; }
 
 # The deepest byte of a painted stack that each reader writes to.
@@ -84,6 +84,7 @@ part_context() {
 [ -e "$VUOLMASET_ARCHIVE" ] || { echo "no archive at $VUOLMASET_ARCHIVE: rt staticlib vuolmaset builds it" >&2; exit 1; }
 install_missing
 (cd "$here/harness" && cargo build --quiet --offline --release --features archive)
+"$programs/sheets" | node "$here/sheets.js"
 [ $# -gt 0 ] || set -- times instructions stack size context
 for part in "$@"; do
     echo "measuring: $part"

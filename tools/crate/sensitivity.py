@@ -15,7 +15,7 @@ ROOT = os.path.dirname(os.path.dirname(os.path.dirname(os.path.abspath(__file__)
 WORK = os.path.join(ROOT, 'target', 'sensitivity')
 SOURCE = os.environ.get('OXC_SOURCE', os.path.join(ROOT, '..', 'shared', 'docs', 'src', 'src', 'js'))
 FILES = ['arrow.rs', 'grammar.rs', 'operator.rs', 'binding.rs', 'object.rs']
-COPIED = ['bench/twin', 'bench/harness', 'tools/crate', 'tools/plain', 'tools/judges/lists', 'crates/operators_test']
+COPIED = ['bench/twin', 'bench/tuned', 'bench/harness', 'tools/crate', 'tools/plain', 'tools/judges/lists', 'crates/operators_test']
 
 # What is wrong, the file of bench/twin/src, the text that stands there once, and what is put in its place.
 TWIN = [

@@ -1,6 +1,7 @@
 #!/usr/bin/env bash
-# Compares the twin and the plain reader of demand 3 within one process, by both entries (lists/src/bin/agree.rs): tools/judges/agree.sh [SEED [COUNT]].
-# All lists to length 3, all bracket-matched ones of 4 to 6 over three alphabets, COUNT random ones to 2,048 tokens (a million) and half as many bindings.
+# Compares both twins and the plain reader of demand 3 within one process, by both entries (lists/src/bin/agree.rs): tools/judges/agree.sh [SEED [COUNT]].
+# All lists to length 3, all bracket-matched ones of 4 to 6 over three alphabets, COUNT random ones to 2,048 tokens (a million), half as many bindings,
+# and half as many lists for the checks.
 set -euo pipefail
 cd "$(dirname "${BASH_SOURCE[0]}")/lists"
 CARGO_BUILD_JOBS=1 nice -n 10 cargo build --release --quiet
@@ -11,6 +12,7 @@ runs() {
     for length in 4 5 6; do for alphabet in 0 1 2; do echo "matched $length $alphabet"; done; done
     echo "random $seed 0 $count 2048"
     echo "pattern $seed 0 $((count / 2)) 2048"
+    echo "checks $seed 0 $((count / 2)) 2048"
 }
 # Each run prints a line, and fails where something is unlike. The last line is the sum.
 runs | while read -r run; do

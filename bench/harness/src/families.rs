@@ -1,4 +1,4 @@
-//! The sheets that are measured: real-looking ones of 26 to 349 tokens, and for each other family one sheet of a given size.
+//! The sheets that are measured: those of engineers, and for each other family one sheet of a given size.
 use lists::List;
 
 /// How large a sheet may be: tokens, and brackets open at once.
@@ -19,7 +19,7 @@ pub struct Family {
 
 /// What the sheets of a family are made of.
 enum Shape {
-    /// The texts of `REAL`, of any size.
+    /// The texts of `REAL`, whatever the size.
     Real,
     /// A start, a part as often as it fits, an end.
     Repeated(&'static str, &'static str, &'static str),
@@ -31,33 +31,19 @@ enum Shape {
     Random(bool),
 }
 
-/// Measuring sheets as an engineer writes them.
+/// The texts of the files in `sheets`.
+macro_rules! texts {
+    ($($name:literal),* $(,)?) => { [$(include_str!(concat!("../sheets/", $name, ".js"))),*] };
+}
+
+/// Measuring sheets as engineers write them.
 #[rustfmt::skip]
-const REAL: [&str; 13] = [
-    "start = last - n + 1, end = last + 1, window = u.slice(start, end), ok = window.length === n",
-    "rms(slice(u, last - n + 1, last + 1)) < 0.9 * nominal && !(blanked || i < settle)",
-    "(i, u) => (u < 0 ? -u : u) > limit ? i - first + 1 : 0",
-    "{start: sag.first - 200, end: sag.last + 200, depth: 1 - sag.least / nominal, ...common}",
-    "samples.slice(first, first + n).map(x => x * x).reduce((sum, x) => sum + x, 0) / n",
-    "({u1, u2, u3, ...rest}, limits = {low: 0.9, high: 1.1}) => [u1, u2, u3].every(u => limits.low <= u && u <= limits.high) ? report(rest) : null",
-    "[first, last] = sag(u, {below: 0.9 * nominal, above: 0.92 * nominal, least: 200}), length = last - first + 1, ok = length <= limit",
-    "channels.map(({name, scale = 1, offset = 0}, k) => [name, raw[k].map(x => (x - offset) * scale)]).filter(([name]) => name !== 'spare')",
-    "(u, i) => ({window: u}).window[i] ?? u[u.length - 1]",
-    "phase = Math.atan2(sum(u, (x, k) => x * Math.sin(2 * Math.PI * k / n)), sum(u, (x, k) => x * Math.cos(2 * Math.PI * k / n))) * 180 / Math.PI",
-    "report({title: 'Voltage dip', class: a > 0.8 ? 'A' : a > 0.7 ? 'B' : a > 0.4 ? 'C' : 'D', rows: events.map(e => ({at: e.first / rate, for: \
-     (e.last - e.first + 1) / rate, least: min(e.u), phases: [...e.phases], note: e.note ?? ''})), total: events.reduce((t, {first, last}) => t + \
-     last - first + 1, 0) / rate, ok: events.every(({u, first, last}) => last - first < 0.02 * rate || min(u) > 0.7 && last - first < 0.5 * rate \
-     || min(u) > 0.8)})",
-    "[{u: [a0, a1, ...tail], i: {re = 0, im = 0} = {}}, count += 1][0]",
-    "({u, i, rate = 20000, nominal = 230}, {below = 0.9, above = 0.92, least = 200, ...more} = {}) => (\
-     squares = u.map(x => x * x), sums = squares.reduce((all, x) => [...all, all[all.length - 1] + x], [0]), \
-     rms = u.map((x, k) => k < least ? null : Math.sqrt((sums[k + 1] - sums[k + 1 - least]) / least)), \
-     events = rms.reduce(({list, open}, x, k) => x === null ? {list, open} : open === null \
-     ? x < below * nominal ? {list, open: {first: k - least + 1, last: k, min: x}} : {list, open} \
-     : x > above * nominal ? {list: [...list, {...open, last: k}], open: null} \
-     : {list, open: {first: open.first, last: k, min: Math.min(open.min, x)}}, {list: [], open: null}).list, \
-     {rate, count: events.length, events: events.map(({first, last, min: low}) => ({at: first / rate, length: (last - first + 1) / rate, \
-     depth: 1 - low / nominal, current: Math.max(...i.slice(first, last + 1))})), ...more})",
+const REAL: [&str; 48] = texts![
+    "alarms", "below_nominal", "calibration", "channel_file", "checksum", "clock", "counter", "debounce", "dip_report", "distortion", "fir",
+    "first_pair", "flicker", "frequency", "harmonics", "histogram", "hysteresis", "insulation", "interpolate", "limit_table", "low_pass", "marks",
+    "mean_square", "over_limit", "percentile", "phase", "power", "quality_report", "rate_of_change", "rotation", "sag_bounds", "sag_events",
+    "sag_length", "sample_or_last", "scaled_channels", "sequence", "settings", "soak", "status_word", "store_rows", "swells", "tariff",
+    "thermocouple", "three_phases", "transient", "unbalance", "vote", "window",
 ];
 
 /// The signs, the longer ones first.
@@ -77,25 +63,40 @@ const WORDS: [(&str, u8); 12] = [
     ("for", 17), ("class", 17),
 ];
 
-/// The kinds of a text in plain JavaScript.
+/// How long a number is: digits with a point, an exponent with its sign, or hexadecimal ones.
+fn number(text: &str) -> usize {
+    let is_part = |(at, c): (usize, char)| c.is_ascii_alphanumeric() || c == '.' || matches!(c, '+' | '-') && text[..at].ends_with('e');
+    text.char_indices().find(|&next| !is_part(next)).map_or(text.len(), |(at, _)| at)
+}
+
+/// What is left of a text after spaces, line breaks and comments, and whether a line ended before it.
+fn next(text: &str) -> (&str, bool) {
+    let rest = text.trim_start();
+    let broken = text[..text.len() - rest.len()].contains('\n');
+    match rest.strip_prefix("//") {
+        Some(comment) => (next(&comment[comment.find('\n').unwrap_or(comment.len())..]).0, true),
+        None => (rest, broken),
+    }
+}
+
+/// The tokens of a text in plain JavaScript.
 pub fn tokens(text: &str) -> List {
     let mut list = List::default();
-    let mut rest = text.trim_start();
+    let (mut rest, mut broken) = (next(text).0, false);
     while let Some(first) = rest.chars().next() {
-        let length = |test: fn(char) -> bool| rest.find(|c| !test(c)).unwrap_or(rest.len());
-        let (kind, used) = if first.is_ascii_alphabetic() {
-            let used = length(|c| c.is_ascii_alphanumeric());
+        let (kind, used) = if first.is_ascii_alphabetic() || first == '_' {
+            let used = rest.find(|c: char| !c.is_ascii_alphanumeric() && c != '_').unwrap_or(rest.len());
             (WORDS.iter().find(|(word, _)| *word == &rest[..used]).map_or(1, |(_, kind)| *kind), used)
         } else if first.is_ascii_digit() {
-            (12, length(|c| c.is_ascii_digit() || c == '.'))
+            (12, number(rest))
         } else if first == '\'' {
             (11, 2 + rest[1..].find('\'').expect("a closing quote"))
         } else {
             let (sign, kind) = SIGNS.iter().find(|(sign, _)| rest.starts_with(sign)).expect("a sign");
             (*kind, sign.len())
         };
-        list.push(kind, 0);
-        rest = rest[used..].trim_start();
+        list.push(kind, broken as u8);
+        (rest, broken) = next(&rest[used..]);
     }
     list
 }
@@ -103,6 +104,15 @@ pub fn tokens(text: &str) -> List {
 /// The kinds of three texts.
 fn kinds(texts: [&str; 3]) -> [Vec<u8>; 3] {
     texts.map(|text| tokens(text).kinds)
+}
+
+/// The sheets of engineers. They are read without a record.
+fn real() -> Vec<List> {
+    let (mut rows, mut records) = (vec![0; 6 * 400], vec![0; 2 * 400]);
+    let mut clean = |list: &List| twin::read(&list.kinds, &list.flags, &mut rows, &mut records).map_or(false, |counts| counts.records == 0);
+    let sheets: Vec<List> = REAL.iter().map(|text| tokens(text)).collect();
+    assert!(sheets.iter().all(|sheet| (20..=400).contains(&sheet.len()) && clean(sheet)), "a real sheet is not clean, or of another size");
+    sheets
 }
 
 /// Random lists near the limit, of over 1,500 tokens, that are read, or that are refused.
@@ -150,7 +160,7 @@ impl Family {
     pub fn sheets(&self, size: Size) -> Vec<List> {
         let times = self.levels(size);
         let kinds = match self.shape {
-            Shape::Real => return REAL.iter().map(|text| tokens(text)).collect(),
+            Shape::Real => return real(),
             Shape::Random(read) => return random(read),
             Shape::Repeated(start, part, end) => {
                 let [start, part, end] = kinds([start, part, end]);

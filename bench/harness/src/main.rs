@@ -53,7 +53,7 @@ fn bench() {
         table.push(row(family, rounds, &mut ratios));
     }
     println!("Nanoseconds a token, best of {rounds} rounds.\n\n{table}");
-    ratios.line().into_iter().for_each(|line| println!("{line}"));
+    ratios.lines(&names()).iter().for_each(|line| println!("{line}"));
 }
 
 fn main() {

@@ -1,6 +1,7 @@
 //! The readers that are measured, and the memory they are lent.
 use crate::families::{Family, Size};
 use lists::List;
+use tuned::Tuned;
 use twin::entries::Twin;
 use twin::protocol::{Entries, Read, Refused};
 
@@ -9,23 +10,26 @@ pub type Entry = fn(&[u8], &[u8], &mut [u32], &mut [u32]) -> Result<Read, Refuse
 /// A reader: its name and its entry.
 pub type Reader = (&'static str, Entry);
 
-/// The readers that are there, the first the measure of the others.
+/// The readers that are there; the last is measured by the others.
 pub static READERS: &[Reader] = &[
-    ("twin", Twin::read as Entry),
+    ("plain twin", Twin::read as Entry),
+    ("tuned twin", Tuned::read as Entry),
     #[cfg(feature = "archive")]
     ("archive", crate::archive::Archive::read as Entry),
 ];
 
 /// The same readers by their entry for patterns.
 pub static PATTERNS: &[Reader] = &[
-    ("twin", Twin::pattern as Entry),
+    ("plain twin", Twin::pattern as Entry),
+    ("tuned twin", Tuned::pattern as Entry),
     #[cfg(feature = "archive")]
     ("archive", crate::archive::Archive::pattern as Entry),
 ];
 
 /// And by their entry for conversion.
 pub static CONVERTERS: &[Reader] = &[
-    ("twin", convert_arrays::<Twin> as Entry),
+    ("plain twin", convert_arrays::<Twin> as Entry),
+    ("tuned twin", convert_arrays::<Tuned> as Entry),
     #[cfg(feature = "archive")]
     ("archive", convert_arrays::<crate::archive::Archive> as Entry),
 ];

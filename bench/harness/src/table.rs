@@ -35,34 +35,36 @@ impl Display for Table {
     }
 }
 
-/// The heads of a table that compares readers: `first`, the readers' names, and where there are two, their ratio.
-pub fn heads(first: &[&str], names: &[&str]) -> Vec<String> {
+/// The heads of a table that compares readers: `first`, the readers' names, and the ratio of the last reader to each other one.
+pub fn heads(first: &[&str], names: &[&'static str]) -> Vec<String> {
     let mut heads: Vec<String> = first.iter().chain(names).map(|head| head.to_string()).collect();
-    if let [one, other] = names {
-        heads.push(format!("{other} / {one}"));
+    if let [others @ .., last] = names {
+        heads.extend(others.iter().map(|other| format!("{last} / {other}")));
     }
     heads
 }
 
-/// Ratios with the families they belong to.
+/// The ratios of the last reader to each other one, with the families they belong to.
 #[derive(Default)]
-pub struct Ratios(Vec<(&'static str, f64)>);
+pub struct Ratios(Vec<(&'static str, Vec<f64>)>);
 
 impl Ratios {
-    /// The cells of a family's values, and of their ratio where there are two.
+    /// The cells of a family's values, and of their ratios.
     pub fn cells(&mut self, family: &'static str, values: &[f64]) -> Vec<String> {
-        let mut cells: Vec<String> = values.iter().map(|value| format!("{value:.2}")).collect();
-        if let [one, other] = values {
-            self.0.push((family, other / one));
-            cells.push(format!("{:.2}", other / one));
-        }
+        let ratios = values.split_last().map_or(vec![], |(last, others)| others.iter().map(|other| last / other).collect());
+        let cells = values.iter().chain(&ratios).map(|value| format!("{value:.2}")).collect();
+        self.0.push((family, ratios));
         cells
     }
 
-    /// A line that tells the geometric mean of the ratios, and the worst.
-    pub fn line(&self) -> Option<String> {
-        let worst = self.0.iter().max_by(|one, other| one.1.total_cmp(&other.1))?;
-        let mean = (self.0.iter().map(|(_, ratio)| ratio.ln()).sum::<f64>() / self.0.len() as f64).exp();
-        Some(format!("Geometric mean of the ratios: **{mean:.2}**. Worst: **{:.2}** ({}).", worst.1, worst.0))
+    /// For each other reader a line that tells the geometric mean of the ratios to it, and the worst.
+    pub fn lines(&self, names: &[&'static str]) -> Vec<String> {
+        let (last, others) = names.split_last().expect("a reader");
+        let line = |(at, other): (usize, &&str)| {
+            let worst = self.0.iter().max_by(|one, another| one.1[at].total_cmp(&another.1[at]))?;
+            let mean = (self.0.iter().map(|(_, ratios)| ratios[at].ln()).sum::<f64>() / self.0.len() as f64).exp();
+            Some(format!("- {last} / {other}: geometric mean **{mean:.2}**, worst **{:.2}** ({}).", worst.1[at], worst.0))
+        };
+        others.iter().enumerate().filter_map(line).collect()
     }
 }

@@ -2,7 +2,7 @@
 use crate::kind;
 
 /// One constant table over the kinds, 0 for none.
-const LEVELS: [u8; 256] = levels();
+pub const LEVELS: [u8; 256] = levels();
 
 const fn levels() -> [u8; 256] {
     let mut table = [0; 256];

@@ -143,9 +143,56 @@ pub fn random_pattern(seed: u64, number: u64, longest: usize) -> List {
     random_by(make::binding, seed, number, longest)
 }
 
-fn random_by(make: Make, seed: u64, number: u64, longest: usize) -> List {
+/// The random list of a number for the checks: brackets that go up and down about the limit, whatever opens and closes them, and in some lists
+/// a byte that is no kind or no flag.
+pub fn random_checks(seed: u64, number: u64, longest: usize) -> List {
+    let mut random = start(seed, number);
+    let length = 1 + random.below(longest);
+    let mut list = List::default();
+    let (mut open, mut aim) = (0, 64);
+    while list.len() < length {
+        if open == aim {
+            aim = random.below(68);
+        }
+        let kind = match random.below(8) {
+            0 => 1,
+            _ if open <= aim => random.pick(&[18, 20, 22]),
+            _ => random.pick(&[19, 21, 23]),
+        };
+        open = match kind {
+            1 => open,
+            _ if open <= aim => open + 1,
+            _ => open - 1,
+        };
+        list.push(kind, random.once_in(8) as u8);
+    }
+    let at = random.below(length);
+    match random.below(4) {
+        0 => list.kinds[at] = random.pick(&[0, 1, 78, 79, 255]),
+        1 => list.flags[at] = random.pick(&[0, 1, 2, 255]),
+        _ => {}
+    }
+    list
+}
+
+/// What makes the random list of a seed and a number with a longest length, by its name.
+pub fn random_of(sort: &str) -> fn(u64, u64, usize) -> List {
+    match sort {
+        "random" => random,
+        "pattern" => random_pattern,
+        _ => random_checks,
+    }
+}
+
+/// Random numbers of a seed and a list's number.
+fn start(seed: u64, number: u64) -> Random {
     let mut random = Random(seed.wrapping_mul(0x1000_0000_01B3) ^ number.wrapping_mul(0x9E37_79B9_7F4A_7C15));
     random.next();
+    random
+}
+
+fn random_by(make: Make, seed: u64, number: u64, longest: usize) -> List {
+    let mut random = start(seed, number);
     let bits = (usize::BITS - longest.leading_zeros()) as usize;
     let (about, spread) = (random.below(bits), random.below(bits));
     let size = ((1 << about) + random.below(1 << spread)).min(longest);

@@ -1,7 +1,7 @@
 //! Prints lists as lines of the protocol.
 //!
-//!     lists small LENGTH | matched LENGTH ALPHABET | random SEED FROM COUNT LONGEST | pattern SEED FROM COUNT LONGEST
-use lists::{ALPHABETS, List, matched, random, random_pattern, small};
+//!     lists small LENGTH | matched LENGTH ALPHABET | random, pattern or checks SEED FROM COUNT LONGEST
+use lists::{ALPHABETS, List, matched, random_of, small};
 use std::io::{BufWriter, Write, stdout};
 
 fn main() {
@@ -13,11 +13,11 @@ fn main() {
     match words.first().map(String::as_str) {
         Some("small") => small(number(1), &mut print),
         Some("matched") => matched(number(1), ALPHABETS[number(2)], &mut print),
-        Some(sort @ ("random" | "pattern")) => {
-            let make = if sort == "random" { random } else { random_pattern };
+        Some(sort @ ("random" | "pattern" | "checks")) => {
+            let make = random_of(sort);
             let (seed, from, count, longest) = (number(1), number(2), number(3), number(4));
             (from..from + count).for_each(|n| print(&make(seed as u64, n as u64, longest)));
         }
-        _ => panic!("lists small LENGTH | matched LENGTH ALPHABET | random SEED FROM COUNT LONGEST | pattern SEED FROM COUNT LONGEST"),
+        _ => panic!("lists small LENGTH | matched LENGTH ALPHABET | random, pattern or checks SEED FROM COUNT LONGEST"),
     }
 }

@@ -1,9 +1,10 @@
 //! Demand 3 by running: over many lists, the twin (the three-way answer and the notes) and the plain reader read the same lists into the same
 //! rows and records, outside the early commit; inside it, what the twin reads the plain one reads too. Where a list is read, the abandoned
-//! count is the number of places at which the plain reader gave up a head whose three-way answer is Maybe.
+//! count is the number of places at which the plain reader gave up a head whose three-way answer is Maybe. The tuned twin gives the twin's answer
+//! and words of both buffers on every list.
 //!
-//!     agree small LENGTH | matched LENGTH ALPHABET | random SEED FROM COUNT LONGEST | pattern SEED FROM COUNT LONGEST
-use lists::{ALPHABETS, List, matched, random, random_pattern, small};
+//!     agree small LENGTH | matched LENGTH ALPHABET | random, pattern or checks SEED FROM COUNT LONGEST
+use lists::{ALPHABETS, List, matched, random_of, small};
 use plain::Outcome;
 use twin::arrow::{Tristate, three_way};
 
@@ -16,8 +17,17 @@ struct Sums {
     long: usize,
     early: usize,
     unlike: usize,
-    rows: Vec<u32>,
-    records: Vec<u32>,
+    /// Words to lend to the twin and to the tuned one.
+    lent: [Vec<u32>; 2],
+}
+
+type Entry = fn(&[u8], &[u8], &mut [u32], &mut [u32]) -> twin::Answer;
+
+/// The words that are lent for a list's rows and records, full of a sign that no reader leaves.
+fn lent_for<'a>(list: &List, words: &'a mut [u32]) -> (&'a mut [u32], &'a mut [u32]) {
+    let lent = &mut words[..8 * list.len()];
+    lent.fill(u32::MAX);
+    lent.split_at_mut(6 * list.len())
 }
 
 /// `async ( ...` and a plain name on one line.
@@ -27,10 +37,14 @@ fn has_early_commit(list: &List) -> bool {
 
 /// Whether the two readings agree, or what is unlike.
 fn unlike(list: &List, pattern: bool, sums: &mut Sums) -> Option<&'static str> {
-    let n = list.len();
-    let (rows, records) = (&mut sums.rows[..6 * n], &mut sums.records[..2 * n]);
-    let entry = if pattern { twin::pattern } else { twin::read };
+    let [lent, tuned_lent] = &mut sums.lent;
+    let (rows, records) = lent_for(list, lent);
+    let (tuned_rows, tuned_records) = lent_for(list, tuned_lent);
+    let (entry, tuned): (Entry, Entry) = if pattern { (twin::pattern, tuned::pattern) } else { (twin::read, tuned::read) };
     let ours = entry(&list.kinds, &list.flags, rows, records);
+    if tuned(&list.kinds, &list.flags, tuned_rows, tuned_records) != ours || tuned_rows != rows || tuned_records != records {
+        return Some("the tuned twin differs");
+    }
     if ours.map_or_else(|cause| cause.number as u8 <= 7, |_| false) {
         return None;
     }
@@ -61,7 +75,7 @@ fn unlike(list: &List, pattern: bool, sums: &mut Sums) -> Option<&'static str> {
 fn compare() {
     let words: Vec<String> = std::env::args().skip(1).collect();
     let number = |at: usize| words.get(at).and_then(|w| w.parse::<usize>().ok()).expect("a number");
-    let mut sums = Sums { rows: vec![0; 6 * 2048], records: vec![0; 2 * 2048], ..Sums::default() };
+    let mut sums = Sums { lent: [vec![0; 8 * 2048], vec![0; 8 * 2048]], ..Sums::default() };
     let mut each = |list: &List| {
         for (pattern, letter) in [(false, 'r'), (true, 'p')] {
             sums.lists += 1;
@@ -74,12 +88,12 @@ fn compare() {
     match words.first().map(String::as_str) {
         Some("small") => small(number(1), &mut each),
         Some("matched") => matched(number(1), ALPHABETS[number(2)], &mut each),
-        Some(sort @ ("random" | "pattern")) => {
-            let make = if sort == "random" { random } else { random_pattern };
+        Some(sort @ ("random" | "pattern" | "checks")) => {
+            let make = random_of(sort);
             let (seed, from, count, longest) = (number(1), number(2), number(3), number(4));
             (from..from + count).for_each(|n| each(&make(seed as u64, n as u64, longest)));
         }
-        _ => panic!("agree small LENGTH | matched LENGTH ALPHABET | random SEED FROM COUNT LONGEST | pattern SEED FROM COUNT LONGEST"),
+        _ => panic!("agree small LENGTH | matched LENGTH ALPHABET | random, pattern or checks SEED FROM COUNT LONGEST"),
     }
     let Sums { lists, read, clean, abandoned, long, early, unlike, .. } = sums;
     println!(
