@@ -21,8 +21,8 @@ use making::keys;
 use rows::row;
 use tokens::cause::Cause;
 use tokens::kind;
-use waiting::Group;
 use waiting::Next;
+use waiting::Spot;
 use waiting::Start;
 
 // 13.16 Expression: one part, or a Sequence of them.
@@ -79,58 +79,31 @@ fn assign(
         return Step::Done(leaf(rows, at, made, said, single));
     }
     let base = rows.len() / 6;
-    let mut top = base;
-    let mut part = true;
-    let mut c = Cursor {
+    let mut here = Spot {
         at,
         rows: made,
         records: said,
+        top: base,
+        part: true,
     };
     loop {
-        let free = 6 * top;
-        let n = c.rows;
-        let used = c.records;
+        let free = 6 * here.top;
         let got = start(
             kinds,
             flags,
             &mut rows[..free],
             records,
             notes,
-            c.at,
-            n,
-            used,
-            part,
+            here.at,
+            here.rows,
+            here.records,
+            here.part,
         );
-        let next = match got {
-            Start::Fail(cause) => return Step::Fail(cause),
-            Start::Opened(d, head) => {
-                waiting::wait_body(kinds, flags, rows, records, d, head, top)
-            }
-            Start::Operand(d) => {
-                let operand = Group {
-                    at: d.at,
-                    rows: d.rows,
-                    records: d.records,
-                    first: c.at,
-                    from: n,
-                    top,
-                };
-                waiting::follow(kinds, flags, rows, records, operand, base)
-            }
-        };
+        let next = waiting::after_start(kinds, flags, rows, records, got, here, base);
         match next {
             Next::Fail(cause) => return Step::Fail(cause),
             Next::Ended(d) => return Step::Done(d),
-            Next::Part(d, t) => {
-                c = d;
-                top = t;
-                part = true;
-            }
-            Next::Operand(d, t) => {
-                c = d;
-                top = t;
-                part = false;
-            }
+            Next::Read(spot) => here = spot,
         }
     }
 }

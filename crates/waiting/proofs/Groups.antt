@@ -36,7 +36,7 @@ use Rattle.waiting.specs.declared.Group.{Group}
 use Rattle.waiting.specs.declared.Next.{Next}
 use Rattle.waiting.proofs.Cuts.{pushed-kept, same-first, finished-wider, grown-narrower, held-lent, held-waits, held-below, held-word, held-kind, held-next, held-some, held-inside}
 use Rattle.waiting.proofs.Links.{starts-from, linked-spare, operand-ends, waits-operand, operand, part-ends, no-name-ends, waits-choice, right-refused, right-spare, waits-right, no-operation, no-choice, name-opens, body-refuses, body-spare, waits-body}
-use Rattle.waiting.proofs.Parts.{goes-part, goes-operand, goes-fail}
+use Rattle.waiting.proofs.Parts.{goes-reads, goes-fail}
 
 -- AN ARROW'S BODY, from its `=>` on
 pub body-awaits : {ks fs : List ℕ} {all : Whole} {base : ℕ} (ws : List Waiting) {top : ℕ} {r s m : List ℕ} {d : Cursor} {h : Head} {r′ s′ : List ℕ} {x : Next}
@@ -53,7 +53,7 @@ body-awaits {ks} {fs} {all} {base} ws {top} {r} {s} {m} {d} {h} {r′} {s′} {x
         let q = w .waits e in
         let b = q .breaks in
         let some : 1 ≤ top = omega (arith, p, f) in
-        goes-part (q .gives) record {
+        goes-reads (q .gives) record {
           waiting = part (h .kind) (d .at) (h .first) (h .kids + 1) (h .from) a z ∷ ws;
           held = held-waits held (omega (arith, some)) (q .pushed) long refl;
           forward = omega (arith, b .at);
@@ -109,7 +109,7 @@ module _ {ks fs : List ℕ} {all : Whole} {m : List ℕ} {r s : List ℕ} {g : G
         let fit = group-fits in
         let h = waits-operand (a .held .rows) (a .linked) refl v lt in
         let n = operator-stands ks refl v lt in
-        goes-operand (w .gives) record {
+        goes-reads (w .gives) record {
           waiting = operation (g .at) (g .first) (g .rows) (g .from) ∷ ws;
           held = held-waits (a .held) (omega (arith, fit .some)) (w .pushed) long refl;
           forward = omega arith;
@@ -125,7 +125,7 @@ module _ {ks fs : List ℕ} {all : Whole} {m : List ℕ} {r s : List ℕ} {g : G
           let p = spare in
           let fit = group-fits in
           let n = stands-not ks (g .at) (λ z. let y : _≡_ {A = ℕ} Question 0 = sym q ∙ z in omega arith) in
-          goes-part (w .gives) record {
+          goes-reads (w .gives) record {
             waiting = choice (g .at) (g .first) (g .from) ∷ ws;
             held = held-waits (a .held) (omega (arith, fit .some)) (w .pushed) long refl;
             forward = omega arith;
@@ -234,7 +234,7 @@ module _ {ks fs : List ℕ} {all : Whole} {m : List ℕ} {r s : List ℕ} {g : G
                 let lent = held-lent (w .low) (a .held) (w .long) in
                 let same = length-append (w .low) (drop (6 * g .top) r) in
                 let rest = length-drop (6 * g .top) r in
-                goes-part (f .gives) record {
+                goes-reads (f .gives) record {
                   waiting = part (kind-for (getD ks (g .at) 0 is Eq)) (g .at) (g .first) 2 (g .from) (no-operation (getD ks (g .at) 0 is Eq)) (no-choice (getD ks (g .at) 0 is Eq)) ∷ ws;
                   held = held-waits lent (omega (arith, fit .some)) (f .pushed) (omega (arith, long, same, rest, w .long, fit .inside)) refl;
                   forward = omega arith;

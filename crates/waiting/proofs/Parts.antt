@@ -16,17 +16,15 @@ use Rattle.making.specs.Post.{cursor, Topped, TopRoom}
 use Rattle.making.specs.declared.cursor.Cursor.{Cursor}
 use Rattle.making.specs.declared.cursor.Step.{Step}
 use Rattle.waiting.specs.Waiting.{Waiting, operation, part, choice, Choice, all-words, awaits-operand, Whole, Held, Spare, Comes-all, Ends, PartEnds, Awaits}
-use Rattle.waiting.specs.Post.{word, PartFits, PartAt, Otherwise, Goes, PartEnded}
+use Rattle.waiting.specs.Post.{word, start-of, PartFits, PartAt, Otherwise, Goes, PartEnded}
 use Rattle.waiting.specs.declared.Next.{Next}
+use Rattle.waiting.specs.declared.Spot.{Spot}
 use Rattle.waiting.proofs.Cuts.{held-word, held-kind, held-next, held-below, held-some, held-none}
 use Rattle.waiting.proofs.Links.{starts-from}
 
 -- what is next, by its cases
-next-part : {c d : Cursor} {t u : ℕ} → Next.Part c t ≡ Next.Part d u → c ≡ d
-next-part e = cc
-
-next-top : {c d : Cursor} {t u : ℕ} → Next.Part c t ≡ Next.Part d u → t ≡ u
-next-top e = cc
+next-read : {n t : Spot} → Next.Read n ≡ Next.Read t → n ≡ t
+next-read e = cc
 
 next-ended : {c d : Cursor} → Next.Ended c ≡ Next.Ended d → c ≡ d
 next-ended e = cc
@@ -34,57 +32,28 @@ next-ended e = cc
 next-fail : {p q : Cause} → Next.Fail p ≡ Next.Fail q → p ≡ q
 next-fail e = cc
 
-part-no-operand : {c d : Cursor} {t u : ℕ} → Next.Part c t ≡ Next.Operand d u → ⊥
-part-no-operand e = let z : _≡_ {A = ℕ} 0 1 = cc in omega arith
+read-not-ended : {n : Spot} {d : Cursor} → Next.Read n ≡ Next.Ended d → ⊥
+read-not-ended e = let z : _≡_ {A = ℕ} 0 1 = cc in omega arith
 
-part-not-ended : {c d : Cursor} {t : ℕ} → Next.Part c t ≡ Next.Ended d → ⊥
-part-not-ended e = let z : _≡_ {A = ℕ} 0 1 = cc in omega arith
-
-part-no-fail : {c : Cursor} {t : ℕ} {p : Cause} → Next.Part c t ≡ Next.Fail p → ⊥
-part-no-fail e = let z : _≡_ {A = ℕ} 0 1 = cc in omega arith
-
-operand-not-ended : {c d : Cursor} {t : ℕ} → Next.Operand c t ≡ Next.Ended d → ⊥
-operand-not-ended e = let z : _≡_ {A = ℕ} 0 1 = cc in omega arith
-
-operand-no-fail : {c : Cursor} {t : ℕ} {p : Cause} → Next.Operand c t ≡ Next.Fail p → ⊥
-operand-no-fail e = let z : _≡_ {A = ℕ} 0 1 = cc in omega arith
+read-no-fail : {n : Spot} {p : Cause} → Next.Read n ≡ Next.Fail p → ⊥
+read-no-fail e = let z : _≡_ {A = ℕ} 0 1 = cc in omega arith
 
 ended-no-fail : {c : Cursor} {p : Cause} → Next.Ended c ≡ Next.Fail p → ⊥
 ended-no-fail e = let z : _≡_ {A = ℕ} 0 1 = cc in omega arith
 
-next-operand : {c d : Cursor} {t u : ℕ} → Next.Operand c t ≡ Next.Operand d u → c ≡ d
-next-operand e = cc
-
-next-operand-top : {c d : Cursor} {t u : ℕ} → Next.Operand c t ≡ Next.Operand d u → t ≡ u
-next-operand-top e = cc
-
 module _ {ks fs : List ℕ} {all : Whole} {m r s : List ℕ} {at base : ℕ} {x : Next} where
-  pub goes-part : {c : Cursor} {top : ℕ} → x ≡ Next.Part c top → Awaits ks fs all m r s base top true (at + 1) c → Goes ks fs all m at r s base x
-  goes-part {c} {top} e a =
+  pub goes-reads : {n : Spot} → x ≡ Next.Read n → Awaits ks fs all m r s base (n .top) (n .part) (at + 1) (start-of n) → Goes ks fs all m at r s base x
+  goes-reads {n} e a =
       record {
-        part = λ d t q.
-            subst (λ (z : Cursor). Awaits ks fs all m r s base t true (at + 1) z) (next-part (sym e ∙ q)) (subst (λ (z : ℕ). Awaits ks fs all m r s base z true (at + 1) c) (next-top (sym e ∙ q)) a);
-        operand = λ d t q. absurd (part-no-operand (sym e ∙ q));
-        ended = λ d q. absurd (part-not-ended (sym e ∙ q));
-        refused = λ p q. absurd (part-no-fail (sym e ∙ q));
-      }
-
-  pub goes-operand : {c : Cursor} {top : ℕ} → x ≡ Next.Operand c top → Awaits ks fs all m r s base top false (at + 1) c → Goes ks fs all m at r s base x
-  goes-operand {c} {top} e a =
-      record {
-        part = λ d t q. absurd (part-no-operand (sym q ∙ e));
-        operand = λ d t q.
-            subst (λ (z : Cursor). Awaits ks fs all m r s base t false (at + 1) z) (next-operand (sym e ∙ q))
-            (subst (λ (z : ℕ). Awaits ks fs all m r s base z false (at + 1) c) (next-operand-top (sym e ∙ q)) a);
-        ended = λ d q. absurd (operand-not-ended (sym e ∙ q));
-        refused = λ p q. absurd (operand-no-fail (sym e ∙ q));
+        reads = λ t q. subst (λ (z : Spot). Awaits ks fs all m r s base (z .top) (z .part) (at + 1) (start-of z)) (next-read (sym e ∙ q)) a;
+        ended = λ d q. absurd (read-not-ended (sym e ∙ q));
+        refused = λ p q. absurd (read-no-fail (sym e ∙ q));
       }
 
   pub goes-ended : {c : Cursor} → x ≡ Next.Ended c → Comes-all ks fs all r s m (Step.Done c) → Goes ks fs all m at r s base x
   goes-ended {c} e a =
       record {
-        part = λ d t q. absurd (part-not-ended (sym q ∙ e));
-        operand = λ d t q. absurd (operand-not-ended (sym q ∙ e));
+        reads = λ n q. absurd (read-not-ended (sym q ∙ e));
         ended = λ d q. subst (λ (z : Cursor). Comes-all ks fs all r s m (Step.Done z)) (next-ended (sym e ∙ q)) a;
         refused = λ p q. absurd (ended-no-fail (sym e ∙ q));
       }
@@ -92,8 +61,7 @@ module _ {ks fs : List ℕ} {all : Whole} {m r s : List ℕ} {at base : ℕ} {x 
   pub goes-fail : {cause : Cause} → x ≡ Next.Fail cause → Comes-all ks fs all r s m (Step.Fail cause) → Goes ks fs all m at r s base x
   goes-fail {cause} e a =
       record {
-        part = λ d t q. absurd (part-no-fail (sym q ∙ e));
-        operand = λ d t q. absurd (operand-no-fail (sym q ∙ e));
+        reads = λ n q. absurd (read-no-fail (sym q ∙ e));
         ended = λ d q. absurd (ended-no-fail (sym q ∙ e));
         refused = λ p q. subst (λ (z : Cause). Comes-all ks fs all r s m (Step.Fail z)) (next-fail (sym e ∙ q)) a;
       }
@@ -207,7 +175,7 @@ module _ {ks fs : List ℕ} {all : Whole} {m r s : List ℕ} {c : Cursor} {top b
           let spare = a .ends .spare in
           let stands : c .at < length ks = stands-not ks (c .at) (λ z. let y : _≡_ {A = ℕ} Colon 0 = sym e ∙ z in omega arith) in
           let zero : 6 * top ≡ 6 * top + 0 = omega arith in
-          goes-part (q .gives) record {
+          goes-reads (q .gives) record {
             waiting = part Row.Conditional mark first 3 from refl (λ z. omega (arith, z)) ∷ ws;
             held = record {
               rows = h .rows;

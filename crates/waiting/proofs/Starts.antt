@@ -28,13 +28,15 @@ use Rattle.steps.specs.Assign.{Past, headed, head-fits, assign-arrows, assign-f
 use Rattle.steps.specs.Value.{async-stands, value-asyncs, value-refuses}
 use Rattle.steps.specs.Binary.{binary-starts, binary-grouped, binary-refuses}
 use Rattle.waiting.specs.Waiting.{Waiting, Choice, is-operation, awaits-operand, floor-of, begun, Whole, Held, all-words, Spare, Comes-all, Outcome, Starts, Opens, Linked, Ends, Awaits}
-use Rattle.waiting.specs.Post.{GroupAt, Grouping, Followed, BodyFits, WaitsBody, Goes}
+use Rattle.waiting.specs.Post.{spot, start-of, GroupAt, Grouping, BodyFits, WaitsBody, Goes, StartFits, AfterStart}
 use Rattle.waiting.specs.Start.{OpenedTo, OperandTo, MetStart}
 use Rattle.waiting.specs.declared.Group.{Group}
 use Rattle.waiting.specs.declared.Next.{Next}
+use Rattle.waiting.specs.declared.Spot.{Spot}
 use Rattle.waiting.specs.declared.Start.{Start}
 use Rattle.waiting.proofs.Cuts.{met-from, met-wider, grown-wider, grown-inside, same-first, held-lent}
 use Rattle.waiting.proofs.Links.{room-below}
+use Rattle.waiting.proofs.Parts.{goes-fail}
 use Rattle.waiting.proofs.Groups.{body-awaits}
 
 never : _≡_ {A = Bool} true false → ⊥
@@ -392,12 +394,12 @@ module _ {ks fs r₀ s₀ m₀ r₁ s₁ m₁ : List ℕ} {part : Bool} {k : ℕ
 
 -- THE LOOP OF `assign`
 -- what waits now, from where it began
-pub record Looping (ks fs r₀ s₀ m₀ : List ℕ) (b : Cursor) (base : ℕ) (r s m : List ℕ) (top : ℕ) (part : Bool) (c : Cursor) : Type 0 where
+pub record Looping (ks fs r₀ s₀ m₀ : List ℕ) (b : Cursor) (base : ℕ) (r s m : List ℕ) (n : Spot) : Type 0 where
   pub rows-long : length r ≡ length r₀
   pub records-long : length s ≡ length s₀
-  pub awaits : Awaits ks fs (whole-of r₀ s₀ m₀ b) m r s base top part (b .at) c
+  pub awaits : Awaits ks fs (whole-of r₀ s₀ m₀ b) m r s base (n .top) (n .part) (b .at) (start-of n)
 
-pub looping-starts : {ks fs r s m : List ℕ} {b : Cursor} {base : ℕ} → Room ks r s b → base ≡ length r / 6 → Looping ks fs r s m b base r s m base true b
+pub looping-starts : {ks fs r s m : List ℕ} {b : Cursor} {base : ℕ} → Room ks r s b → base ≡ length r / 6 → Looping ks fs r s m b base r s m (spot b base true)
 looping-starts room e = record { rows-long = refl; records-long = refl; awaits = awaits-first room e }
 
 -- a start was read, and what waits and what is next
@@ -408,59 +410,47 @@ pub record Stepped (ks fs : List ℕ) (all : Whole) (m : List ℕ) (at row-words
   pub forward : at < place
   pub goes : Goes ks fs all m place r s base x
 
-pub stepped-as : (ks fs : List ℕ) (all : Whole) (m : List ℕ) (at row-words record-words : ℕ) (r s : List ℕ) (base : ℕ) (x : Next) → Stepped ks fs all m at row-words record-words r s base x
-    → Stepped ks fs all m at row-words record-words r s base x
-stepped-as ks fs all m at row-words record-words r s base x p = p
+module _ {ks fs r₀ s₀ m₀ : List ℕ} {b : Cursor} {base : ℕ} {r s m : List ℕ} {n : Spot} (w : Looping ks fs r₀ s₀ m₀ b base r s m n)
+    (low s₁ m₁ : List ℕ) (long : length low ≡ 6 * n .top) (deep : length s₁ ≡ length s) {got : Start}
+    (a : MetStart ks fs (take (6 * n .top) r) s m low s₁ m₁ (n .part) (n .at) (n .rows) (n .records) got) where
+  all-long : length (low ++ drop (6 * n .top) r) ≡ length r₀
+  all-long = let e = length-append low (drop (6 * n .top) r) in let q = length-drop (6 * n .top) r in omega (arith, top-inside (w .awaits), w .rows-long, long)
 
-module _ {ks fs r₀ s₀ m₀ : List ℕ} {b : Cursor} {base : ℕ} {r s m : List ℕ} {top : ℕ} {part : Bool} {c : Cursor} (w : Looping ks fs r₀ s₀ m₀ b base r s m top part c)
-    (low s₁ m₁ : List ℕ) (long : length low ≡ 6 * top) (deep : length s₁ ≡ length s) where
-  all-long : length (low ++ drop (6 * top) r) ≡ length r₀
-  all-long = let e = length-append low (drop (6 * top) r) in let q = length-drop (6 * top) r in omega (arith, top-inside (w .awaits), w .rows-long, long)
-
-  pub step-opened : {d : Cursor} {h : Head} {r′ s′ r″ s″ : List ℕ} {x y : Next} → OpenedTo ks fs (take (6 * top) r) s m low s₁ m₁ part (c .at) (c .rows) (c .records) d h
-      → WaitsBody ks fs (low ++ drop (6 * top) r) s₁ d h top r′ s′ x → length r′ ≡ length (low ++ drop (6 * top) r) → length s′ ≡ length s₁ → r″ ≡ r′ → s″ ≡ s′ → y ≡ x
-      → Stepped ks fs (whole-of r₀ s₀ m₀ b) m₁ (c .at) (length r₀) (length s₀) r″ s″ base y
-  step-opened {d} {r′ = r′} {s′} o a l l′ i j k =
-      rw (i, j, k) record {
-        rows-long = l ∙ all-long;
-        records-long = l′ ∙ deep ∙ w .records-long;
-        place = d .at;
-        forward = o .forward;
-        goes = opened-awaits (w .awaits) low s₁ m₁ long deep o a l;
+  pub start-fits : StartFits ks fs (low ++ drop (6 * n .top) r) s₁ got n base
+  start-fits =
+      record {
+        opened = λ d h e. opened-fits (w .awaits) low s₁ m₁ long deep (a .opened-to d h e);
+        operand = λ d e.
+            record { all = whole-of r₀ s₀ m₀ b; m = m₁; ws = w .awaits .waiting; at = operand-group (w .awaits) low s₁ m₁ long deep (a .operand-to d e) };
       }
 
-  pub step-operand : {d : Cursor} {r′ s′ r″ s″ : List ℕ} {x y : Next} → OperandTo ks fs (take (6 * top) r) s m low s₁ m₁ part (c .at) (c .rows) (c .records) d
-      → Followed ks fs (low ++ drop (6 * top) r) s₁ (record { at = d .at; rows = d .rows; records = d .records; first = c .at; from = c .rows; top = top }) base r′ s′ x
-      → length r′ ≡ length (low ++ drop (6 * top) r) → length s′ ≡ length s₁ → r″ ≡ r′ → s″ ≡ s′ → y ≡ x
-      → Stepped ks fs (whole-of r₀ s₀ m₀ b) m₁ (c .at) (length r₀) (length s₀) r″ s″ base y
-  step-operand {d} {r′} {s′} o a l l′ i j k =
-      let v = moved _ (o .read .done-to d refl) refl in
-      rw (i, j, k) record {
-        rows-long = l ∙ all-long;
-        records-long = l′ ∙ deep ∙ w .records-long;
-        place = d .at;
-        forward = v .forward;
-        goes = a .goes (whole-of r₀ s₀ m₀ b) m₁ (w .awaits .waiting) (operand-group (w .awaits) low s₁ m₁ long deep o);
-      }
+  pub stepped : {r′ s′ : List ℕ} {x : Next} → AfterStart ks fs (low ++ drop (6 * n .top) r) s₁ got n base r′ s′ x → length r′ ≡ length (low ++ drop (6 * n .top) r) → length s′ ≡ length s₁
+      → Stepped ks fs (whole-of r₀ s₀ m₀ b) m₁ (n .at) (length r₀) (length s₀) r′ s′ base x
+  stepped {r′} {s′} {x} f l l′ = go got refl
+    where
+      at-place : (place : ℕ) → n .at < place → Goes ks fs (whole-of r₀ s₀ m₀ b) m₁ place r′ s′ base x → Stepped ks fs (whole-of r₀ s₀ m₀ b) m₁ (n .at) (length r₀) (length s₀) r′ s′ base x
+      at-place place h g = record { rows-long = l ∙ all-long; records-long = l′ ∙ deep ∙ w .records-long; place = place; forward = h; goes = g }
 
-  pub step-grouping : {d : Cursor} → OperandTo ks fs (take (6 * top) r) s m low s₁ m₁ part (c .at) (c .rows) (c .records) d
-      → Grouping ks fs (low ++ drop (6 * top) r) s₁ (record { at = d .at; rows = d .rows; records = d .records; first = c .at; from = c .rows; top = top }) base
-  step-grouping o = record { all = whole-of r₀ s₀ m₀ b; m = m₁; ws = w .awaits .waiting; at = operand-group (w .awaits) low s₁ m₁ long deep o }
+      go : (y : Start) → got ≡ y → Stepped ks fs (whole-of r₀ s₀ m₀ b) m₁ (n .at) (length r₀) (length s₀) r′ s′ base x
+      go (Start.Opened d h) e =
+          let o = a .opened-to d h e in
+          at-place (d .at) (o .forward) (opened-awaits (w .awaits) low s₁ m₁ long deep o (f .opened d h e) l)
+      go (Start.Operand d) e =
+          let o = a .operand-to d e in
+          let v = moved _ (o .read .done-to d refl) refl in
+          at-place (d .at) (v .forward) (f .operand d e .goes (whole-of r₀ s₀ m₀ b) m₁ (w .awaits .waiting) (operand-group (w .awaits) low s₁ m₁ long deep o))
+      go (Start.Fail cause) e =
+          let q = f .failed cause e in
+          at-place (n .at + 1) (omega arith) (goes-fail (q .gives) (rw (q .rows-same, q .records-same) (start-refused (w .awaits) low s₁ m₁ long deep (a .fail-at cause e))))
 
 awaits-from : {ks fs : List ℕ} {all : Whole} {m r s : List ℕ} {base top past past′ : ℕ} {part : Bool} {c : Cursor} → past′ ≤ past → Awaits ks fs all m r s base top part past c
     → Awaits ks fs all m r s base top part past′ c
 awaits-from h w = record { waiting = w .waiting; held = w .held; forward = omega (arith, h, w .forward); spare = w .spare; operand = w .operand; starts = w .starts }
 
-module _ {ks fs r₀ s₀ m₀ : List ℕ} {b : Cursor} {base : ℕ} {r s m : List ℕ} {top : ℕ} {part : Bool} {c : Cursor} (w : Looping ks fs r₀ s₀ m₀ b base r s m top part c)
-    {r′ s′ m′ : List ℕ} {x : Next} (p : Stepped ks fs (whole-of r₀ s₀ m₀ b) m′ (c .at) (length r₀) (length s₀) r′ s′ base x) {d : Cursor} {t : ℕ} where
-  pub loop-part : x ≡ Next.Part d t → Looping ks fs r₀ s₀ m₀ b base r′ s′ m′ t true d
-  loop-part e = record { rows-long = p .rows-long; records-long = p .records-long; awaits = awaits-from (omega (arith, p .forward, w .awaits .forward)) (p .goes .part d t e) }
+module _ {ks fs r₀ s₀ m₀ : List ℕ} {b : Cursor} {base : ℕ} {r s m : List ℕ} {n : Spot} (w : Looping ks fs r₀ s₀ m₀ b base r s m n)
+    {r′ s′ m′ : List ℕ} {x : Next} (p : Stepped ks fs (whole-of r₀ s₀ m₀ b) m′ (n .at) (length r₀) (length s₀) r′ s′ base x) {t : Spot} (e : x ≡ Next.Read t) where
+  pub looping-again : Looping ks fs r₀ s₀ m₀ b base r′ s′ m′ t
+  looping-again = record { rows-long = p .rows-long; records-long = p .records-long; awaits = awaits-from (omega (arith, p .forward, w .awaits .forward)) (p .goes .reads t e) }
 
-  pub loop-operand : x ≡ Next.Operand d t → Looping ks fs r₀ s₀ m₀ b base r′ s′ m′ t false d
-  loop-operand e = record { rows-long = p .rows-long; records-long = p .records-long; awaits = awaits-from (omega (arith, p .forward, w .awaits .forward)) (p .goes .operand d t e) }
-
-  pub part-less : x ≡ Next.Part d t → length ks - d .at < length ks - c .at
-  part-less e = let a = p .goes .part d t e in omega (arith, p .forward, a .forward, a .spare)
-
-  pub operand-less : x ≡ Next.Operand d t → length ks - d .at < length ks - c .at
-  operand-less e = let a = p .goes .operand d t e in omega (arith, p .forward, a .forward, a .spare)
+  pub looping-less : length ks - t .at < length ks - n .at
+  looping-less = let a = p .goes .reads t e in omega (arith, p .forward, a .forward, a .spare)

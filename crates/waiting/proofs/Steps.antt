@@ -24,9 +24,11 @@ use Rattle.operation.specs.Operation.{Finished}
 use Rattle.steps.specs.Assigned.{kind-for}
 use Rattle.steps.specs.Body.{Breaks}
 use Rattle.waiting.specs.Waiting.{is-operation}
-use Rattle.waiting.specs.Post.{word, end-of, ends-operand, FinishedOperation, WaitsOperand, WaitsRight, RightRefused, RightWaits, WaitsBody, BodyRefused, BodyWaits, Otherwise, opens-body}
+use Rattle.waiting.specs.Post.{word, spot, end-of, ends-operand, FinishedOperation, WaitsOperand, WaitsRight, RightRefused, RightWaits, WaitsBody, BodyRefused, BodyWaits, Otherwise, opens-body, operand-of, Followed, AfterStart}
 use Rattle.waiting.specs.declared.Group.{Group}
 use Rattle.waiting.specs.declared.Next.{Next}
+use Rattle.waiting.specs.declared.Spot.{Spot}
+use Rattle.waiting.specs.declared.Start.{Start}
 
 -- what a conversion gives, by cases
 refused-once : {p q : Cause} → Conversion.Refused p ≡ Conversion.Refused q → p ≡ q
@@ -51,7 +53,7 @@ module _ {ks r r′ : List ℕ} {c : Cursor} {top y : ℕ} {x : Next} (k : y ≡
   pub otherwise-stops : (y ≡ Colon → ⊥) → x ≡ Next.Fail (Cause.Unexpected (c .at)) → r′ ≡ r → Otherwise ks r c top r′ x
   otherwise-stops t e s = record { colon = λ z. absurd (t (k ∙ z)); no-colon = λ z. record { gives = e; same = s } }
 
-  pub otherwise-goes : y ≡ Colon → x ≡ Next.Part (cursor (c .at + 1) (c .rows) (c .records)) top → KindSet r top Row.Conditional r′ → Otherwise ks r c top r′ x
+  pub otherwise-goes : y ≡ Colon → x ≡ Next.Read (spot (cursor (c .at + 1) (c .rows) (c .records)) top true) → KindSet r top Row.Conditional r′ → Otherwise ks r c top r′ x
   otherwise-goes t e s = record { colon = λ z. record { gives = e; set = s }; no-colon = λ z. absurd (z (sym k ∙ t)) }
 
 -- `wait_body`
@@ -59,7 +61,7 @@ module _ {ks fs r s r′ s′ : List ℕ} {d : Cursor} {h : Head} {top : ℕ} {x
   pub body-stops : b ≡ true → x ≡ Next.Fail (Cause.Unexpected (d .at + 1)) → r′ ≡ r → s′ ≡ s → WaitsBody ks fs r s d h top r′ s′ x
   body-stops t e p q = record { block = λ z. record { gives = e; rows-same = p; records-same = q }; waits = λ z. absurd (z (eqb-true _ _ (sym k ∙ t))) }
 
-  pub body-goes : {c : Cursor} → b ≡ false → x ≡ Next.Part c (top - 1) → Breaks fs s d s′ c → Pushed r (top - 1) (h .kind) (d .at) (h .first) 0 (h .kids + 1) (h .from) r′
+  pub body-goes : {c : Cursor} → b ≡ false → x ≡ Next.Read (spot c (top - 1) true) → Breaks fs s d s′ c → Pushed r (top - 1) (h .kind) (d .at) (h .first) 0 (h .kids + 1) (h .from) r′
       → WaitsBody ks fs r s d h top r′ s′ x
   body-goes {c} t e p q = record { block = λ z. absurd (eqb-false _ _ (sym k ∙ t) z); waits = λ z. record { c = c; gives = e; breaks = p; pushed = q } }
 
@@ -73,7 +75,7 @@ module _ (ks r : List ℕ) (g : Group) {y : ℕ} (k : y ≡ getD ks (g .at) 0) w
 
 -- `wait_operand`
 pub operand-waits : {ks r r′ : List ℕ} {g : Group} {x : Next} {y kind floor : ℕ} → y ≡ getD ks (g .at) 0 → kind ≡ operation-kind y → floor ≡ right-floor y
-    → x ≡ Next.Operand (cursor (g .at + 1) (g .rows) (g .records)) (g .top - 1) → Pushed r (g .top - 1) kind (g .at) (g .first) (g .rows) floor (g .from) r′ → WaitsOperand ks r g r′ x
+    → x ≡ Next.Read (spot (cursor (g .at + 1) (g .rows) (g .records)) (g .top - 1) false) → Pushed r (g .top - 1) kind (g .at) (g .first) (g .rows) floor (g .from) r′ → WaitsOperand ks r g r′ x
 operand-waits k i j e p = record { gives = e; pushed = rw (sym k, sym i, sym j) p }
 
 -- `finish_part`
@@ -105,7 +107,7 @@ module _ (ks r s : List ℕ) (g : Group) {y root : ℕ} (k : y ≡ getD ks (g .a
       }
 
   pub right-goes : {kind count : ℕ} {r′ : List ℕ} → z ≡ Conversion.Turned count → kind ≡ kind-for (y is Eq) → Pushed (low ++ drop (6 * g .top) r) (g .top - 1) kind (g .at) (g .first) 0 2 (g .from) r′
-      → WaitsRight ks r s g r′ s′ (Next.Part (cursor (g .at + 1) (g .rows) (g .records + count)) (g .top - 1))
+      → WaitsRight ks r s g r′ s′ (Next.Read (spot (cursor (g .at + 1) (g .rows) (g .records + count)) (g .top - 1) true))
   right-goes {kind} {count} {r′} q i p =
       record {
         low = low;
@@ -115,5 +117,53 @@ module _ (ks r s : List ℕ) (g : Group) {y root : ℕ} (k : y ≡ getD ks (g .a
         refused = λ c w. absurd (refused-not-turned (sym w ∙ q));
         waits = λ c w.
             let same : count ≡ c = turned-once (sym q ∙ w) in
-            record { gives = ap (λ (x : ℕ). Next.Part (cursor (g .at + 1) (g .rows) (g .records + x)) (g .top - 1)) same; pushed = rw (sym k) (subst (λ (x : ℕ). Pushed (low ++ drop (6 * g .top) r) (g .top - 1) x (g .at) (g .first) 0 2 (g .from) r′) i p) };
+            record { gives = ap (λ (x : ℕ). Next.Read (spot (cursor (g .at + 1) (g .rows) (g .records + x)) (g .top - 1) true)) same; pushed = rw (sym k) (subst (λ (x : ℕ). Pushed (low ++ drop (6 * g .top) r) (g .top - 1) x (g .at) (g .first) 0 2 (g .from) r′) i p) };
+      }
+
+-- `after_start`
+opened-once : {c d : Cursor} {h k : Head} → Start.Opened c h ≡ Start.Opened d k → c ≡ d
+opened-once e = cc
+
+head-once : {c d : Cursor} {h k : Head} → Start.Opened c h ≡ Start.Opened d k → h ≡ k
+head-once e = cc
+
+operand-once : {c d : Cursor} → Start.Operand c ≡ Start.Operand d → c ≡ d
+operand-once e = cc
+
+cause-once : {p q : Cause} → Start.Fail p ≡ Start.Fail q → p ≡ q
+cause-once e = cc
+
+opened-not-operand : {c d : Cursor} {h : Head} → Start.Opened c h ≡ Start.Operand d → ⊥
+opened-not-operand e = let z : _≡_ {A = ℕ} 0 1 = cc in omega arith
+
+opened-not-failed : {c : Cursor} {h : Head} {p : Cause} → Start.Opened c h ≡ Start.Fail p → ⊥
+opened-not-failed e = let z : _≡_ {A = ℕ} 0 1 = cc in omega arith
+
+operand-not-failed : {c : Cursor} {p : Cause} → Start.Operand c ≡ Start.Fail p → ⊥
+operand-not-failed e = let z : _≡_ {A = ℕ} 0 1 = cc in omega arith
+
+module _ {ks fs r s : List ℕ} {got : Start} {n : Spot} {base : ℕ} {r′ s′ : List ℕ} {x : Next} where
+  pub after-fail : {cause : Cause} → got ≡ Start.Fail cause → x ≡ Next.Fail cause → r′ ≡ r → s′ ≡ s → AfterStart ks fs r s got n base r′ s′ x
+  after-fail e g i j =
+      record {
+        failed = λ c q. record { gives = g ∙ ap Next.Fail (cause-once (sym e ∙ q)); rows-same = i; records-same = j };
+        opened = λ d h q. absurd (opened-not-failed (sym q ∙ e));
+        operand = λ d q. absurd (operand-not-failed (sym q ∙ e));
+      }
+
+  pub after-opened : {d : Cursor} {h : Head} → got ≡ Start.Opened d h → WaitsBody ks fs r s d h (n .top) r′ s′ x → AfterStart ks fs r s got n base r′ s′ x
+  after-opened {d} {h} e w =
+      record {
+        failed = λ c q. absurd (opened-not-failed (sym e ∙ q));
+        opened = λ c j q.
+            subst (λ (z : Cursor). WaitsBody ks fs r s z j (n .top) r′ s′ x) (opened-once (sym e ∙ q)) (subst (λ (z : Head). WaitsBody ks fs r s d z (n .top) r′ s′ x) (head-once (sym e ∙ q)) w);
+        operand = λ c q. absurd (opened-not-operand (sym e ∙ q));
+      }
+
+  pub after-operand : {d : Cursor} → got ≡ Start.Operand d → Followed ks fs r s (operand-of d n) base r′ s′ x → AfterStart ks fs r s got n base r′ s′ x
+  after-operand e w =
+      record {
+        failed = λ c q. absurd (operand-not-failed (sym e ∙ q));
+        opened = λ c j q. absurd (opened-not-operand (sym q ∙ e));
+        operand = λ c q. subst (λ (z : Cursor). Followed ks fs r s (operand-of z n) base r′ s′ x) (operand-once (sym e ∙ q)) w;
       }

@@ -26,6 +26,8 @@ use Rattle.steps.specs.Body.{Breaks}
 use Rattle.waiting.specs.Waiting.{Waiting, is-operation, awaits-operand, Whole, Held, Comes-all, Ends, Linked, Awaits}
 use Rattle.waiting.specs.declared.Group.{Group}
 use Rattle.waiting.specs.declared.Next.{Next}
+use Rattle.waiting.specs.declared.Spot.{Spot}
+use Rattle.waiting.specs.declared.Start.{Start}
 
 -- a word of a row
 abbrev pub word : List ℕ → ℕ → ℕ → ℕ
@@ -34,6 +36,17 @@ word r n i = getD r (6 * n + i) 0
 -- the cursor at the end of a group
 abbrev pub end-of : Group → Cursor
 end-of g = cursor (g .at) (g .rows) (g .records)
+
+-- where a part or an operand starts
+abbrev pub spot : Cursor → ℕ → Bool → Spot
+spot c top part = record { at = c .at; rows = c .rows; records = c .records; top = top; part = part }
+
+abbrev pub start-of : Spot → Cursor
+start-of s = cursor (s .at) (s .rows) (s .records)
+
+-- the group of an operand
+abbrev pub operand-of : Cursor → Spot → Group
+operand-of d s = record { at = d .at; rows = d .rows; records = d .records; first = s .at; from = s .rows; top = s .top }
 
 -- the innermost row that waits is an operator's, and its right operand ends before an operator of this level
 abbrev pub ends-operand : List ℕ → ℕ → ℕ → ℕ → Bool
@@ -73,12 +86,12 @@ pub record WaitFits (words : ℕ) (g : Group) : Type 0 where
 
 -- an operator waits
 pub record WaitsOperand (ks r : List ℕ) (g : Group) (r′ : List ℕ) (x : Next) : Type 0 where
-  pub gives : x ≡ Next.Operand (cursor (g .at + 1) (g .rows) (g .records)) (g .top - 1)
+  pub gives : x ≡ Next.Read (spot (cursor (g .at + 1) (g .rows) (g .records)) (g .top - 1) false)
   pub pushed : Pushed r (g .top - 1) (operation-kind (getD ks (g .at) 0)) (g .at) (g .first) (g .rows) (right-floor (getD ks (g .at) 0)) (g .from) r′
 
 -- a Conditional waits for its `:`
 pub record WaitsChoice (r : List ℕ) (g : Group) (r′ : List ℕ) (x : Next) : Type 0 where
-  pub gives : x ≡ Next.Part (cursor (g .at + 1) (g .rows) (g .records)) (g .top - 1)
+  pub gives : x ≡ Next.Read (spot (cursor (g .at + 1) (g .rows) (g .records)) (g .top - 1) true)
   pub pushed : Pushed r (g .top - 1) 0 (g .at) (g .first) 0 3 (g .from) r′
 
 -- an assignment's left side was converted below the rows that wait, and the assignment waits; or it was refused
@@ -87,7 +100,7 @@ pub record RightRefused (r : List ℕ) (g : Group) (low r′ : List ℕ) (cause 
   pub text : r′ ≡ low ++ drop (6 * g .top) r
 
 pub record RightWaits (ks r : List ℕ) (g : Group) (low r′ : List ℕ) (count : ℕ) (x : Next) : Type 0 where
-  pub gives : x ≡ Next.Part (cursor (g .at + 1) (g .rows) (g .records + count)) (g .top - 1)
+  pub gives : x ≡ Next.Read (spot (cursor (g .at + 1) (g .rows) (g .records + count)) (g .top - 1) true)
   pub pushed : Pushed (low ++ drop (6 * g .top) r) (g .top - 1) (kind-for (getD ks (g .at) 0 is Eq)) (g .at) (g .first) 0 2 (g .from) r′
 
 pub record WaitsRight (ks r s : List ℕ) (g : Group) (r′ s′ : List ℕ) (x : Next) : Type 0 where
@@ -117,7 +130,7 @@ pub record BodyRefused (r s : List ℕ) (d : Cursor) (r′ s′ : List ℕ) (x :
 
 pub record BodyWaits (fs r s : List ℕ) (d : Cursor) (h : Head) (top : ℕ) (r′ s′ : List ℕ) (x : Next) : Type 0 where
   pub c : Cursor
-  pub gives : x ≡ Next.Part c (top - 1)
+  pub gives : x ≡ Next.Read (spot c (top - 1) true)
   pub breaks : Breaks fs s d s′ c
   pub pushed : Pushed r (top - 1) (h .kind) (d .at) (h .first) 0 (h .kids + 1) (h .from) r′
 
@@ -132,7 +145,7 @@ pub record PartFits (r : List ℕ) (c : Cursor) (top : ℕ) : Type 0 where
 
 -- a Conditional at its `:`
 pub record Colons (r : List ℕ) (c : Cursor) (top : ℕ) (r′ : List ℕ) (x : Next) : Type 0 where
-  pub gives : x ≡ Next.Part (cursor (c .at + 1) (c .rows) (c .records)) top
+  pub gives : x ≡ Next.Read (spot (cursor (c .at + 1) (c .rows) (c .records)) top true)
   pub set : KindSet r top Row.Conditional r′
 
 pub record NoColon (r : List ℕ) (c : Cursor) (r′ : List ℕ) (x : Next) : Type 0 where
@@ -161,8 +174,7 @@ pub record NameBody (ks fs r s : List ℕ) (g : Group) (r′ s′ : List ℕ) (x
 
 -- past a place, what is read next, and what waits for it; or what the whole comes to
 pub record Goes (ks fs : List ℕ) (all : Whole) (m : List ℕ) (at : ℕ) (r s : List ℕ) (base : ℕ) (x : Next) : Type 0 where
-  pub part : (c : Cursor) (top : ℕ) → x ≡ Next.Part c top → Awaits ks fs all m r s base top true (at + 1) c
-  pub operand : (c : Cursor) (top : ℕ) → x ≡ Next.Operand c top → Awaits ks fs all m r s base top false (at + 1) c
+  pub reads : (n : Spot) → x ≡ Next.Read n → Awaits ks fs all m r s base (n .top) (n .part) (at + 1) (start-of n)
   pub ended : (c : Cursor) → x ≡ Next.Ended c → Comes-all ks fs all r s m (Step.Done c)
   pub refused : (cause : Cause) → x ≡ Next.Fail cause → Comes-all ks fs all r s m (Step.Fail cause)
 
@@ -205,3 +217,18 @@ pub record Level (ks fs r s : List ℕ) (g : Group) (base : ℕ) : Type 0 where
 
 pub record FollowedLevel (ks fs r s : List ℕ) (g : Group) (base : ℕ) (r′ s′ : List ℕ) (x : Next) : Type 0 where
   pub goes : (all : Whole) (m : List ℕ) (ws : List Waiting) → GroupAt ks fs all m ws r s g base → awaits-operand ws ≡ false → expression-level (getD ks (g .at) 0) ≡ 0 → Goes ks fs all m (g .at) r′ s′ base x
+
+-- past a start: what it asks for, by its cases
+pub record StartFits (ks fs r s : List ℕ) (got : Start) (n : Spot) (base : ℕ) : Type 0 where
+  pub opened : (d : Cursor) (h : Head) → got ≡ Start.Opened d h → BodyFits (length r) (length s) d h (n .top)
+  pub operand : (d : Cursor) → got ≡ Start.Operand d → Grouping ks fs r s (operand-of d n) base
+
+pub record StartFailed (r s r′ s′ : List ℕ) (cause : Cause) (x : Next) : Type 0 where
+  pub gives : x ≡ Next.Fail cause
+  pub rows-same : r′ ≡ r
+  pub records-same : s′ ≡ s
+
+pub record AfterStart (ks fs r s : List ℕ) (got : Start) (n : Spot) (base : ℕ) (r′ s′ : List ℕ) (x : Next) : Type 0 where
+  pub failed : (cause : Cause) → got ≡ Start.Fail cause → StartFailed r s r′ s′ cause x
+  pub opened : (d : Cursor) (h : Head) → got ≡ Start.Opened d h → WaitsBody ks fs r s d h (n .top) r′ s′ x
+  pub operand : (d : Cursor) → got ≡ Start.Operand d → Followed ks fs r s (operand-of d n) base r′ s′ x

@@ -8,7 +8,7 @@ ghost use lib.ListN.{take};
 ghost use Rattle.rows.specs.Post.{RowInside};
 ghost use Rattle.making.specs.Post.{cursor, Room, Operand, Topped};
 ghost use Rattle.waiting.specs.Waiting.{is-operation};
-ghost use Rattle.waiting.specs.Post.{word, end-of, ends-operand, OperationFits, FinishedOperation, WaitFits, WaitsOperand, WaitsChoice, WaitsRight, BodyFits, WaitsBody, PartFits, Otherwise, opens-body, NameBody, PartEnding, PartEnded, Grouping, Followed, Level, FollowedLevel};
+ghost use Rattle.waiting.specs.Post.{word, end-of, ends-operand, OperationFits, FinishedOperation, WaitFits, WaitsOperand, WaitsChoice, WaitsRight, BodyFits, WaitsBody, PartFits, Otherwise, opens-body, NameBody, PartEnding, PartEnded, Grouping, Followed, Level, FollowedLevel, StartFits, AfterStart};
 use heads::Head;
 use making::cursor::Cursor;
 use making::cursor::leaf;
@@ -29,10 +29,18 @@ pub enum Start {
     Fail(Cause),
 }
 
-// What comes next: a part or an operand is read at a cursor, and rows wait from a row on; or all is read; or it is refused.
+// Where a part starts, or an operand: the place, how many rows and records are used, and the row from which on rows wait.
+pub struct Spot {
+    pub at: usize,
+    pub rows: usize,
+    pub records: usize,
+    pub top: usize,
+    pub part: bool,
+}
+
+// What comes next: a part or an operand is read; or all is read; or it is refused.
 pub enum Next {
-    Part(Cursor, usize),
-    Operand(Cursor, usize),
+    Read(Spot),
     Ended(Cursor),
     Fail(Cause),
 }
@@ -124,12 +132,13 @@ fn wait_operand(kinds: &[u8], rows: &mut [u32], left: Group) -> Next
     let kind = operation::operation_kind(operator);
     let floor = operation::right_floor(operator) as usize;
     rows::push_row(rows, top, kind, at, left.first, left.rows, floor, left.from);
-    let c = Cursor {
+    Next::Read(Spot {
         at: at + 1,
         rows: left.rows,
         records: left.records,
-    };
-    Next::Operand(c, top)
+        top,
+        part: false,
+    })
 }
 
 // 13.15: an assignment waits for its right side, once its left side is converted.
@@ -154,12 +163,13 @@ fn wait_right(kinds: &[u8], rows: &mut [u32], records: &mut [u32], left: Group) 
             };
             let top = left.top - 1;
             rows::push_row(rows, top, kind, at, left.first, 0, 2, left.from);
-            let c = Cursor {
+            Next::Read(Spot {
                 at: at + 1,
                 rows: left.rows,
                 records: said + count,
-            };
-            Next::Part(c, top)
+                top,
+                part: true,
+            })
         }
     }
 }
@@ -171,16 +181,17 @@ fn wait_choice(rows: &mut [u32], test: Group) -> Next
 {
     let top = test.top - 1;
     rows::push_row(rows, top, CHOICE, test.at, test.first, 0, 3, test.from);
-    let c = Cursor {
+    Next::Read(Spot {
         at: test.at + 1,
         rows: test.rows,
         records: test.records,
-    };
-    Next::Part(c, top)
+        top,
+        part: true,
+    })
 }
 
 // 15.3, 15.9: an arrow waits for its body, from its `=>` on: a break before `=>` is record 1, and `{` as body is 8.
-pub fn wait_body(
+fn wait_body(
     kinds: &[u8],
     flags: &[u8],
     rows: &mut [u32],
@@ -207,7 +218,13 @@ pub fn wait_body(
     let top = waiting - 1;
     let kids = head.kids + 1;
     rows::push_row(rows, top, head.kind, at, head.first, 0, kids, head.from);
-    Next::Part(c, top)
+    Next::Read(Spot {
+        at: c.at,
+        rows: c.rows,
+        records: c.records,
+        top,
+        part: true,
+    })
 }
 
 // The innermost row that waits is made, up to where its last part ends.
@@ -234,12 +251,13 @@ fn otherwise(kinds: &[u8], rows: &mut [u32], c: Cursor, top: usize) -> Next
         return Next::Fail(Cause::Unexpected(at));
     }
     rows::set_kind(rows, top, row::CONDITIONAL);
-    let d = Cursor {
+    Next::Read(Spot {
         at: at + 1,
         rows: c.rows,
         records: c.records,
-    };
-    Next::Part(d, top)
+        top,
+        part: true,
+    })
 }
 
 // A part has ended: what waited for it is made, up to the first that waits for its `:`.
@@ -324,7 +342,7 @@ fn after_binary(
 }
 
 // 13.6 to 13.15: past an operand, what waits and ends here is made, and what begins here waits.
-pub fn follow(
+fn follow(
     kinds: &[u8],
     flags: &[u8],
     rows: &mut [u32],
@@ -344,4 +362,34 @@ pub fn follow(
         return wait_operand(kinds, rows, group);
     }
     after_binary(kinds, flags, rows, records, group, base)
+}
+
+// Past a start: an arrow waits for its body, or what follows an operand is read.
+pub fn after_start(
+    kinds: &[u8],
+    flags: &[u8],
+    rows: &mut [u32],
+    records: &mut [u32],
+    got: Start,
+    from: Spot,
+    base: usize,
+) -> Next
+    requires { ⌜ StartFits (now kinds) (now flags) (now rows) (now records) got from base ⌝ }
+    ensures { λ x. ⌜ AfterStart (now (kinds .entry)) (now (flags .entry)) (now (rows .entry)) (now (records .entry)) got from base (now (rows .exit)) (now (records .exit)) x ⌝ }
+{
+    match got {
+        Start::Fail(cause) => Next::Fail(cause),
+        Start::Opened(d, head) => wait_body(kinds, flags, rows, records, d, head, from.top),
+        Start::Operand(d) => {
+            let operand = Group {
+                at: d.at,
+                rows: d.rows,
+                records: d.records,
+                first: from.at,
+                from: from.rows,
+                top: from.top,
+            };
+            follow(kinds, flags, rows, records, operand, base)
+        }
+    }
 }

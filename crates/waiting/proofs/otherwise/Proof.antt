@@ -16,8 +16,8 @@ returns c = otherwise-stops (c .before .kind-at .ensures) (c .if1 .taken) refl r
 set-kind-requires : tie.Need-set-kind-requires
 set-kind-requires c κs = search needs
 
-add-t13 : tie.Need-add-t13
-add-t13 c = omega (arith, c .before .before .before .before .before .before .before .before .pre, c .before .before .set-kind .kept)
+add-t12 : tie.Need-add-t12
+add-t12 c = omega (arith, c .before .before .before .before .before .before .before .before .pre, c .before .before .set-kind .kept)
 
 same-length : tie.Need-same-length
 same-length c = omega (arith, c .before .before .before .before .before .before .before .before .pre, c .before .before .set-kind .kept)
@@ -26,4 +26,4 @@ returns-2 : tie.Need-returns-2
 returns-2 c = otherwise-goes (c .before .before .before .before .before .kind-at .ensures) (c .before .before .before .before .if1 .left) refl (c .before .before .set-kind .ensures)
 
 pub otherwise-spec : {M : Type 1} → statement M
-otherwise-spec = tie.close (tie.spec kind-at-requires returns set-kind-requires add-t13 same-length returns-2)
+otherwise-spec = tie.close (tie.spec  kind-at-requires returns set-kind-requires add-t12 same-length returns-2)

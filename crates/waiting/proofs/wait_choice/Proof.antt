@@ -12,8 +12,8 @@ sub-top c = omega (arith, c .before .before .pre)
 push-row-requires : tie.Need-push-row-requires
 push-row-requires c κs = search needs
 
-add-t8 : tie.Need-add-t8
-add-t8 c = omega (arith, c .before .before .before .before .before .before .before .pre, c .before .before .before .push-row .kept)
+add-t7 : tie.Need-add-t7
+add-t7 c = omega (arith, c .before .before .before .before .before .before .before .pre, c .before .before .before .push-row .kept)
 
 same-length : tie.Need-same-length
 same-length c = omega (arith, c .before .before .before .before .before .before .before .pre, c .before .before .before .push-row .kept)
@@ -22,4 +22,4 @@ returns : tie.Need-returns
 returns c = record { gives = refl; pushed = c .before .before .before .push-row .ensures }
 
 pub wait-choice-spec : {M : Type 1} → statement M
-wait-choice-spec = tie.close (tie.spec sub-top push-row-requires add-t8 same-length returns)
+wait-choice-spec = tie.close (tie.spec  sub-top push-row-requires add-t7 same-length returns)

@@ -25,8 +25,8 @@ cast-floor c = omega (arith, c .before .before .before .before .before .before .
 push-row-requires : tie.Need-push-row-requires
 push-row-requires c κs = search needs
 
-add-t14 : tie.Need-add-t14
-add-t14 c = omega (arith, c .before .before .before .before .before .before .before .before .before .before .pre, c .before .before .push-row .kept)
+add-t13 : tie.Need-add-t13
+add-t13 c = omega (arith, c .before .before .before .before .before .before .before .before .before .before .pre, c .before .before .push-row .kept)
 
 same-length : tie.Need-same-length
 same-length c = omega (arith, c .before .before .before .before .before .before .before .before .before .before .pre, c .before .before .push-row .kept)
@@ -35,4 +35,4 @@ returns : tie.Need-returns
 returns c = operand-waits (c .before .before .before .before .before .before .kind-at .ensures) (c .before .before .before .before .before .operation-kind .ensures) (c .before .before .before .before .right-floor .ensures) refl (c .before .before .push-row .ensures)
 
 pub wait-operand-spec : {M : Type 1} → statement M
-wait-operand-spec = tie.close (tie.spec sub-top kind-at-requires operation-kind-requires right-floor-requires cast-floor push-row-requires add-t14 same-length returns)
+wait-operand-spec = tie.close (tie.spec  sub-top kind-at-requires operation-kind-requires right-floor-requires cast-floor push-row-requires add-t13 same-length returns)
