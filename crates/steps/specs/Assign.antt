@@ -1,4 +1,4 @@
--- `assign`, 13.15 where a head may open: each way out of it.
+-- What comes of an AssignmentExpression where a head may open (13.15), by the way there and by the head: each way. For `start`.
 -- Assumes nothing.
 use Prim.Native.Nat.{ℕ, _+_, _≤_, _<_}
 use mathlib.Core.Path.{_≡_, refl, sym, ap, subst, _∙_}

@@ -1,4 +1,4 @@
--- `assigned`, 13.15: each way out of it.
+-- What comes of an assignment (13.15), from its operator on: each way. For rows that wait (`waiting`).
 -- Assumes nothing.
 use Prim.Native.Nat.{ℕ, _+_, _*_, _≤_}
 use mathlib.Core.Path.{_≡_, refl, sym, ap, subst, _∙_}

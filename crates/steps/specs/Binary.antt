@@ -1,4 +1,4 @@
--- `binary`, 13.6 to 13.13: its loop over the operators, and each way out of it.
+-- What comes of operands and operators (13.6 to 13.13), from an operand or a row over operands on: each way. For rows that wait (`waiting`).
 -- Assumes nothing.
 use Prim.Native.Nat.{ℕ, _+_, _*_, _≤_, _<_}
 use mathlib.Core.Path.{_≡_, refl, sym, ap, subst, _∙_}
@@ -44,7 +44,7 @@ pub record Grouped (ks fs r₀ s₀ m₀ : List ℕ) (floor first n k : ℕ) (r 
   pub made : Made r₀ s₀ n k r s here (one tree) said
   pub rest : (out : Out (List ℕ)) → Comes ks fs (operators floor first at tree) m out → Comes ks fs (binary floor first) m₀ (after-records said out)
 
--- the loop, which began at b: what was grouped there is grouped here, where the operator stands
+-- what was grouped at b is grouped here, where the operator stands
 pub record Grouping (ks fs r₁ s₁ m₁ : List ℕ) (floor first n : ℕ) (b : Cursor) (r s m : List ℕ) (here : Cursor) (at operator : ℕ) : Type 0 where
   pub rows-long : length r ≡ length r₁
   pub records-long : length s ≡ length s₁
@@ -53,12 +53,6 @@ pub record Grouping (ks fs r₁ s₁ m₁ : List ℕ) (floor first n : ℕ) (b :
 
 pub binary-starts : {ks fs r s m : List ℕ} {floor first n operator : ℕ} {b : Cursor} → operator ≡ getD ks (b .at) 0 → Grouping ks fs r s m floor first n b r s m b (b .at) operator
 binary-starts t = record { rows-long = refl; records-long = refl; token = t; goes = λ r₀ s₀ m₀ k w. w }
-
-pub binary-turns : {ks fs r₁ s₁ m₁ r s m r′ s′ m′ : List ℕ} {floor first n at operator at′ operator′ : ℕ} {b here u : Cursor}
-    → Grouping ks fs r₁ s₁ m₁ floor first n b r s m here at operator → length r′ ≡ length r → length s′ ≡ length s → operator′ ≡ getD ks at′ 0
-    → ((r₀ s₀ m₀ : List ℕ) (k : ℕ) → Grouped ks fs r₀ s₀ m₀ floor first n k r s m here at → Grouped ks fs r₀ s₀ m₀ floor first n k r′ s′ m′ u at′)
-    → Grouping ks fs r₁ s₁ m₁ floor first n b r′ s′ m′ u at′ operator′
-binary-turns v p q t turn = record { rows-long = p ∙ v .rows-long; records-long = q ∙ v .records-long; token = t; goes = λ r₀ s₀ m₀ k w. turn r₀ s₀ m₀ k (v .goes r₀ s₀ m₀ k w) }
 
 -- an operator stands before the end
 pub operator-stands : (ks : List ℕ) {at operator above floor : ℕ} → operator ≡ getD ks at 0 → above ≡ expression-level operator → floor < above → at < length ks

@@ -1,4 +1,4 @@
--- `body`, 15.3 and 15.9: each way out of it.
+-- What comes of an arrow (15.3 and 15.9), from its `=>` on: each way. For rows that wait (`waiting`).
 -- Assumes nothing.
 use Prim.Native.Nat.{ℕ, _+_, _-_, _≤_}
 use mathlib.Core.Path.{_≡_, refl, sym, ap, subst, _∙_}

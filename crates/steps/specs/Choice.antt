@@ -1,4 +1,4 @@
--- `choice`, 13.14: each way out of it.
+-- What comes of a Conditional (13.14), from its `?` on: each way. For rows that wait (`waiting`).
 -- Assumes nothing.
 use Prim.Native.Nat.{ℕ, _+_}
 use mathlib.Core.Path.{_≡_, refl, sym, _∙_}

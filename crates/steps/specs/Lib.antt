@@ -1,5 +1,6 @@
--- In plain terms: what the calls and tests on the way gave, and what the contract asks. One file for each function of the cycle; `Cursors`,
--- `Listing`, `Root`, `Shape`, `Shared` and `Singles` are for several.
+-- In plain terms: what the calls and tests on the way gave, and what the contract asks. One file for each function of the cycle; `Assign`, `Value`,
+-- `Binary`, `Assigned`, `Choice` and `Body` are for its loop, by what is read there; `Cursors`, `Listing`, `Root`, `Shape`, `Shared` and `Singles`
+-- are for several.
 pub mod Args
 pub mod Array
 pub mod Assign

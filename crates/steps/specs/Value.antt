@@ -1,4 +1,4 @@
--- `value`, 13.15 past a head: each way out of it.
+-- What comes of an AssignmentExpression past a head (13.15), from its binary level on: each way. For `start`, and for rows that wait (`waiting`).
 -- Assumes nothing.
 use Prim.Native.Nat.{ℕ, _+_, _-_, _<_}
 use mathlib.Core.Path.{_≡_, refl, sym, ap, subst, _∙_}
