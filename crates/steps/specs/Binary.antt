@@ -44,16 +44,6 @@ pub record Grouped (ks fs r₀ s₀ m₀ : List ℕ) (floor first n k : ℕ) (r 
   pub made : Made r₀ s₀ n k r s here (one tree) said
   pub rest : (out : Out (List ℕ)) → Comes ks fs (operators floor first at tree) m out → Comes ks fs (binary floor first) m₀ (after-records said out)
 
--- what was grouped at b is grouped here, where the operator stands
-pub record Grouping (ks fs r₁ s₁ m₁ : List ℕ) (floor first n : ℕ) (b : Cursor) (r s m : List ℕ) (here : Cursor) (at operator : ℕ) : Type 0 where
-  pub rows-long : length r ≡ length r₁
-  pub records-long : length s ≡ length s₁
-  pub token : operator ≡ getD ks at 0
-  pub goes : (r₀ s₀ m₀ : List ℕ) (k : ℕ) → Grouped ks fs r₀ s₀ m₀ floor first n k r₁ s₁ m₁ b (b .at) → Grouped ks fs r₀ s₀ m₀ floor first n k r s m here at
-
-pub binary-starts : {ks fs r s m : List ℕ} {floor first n operator : ℕ} {b : Cursor} → operator ≡ getD ks (b .at) 0 → Grouping ks fs r s m floor first n b r s m b (b .at) operator
-binary-starts t = record { rows-long = refl; records-long = refl; token = t; goes = λ r₀ s₀ m₀ k w. w }
-
 -- an operator stands before the end
 pub operator-stands : (ks : List ℕ) {at operator above floor : ℕ} → operator ≡ getD ks at 0 → above ≡ expression-level operator → floor < above → at < length ks
 unfolding expression-level level
@@ -72,16 +62,16 @@ module _ {ks fs r₀ s₀ m₀ : List ℕ} {c : Cursor} {floor : ℕ} (room : Ro
       → Met ks fs r₀ s₀ m₀ r s m (binary floor (c .at)) (c .rows) (c .records) x
   binary-refuses h e = let f = h .fail-at _ e in is-fail e record { comes = binary-fails (f .comes); unmade = f .unmade }
 
-  -- where the loop is
-  pub binary-grouped : {r₁ s₁ m₁ r s m : List ℕ} {x : Step} {d here : Cursor} {at operator : ℕ} → Met ks fs r₀ s₀ m₀ r₁ s₁ m₁ (unary (c .at)) (c .rows) (c .records) x → x ≡ Step.Done d
-      → Grouping ks fs r₁ s₁ m₁ floor (c .at) (c .rows) d r s m here at operator → Grouped ks fs r₀ s₀ m₀ floor (c .at) (c .rows) (c .records) r s m here at
-  binary-grouped {r₁} {s₁} {m₁} {d = d} h e v =
+  -- an operand that was read, with the operators that follow it
+  pub binary-grouped : {r s m : List ℕ} {x : Step} {d : Cursor} → Met ks fs r₀ s₀ m₀ r s m (unary (c .at)) (c .rows) (c .records) x → x ≡ Step.Done d
+      → Grouped ks fs r₀ s₀ m₀ floor (c .at) (c .rows) (c .records) r s m d (d .at)
+  binary-grouped {r} {s} {m} {d = d} h e =
       let a = h .done-to _ e in
       let w = moved _ a refl in
       let t = first-tree (a .trees) in
       let lone : a .trees ≡ one t = single _ a refl in
       let weighs = alone lone in
-      v .goes r₀ s₀ m₀ (c .records) record {
+      record {
         wide = omega (arith, room);
         deep = omega (arith, room);
         place = refl;
@@ -92,8 +82,8 @@ module _ {ks fs r₀ s₀ m₀ : List ℕ} {c : Cursor} {floor : ℕ} (room : Ro
         tree = t;
         said = a .records;
         few-records = omega (arith, w, weighs);
-        made = subst (λ (f : Forest). Made r₀ s₀ (c .rows) (c .records) r₁ s₁ d f (a .records)) lone (a .made);
-        rest = λ out f. binary-more (subst (λ (q : Forest). Comes ks fs (unary (c .at)) m₀ (done (d .at) q (a .records) m₁)) lone (a .comes)) f;
+        made = subst (λ (f : Forest). Made r₀ s₀ (c .rows) (c .records) r s d f (a .records)) lone (a .made);
+        rest = λ out f. binary-more (subst (λ (q : Forest). Comes ks fs (unary (c .at)) m₀ (done (d .at) q (a .records) m)) lone (a .comes)) f;
       }
 
 module _ {ks fs r₀ s₀ m₀ : List ℕ} {floor first n k₀ : ℕ} {r₁ s₁ m₁ : List ℕ} {here : Cursor} {at operator above : ℕ}

@@ -1,7 +1,7 @@
 -- Only the first rows matter to what was read: what is said of a part of the lent tree is said of the whole of it. And the rows that wait, as words.
 -- Assumes nothing.
 use Prim.Native.Nat.{ℕ, _+_, _-_, _*_, _≤_, _<_}
-use mathlib.Core.Path.{_≡_, refl, sym, ap, subst, _∙_}
+use mathlib.Core.Path.{_≡_, refl, sym, ap, _∙_}
 use mathlib.Core.List.{List, [], _∷_, _++_, append-assoc}
 use native.Mathlib.Omega.{arith}
 use lib.ListN.{length, take, drop, getD, length-append, length-take, length-drop, take-append-drop}
@@ -11,7 +11,7 @@ use Rattle.rows.specs.Post.{Pushed, Grown, Kept}
 use Rattle.grammar.specs.Job.{Job}
 use Rattle.grammar.specs.Binary.{operation-kind}
 use Rattle.operation.specs.Operation.{Finished}
-use Rattle.making.specs.Post.{Made, Unmade, ReadTo, Met}
+use Rattle.making.specs.Post.{Met}
 use Rattle.making.specs.declared.cursor.Cursor.{Cursor}
 use Rattle.making.specs.declared.cursor.Step.{Step}
 use Rattle.steps.specs.Root.{length-flats}

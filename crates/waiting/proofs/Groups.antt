@@ -3,38 +3,34 @@
 use Prim.Native.Nat.{ℕ, _+_, _-_, _*_, _≤_, _<_}
 use mathlib.Core.Path.{_≡_, refl, sym, ap, subst, _∙_}
 use mathlib.Core.Bool.{Bool, true, false, not}
-use mathlib.Core.List.{List, [], _∷_, _++_}
+use mathlib.Core.List.{List, [], _∷_}
 use native.Mathlib.Omega.{arith}
 use native.Mathlib.Decide.{ℕ-discrete}
 use lib.Dec.{leb, ltb}
 use lib.ListN.{length, getD, take, drop, length-append, length-drop}
 use lib.Seq.{length-take-le, take-append-le}
-use borrow.Author.Tests.{lt-ltb, le-ltb, le-leb, lt-leb, leb-true, leb-false, ltb-true, eq-eqb, eqb-true, eqb-false}
+use borrow.Author.Tests.{lt-ltb, le-leb, leb-true, leb-false, ltb-true, eq-eqb, eqb-true}
 use Rattle.tokens.specs.Bool.{_and_, _is_, if_then_else_, between}
 use Rattle.tokens.specs.Kind.{LCurly, Arrow, Question, Question2, Amp2, Eq}
-use Rattle.tokens.specs.declared.cause.Cause.{Cause}
 use Rattle.tokens.proofs.Stands.{stands-not}
 use Rattle.operators.specs.Precedence.{expression-level}
 use Rattle.rows.specs.Row as Row
-use Rattle.rows.specs.Tree.{Forest}
-use Rattle.rows.specs.Post.{Pushed, Grown, Word}
 use Rattle.targets.specs.declared.Conversion.{Conversion}
 use Rattle.grammar.specs.Assignment.{is-assignment-operator}
 use Rattle.grammar.specs.Binary.{operation-kind, right-floor}
 use Rattle.laws.specs.Good.{and-left, and-right}
-use Rattle.making.specs.Post.{cursor, Made, HeadFits, Room, Operand}
+use Rattle.making.specs.Post.{HeadFits, Room, Operand}
 use Rattle.making.specs.declared.cursor.Cursor.{Cursor}
-use Rattle.making.specs.declared.cursor.Step.{Step}
 use Rattle.heads.specs.declared.Head.{Head}
 use Rattle.operation.specs.Operation.{Finished}
 use Rattle.steps.specs.Assigned.{kind-for}
-use Rattle.steps.specs.Binary.{Grouped, operator-stands}
+use Rattle.steps.specs.Binary.{operator-stands}
 use Rattle.steps.specs.Value as Value
-use Rattle.waiting.specs.Waiting.{Waiting, operation, part, choice, Choice, is-operation, words, awaits-operand, floor-of, Whole, Held, Spare, Comes-all, Outcome, Starts, Opens, Linked, Ends, Awaits}
-use Rattle.waiting.specs.Post.{word, end-of, ends-operand, OperationFits, FinishedOperation, WaitFits, WaitsOperand, WaitsChoice, WaitsRight, WaitsBody, opens-body, name-head, NameBody, Goes, PartAt, GroupAt}
+use Rattle.waiting.specs.Waiting.{Waiting, operation, part, choice, Choice, is-operation, awaits-operand, floor-of, Whole, Held, Spare, Opens, Linked, Ends}
+use Rattle.waiting.specs.Post.{word, end-of, ends-operand, OperationFits, FinishedOperation, WaitFits, WaitsOperand, WaitsChoice, WaitsRight, WaitsBody, opens-body, NameBody, Goes, PartAt, GroupAt}
 use Rattle.waiting.specs.declared.Group.{Group}
 use Rattle.waiting.specs.declared.Next.{Next}
-use Rattle.waiting.proofs.Cuts.{pushed-kept, same-first, finished-wider, grown-narrower, held-lent, held-waits, held-below, held-word, held-kind, held-next, held-some, held-inside}
+use Rattle.waiting.proofs.Cuts.{pushed-kept, same-first, finished-wider, held-lent, held-waits, held-below, held-word, held-kind, held-next, held-some, held-inside}
 use Rattle.waiting.proofs.Links.{starts-from, linked-spare, operand-ends, waits-operand, operand, part-ends, no-name-ends, waits-choice, right-refused, right-spare, waits-right, no-operation, no-choice, name-opens, body-refuses, body-spare, waits-body}
 use Rattle.waiting.proofs.Parts.{goes-reads, goes-fail}
 

@@ -6,34 +6,32 @@ use mathlib.Core.Bool.{Bool, true, false, not}
 use mathlib.Core.List.{List, [], _∷_, _++_}
 use native.Mathlib.Omega.{arith}
 use lib.ListN.{length, getD, take}
-use Rattle.tokens.specs.Bool.{_is_, if_then_else_}
+use Rattle.tokens.specs.Bool.{_is_}
 use Rattle.tokens.specs.Kind.{Eq, Arrow, Question}
 use Rattle.tokens.specs.declared.cause.Cause.{Cause}
 use Rattle.tokens.proofs.Stands.{stands-not}
 use Rattle.operators.specs.Precedence.{expression-level}
-use Rattle.rows.specs.Tree.{Tree, one}
+use Rattle.rows.specs.Tree.{one}
 use Rattle.rows.specs.Row as Row
-use Rattle.rows.specs.Post.{Grown, Word}
-use Rattle.grammar.specs.Sheet.{sheet-of}
+use Rattle.rows.specs.Post.{Word}
 use Rattle.grammar.specs.Job.{Job, assignment, value, binary, assign, conditional, body}
-use Rattle.grammar.specs.Assignment.{is-async-name, is-assignment-operator}
+use Rattle.grammar.specs.Assignment.{is-assignment-operator}
 use Rattle.grammar.specs.Binary.{right-floor}
 use Rattle.roles.specs.Meaning as means
 use Rattle.targets.specs.Post as Targets
 use Rattle.targets.specs.declared.Conversion.{Conversion}
-use Rattle.making.specs.Post.{cursor, Room, Met, MetOver, MetAfter, Made, Topped, Leafed, Operand, HeadFits}
+use Rattle.making.specs.Post.{cursor, Room, Met, MetOver, Leafed, Operand, HeadFits}
 use Rattle.making.specs.declared.cursor.Cursor.{Cursor}
 use Rattle.making.specs.declared.cursor.Step.{Step}
 use Rattle.making.proofs.Ends.{moved}
 use Rattle.heads.specs.declared.Head.{Head}
-use Rattle.operation.specs.Operation.{Finished}
-use Rattle.steps.specs.Binary.{Grouped, operator-stands, operand-rows, binary-refuses, binary-ends, binary-stops, binary-operates}
+use Rattle.steps.specs.Binary.{Grouped, operator-stands, operand-rows, binary-ends, binary-stops, binary-operates}
 use Rattle.steps.specs.Value as Value
 use Rattle.steps.specs.Value.{value-refuses, value-operand, value-choices, value-ends, value-stays, value-assigned, value-arrows}
 use Rattle.steps.specs.Choice.{choice-fails, choice-opens, choice-fails-after, choice-done}
 use Rattle.steps.specs.Assigned.{kind-for, assigned-few, assigned-refuses, assigned-fails, assigned-done}
 use Rattle.steps.specs.Body.{Breaks, body-curlies, body-refused, body-dones}
-use Rattle.waiting.specs.Waiting.{Waiting, operation, part, choice, is-operation, Choice, awaits-operand, floor-of, begun, Whole, Spare, Comes-all, Outcome, Starts, Opens, Linked, OperationEnds, PartEnds, ChoiceEnds, Ends}
+use Rattle.waiting.specs.Waiting.{Waiting, operation, part, choice, is-operation, Choice, awaits-operand, floor-of, begun, Whole, Spare, Comes-all, Outcome, Starts, Opens, Linked, Ends}
 use Rattle.waiting.proofs.Cuts.{met-from, met-wider, grown-inside}
 
 -- room in words for what is read below the rows that wait

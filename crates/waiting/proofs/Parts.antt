@@ -2,8 +2,8 @@
 -- Assumes nothing.
 use Prim.Native.Nat.{ℕ, _+_, _-_, _*_, _≤_, _<_}
 use mathlib.Core.Path.{_≡_, refl, sym, ap, subst, _∙_}
-use mathlib.Core.Bool.{Bool, true, false, not}
-use mathlib.Core.List.{List, [], _∷_, _++_}
+use mathlib.Core.Bool.{Bool, true, false}
+use mathlib.Core.List.{List, [], _∷_}
 use native.Mathlib.Omega.{arith}
 use lib.ListN.{length, getD, take, drop, set}
 use lib.Seq.{drop-set-add, take-set-le}
@@ -11,12 +11,11 @@ use Rattle.tokens.specs.Kind.{Colon}
 use Rattle.tokens.proofs.Stands.{stands-not}
 use Rattle.tokens.specs.declared.cause.Cause.{Cause}
 use Rattle.rows.specs.Row as Row
-use Rattle.rows.specs.Post.{KindSet}
-use Rattle.making.specs.Post.{cursor, Topped, TopRoom}
+use Rattle.making.specs.Post.{Topped}
 use Rattle.making.specs.declared.cursor.Cursor.{Cursor}
 use Rattle.making.specs.declared.cursor.Step.{Step}
-use Rattle.waiting.specs.Waiting.{Waiting, operation, part, choice, Choice, all-words, awaits-operand, Whole, Held, Spare, Comes-all, Ends, PartEnds, Awaits}
-use Rattle.waiting.specs.Post.{word, start-of, PartFits, PartAt, Otherwise, Goes, PartEnded}
+use Rattle.waiting.specs.Waiting.{Waiting, operation, part, choice, Choice, all-words, Whole, Comes-all, Ends, Awaits}
+use Rattle.waiting.specs.Post.{word, start-of, PartFits, PartAt, Otherwise, Goes}
 use Rattle.waiting.specs.declared.Next.{Next}
 use Rattle.waiting.specs.declared.Spot.{Spot}
 use Rattle.waiting.proofs.Cuts.{held-word, held-kind, held-next, held-below, held-some, held-none}

@@ -3,20 +3,19 @@
 use Prim.Native.Nat.{ℕ, _+_, _-_, _*_, _/_, _≤_, _<_}
 use mathlib.Core.Path.{_≡_, refl, sym, ap, subst, _∙_}
 use mathlib.Core.Bool.{Bool, true, false, not}
-use mathlib.Core.List.{List, [], _∷_, _++_}
+use mathlib.Core.List.{List, [], _++_}
 use native.Mathlib.Omega.{arith}
 use lib.ListN.{length, getD, take, drop, length-append, length-drop}
 use lib.Seq.{length-take-le, take-append-le}
 use Rattle.tokens.specs.Bool.{_is_, if_then_else_}
 use Rattle.tokens.specs.Kind.{Async}
 use Rattle.tokens.specs.declared.cause.Cause.{Cause}
-use Rattle.rows.specs.Tree.{Forest, count, flats}
-use Rattle.rows.specs.Post.{Grown}
+use Rattle.rows.specs.Tree.{flats}
 use Rattle.rows.specs.Row as Row
 use Rattle.grammar.specs.Sheet.{sheet-of}
 use Rattle.grammar.specs.Assignment.{is-async-name}
 use Rattle.grammar.specs.Job.{Job, assignment, value, binary, unary, head, body}
-use Rattle.making.specs.Post.{cursor, Room, Met, MetAfter, MetList, HeadFits, Refused, Leafed}
+use Rattle.making.specs.Post.{cursor, Room, Met, MetAfter, MetList, Refused, Leafed}
 use Rattle.making.specs.declared.cursor.Cursor.{Cursor}
 use Rattle.making.specs.declared.cursor.Step.{Step}
 use Rattle.making.specs.declared.cursor.Listed.{Listed}
@@ -26,15 +25,14 @@ use Rattle.making.proofs.Ends.{is-fail, moved}
 use Rattle.heads.specs.declared.Head.{Head}
 use Rattle.steps.specs.Assign.{Past, headed, head-fits, assign-arrows, assign-fails}
 use Rattle.steps.specs.Value.{async-stands, value-asyncs, value-refuses}
-use Rattle.steps.specs.Binary.{binary-starts, binary-grouped, binary-refuses}
-use Rattle.waiting.specs.Waiting.{Waiting, Choice, is-operation, awaits-operand, floor-of, begun, Whole, Held, all-words, Spare, Comes-all, Outcome, Starts, Opens, Linked, Ends, Awaits}
-use Rattle.waiting.specs.Post.{spot, start-of, GroupAt, Grouping, BodyFits, WaitsBody, Goes, StartFits, AfterStart}
+use Rattle.steps.specs.Binary.{binary-grouped, binary-refuses}
+use Rattle.waiting.specs.Waiting.{Choice, is-operation, floor-of, begun, Whole, all-words, Spare, Comes-all, Outcome, Starts, Opens, Ends, Awaits}
+use Rattle.waiting.specs.Post.{spot, start-of, GroupAt, BodyFits, WaitsBody, Goes, StartFits, AfterStart}
 use Rattle.waiting.specs.Start.{OpenedTo, OperandTo, MetStart}
-use Rattle.waiting.specs.declared.Group.{Group}
 use Rattle.waiting.specs.declared.Next.{Next}
 use Rattle.waiting.specs.declared.Spot.{Spot}
 use Rattle.waiting.specs.declared.Start.{Start}
-use Rattle.waiting.proofs.Cuts.{met-from, met-wider, grown-wider, grown-inside, same-first, held-lent}
+use Rattle.waiting.proofs.Cuts.{met-from, met-wider, grown-inside, same-first, held-lent}
 use Rattle.waiting.proofs.Links.{room-below}
 use Rattle.waiting.proofs.Parts.{goes-fail}
 use Rattle.waiting.proofs.Groups.{body-awaits}
@@ -194,7 +192,7 @@ module _ {ks fs : List ℕ} {all : Whole} {m₀ r₀ s₀ : List ℕ} {base top 
               room = room₁;
               deep = deep ∙ sym (o .records-long);
               plain = λ i. o .plain (is-true part (sym (w .operand) ∙ i));
-              grouped = binary-grouped (room-below spare₁ room₁) read refl (binary-starts refl);
+              grouped = binary-grouped (room-below spare₁ room₁) read refl;
               starts = starts₁;
             };
           }

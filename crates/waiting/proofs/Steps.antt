@@ -1,11 +1,11 @@
 -- In plain terms: what the calls and tests on the way gave, and what the contract asks, for the functions on one row that waits.
 -- Assumes nothing.
-use Prim.Native.Nat.{ℕ, _+_, _-_, _*_, _≤_, _<_}
+use Prim.Native.Nat.{ℕ, _+_, _-_, _*_, _<_}
 use mathlib.Core.Path.{_≡_, refl, sym, ap, subst, _∙_}
 use mathlib.Core.Bool.{Bool, true, false, not}
 use mathlib.Core.List.{List, _++_}
 use native.Mathlib.Omega.{arith}
-use lib.Dec.{leb, ltb}
+use lib.Dec.{leb}
 use lib.ListN.{length, getD, take, drop}
 use borrow.Author.Tests.{lt-ltb, eq-eqb, ne-eqb, eqb-true, eqb-false}
 use Rattle.tokens.specs.Bool.{_and_, _is_, if_then_else_}
@@ -17,14 +17,14 @@ use Rattle.roles.specs.Meaning as means
 use Rattle.targets.specs.Post as Targets
 use Rattle.targets.specs.declared.Conversion.{Conversion}
 use Rattle.grammar.specs.Binary.{operation-kind, right-floor}
-use Rattle.making.specs.Post.{cursor, Topped, Leafed}
+use Rattle.making.specs.Post.{cursor, Topped}
 use Rattle.making.specs.declared.cursor.Cursor.{Cursor}
 use Rattle.heads.specs.declared.Head.{Head}
 use Rattle.operation.specs.Operation.{Finished}
 use Rattle.steps.specs.Assigned.{kind-for}
 use Rattle.steps.specs.Body.{Breaks}
 use Rattle.waiting.specs.Waiting.{is-operation}
-use Rattle.waiting.specs.Post.{word, spot, end-of, ends-operand, FinishedOperation, WaitsOperand, WaitsRight, RightRefused, RightWaits, WaitsBody, BodyRefused, BodyWaits, Otherwise, opens-body, operand-of, Followed, AfterStart}
+use Rattle.waiting.specs.Post.{word, spot, end-of, ends-operand, FinishedOperation, WaitsOperand, WaitsRight, WaitsBody, Otherwise, opens-body, operand-of, Followed, AfterStart}
 use Rattle.waiting.specs.declared.Group.{Group}
 use Rattle.waiting.specs.declared.Next.{Next}
 use Rattle.waiting.specs.declared.Spot.{Spot}

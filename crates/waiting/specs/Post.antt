@@ -16,7 +16,7 @@ use Rattle.roles.specs.Meaning as means
 use Rattle.targets.specs.Post as Targets
 use Rattle.targets.specs.declared.Conversion.{Conversion}
 use Rattle.grammar.specs.Binary.{operation-kind, right-floor}
-use Rattle.making.specs.Post.{cursor, Topped, TopRoom, Leafed}
+use Rattle.making.specs.Post.{cursor, TopRoom, Leafed}
 use Rattle.making.specs.declared.cursor.Cursor.{Cursor}
 use Rattle.making.specs.declared.cursor.Step.{Step}
 use Rattle.heads.specs.declared.Head.{Head}
