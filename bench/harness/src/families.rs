@@ -100,6 +100,18 @@ pub fn tokens(text: &str) -> List {
     list
 }
 
+/// A text of a kind.
+pub fn spelled(kind: u8) -> &'static str {
+    let known = SIGNS.iter().chain(&WORDS).find(|(_, one)| *one == kind);
+    match (kind, known) {
+        (1, _) => "a",
+        (11, _) => "''",
+        (12, _) => "1",
+        (_, Some((text, _))) => text,
+        _ => "?",
+    }
+}
+
 /// The kinds of three texts.
 fn kinds(texts: [&str; 3]) -> [Vec<u8>; 3] {
     texts.map(|text| tokens(text).kinds)
