@@ -213,19 +213,3 @@ pub static FAMILIES: [Family; 26] = [
     family("refused at the end", Shape::Repeated("", "a +", "")),
     family("refused as a target", Shape::Repeated("[", "a, ", "1] = a")),
 ];
-
-/// As many brackets as may be open.
-macro_rules! open {
-    () => {
-        "(((((((((((((((((((((((((((((((((((((((((((((((((((((((((((((((("
-    };
-}
-
-/// The deepest lists that were found, for the stack alone: refused by `read`, read by it, refused by `pattern`; and one of which only the length
-/// counts, for `convert`. Found by repeating units of up to three tokens after openings.
-pub static DEEPEST: [Family; 4] = [
-    family("64 (, then a ? a ? .., refused", Shape::Repeated(open!(), "a ?", "")),
-    family("64 (, then a => a => .., closed", Shape::Repeated(open!(), "a =>", "a))))))))))))))))))))))))))))))))))))))))))))))))))))))))))))))))")),
-    family("pattern: a =, 64 (, then a ? a ? ..", Shape::Repeated(concat!("a =", open!()), "a ?", "")),
-    family("convert: arrays in one another", Shape::Repeated("a", "[", "")),
-];

@@ -1,8 +1,8 @@
 //! Measures how much stack each reader uses for the sheets of each family.
 //! Bytes a level: what the peak grows by from half of the levels to all of them, for one level.
-use harness::families::{DEEPEST, FAMILIES, Family, LARGEST, Size};
+use harness::families::{FAMILIES, Family, LARGEST, Size};
 use harness::painted::{Meter, on_painted_stack};
-use harness::readers::{CONVERTERS, Entry, PATTERNS, READERS, Reader, Room, black_box, compared, names};
+use harness::readers::{Entry, READERS, Room, black_box, compared, names};
 use harness::table::Table;
 use lists::List;
 use twin::protocol::{Read, Refused};
@@ -38,12 +38,12 @@ fn bytes_a_level(entry: Entry, family: &Family, peak_of_all: usize, meter: &mut 
 }
 
 /// A family's row, after the readers have been compared: its levels, each reader's peak, and each reader's bytes a level. The largest peaks are kept.
-fn row(readers: &[Reader], family: &'static Family, meter: &mut Meter, largest: &mut [(usize, &'static str)]) -> Vec<String> {
-    compared(readers, family, LARGEST);
+fn row(family: &'static Family, meter: &mut Meter, largest: &mut [(usize, &'static str)]) -> Vec<String> {
+    compared(READERS, family, LARGEST);
     let levels = if family.grows() { family.levels(LARGEST).to_string() } else { String::new() };
     let mut peaks = vec![];
     let mut each = vec![];
-    for ((_, entry), largest) in readers.iter().zip(largest) {
+    for ((_, entry), largest) in READERS.iter().zip(largest) {
         let most = peak(*entry, family, LARGEST, meter);
         *largest = (*largest).max((most, family.name));
         peaks.push(most.to_string());
@@ -61,9 +61,8 @@ fn measure(meter: &mut Meter) {
     let heads: Vec<String> = ["family", "levels"].map(str::to_string).into_iter().chain(peaks).chain(each).collect();
     let mut table = Table::new(&heads);
     let mut largest = vec![(0, ""); READERS.len()];
-    let deepest = [READERS, READERS, PATTERNS, CONVERTERS].into_iter().zip(&DEEPEST);
-    for (readers, family) in FAMILIES.iter().map(|family| (READERS, family)).chain(deepest) {
-        table.push(row(readers, family, meter, &mut largest));
+    for family in &FAMILIES {
+        table.push(row(family, meter, &mut largest));
     }
     println!("Bytes of stack.\n\n{table}");
     let largest: Vec<String> = names().iter().zip(largest).map(|(name, (most, family))| format!("{name} **{most}** ({family})")).collect();
