@@ -18,7 +18,8 @@ rounds=${ROUNDS:-300}
 install_missing() {
     local need=()
     command -v valgrind > /dev/null || need+=(valgrind)
-    command -v size > /dev/null || need+=(binutils)
+    command -v objdump > /dev/null || need+=(binutils)
+    command -v python3 > /dev/null || need+=(python3)
     command -v lscpu > /dev/null || need+=(util-linux)
     command -v node > /dev/null || need+=(nodejs)
     [ -e /usr/share/nodejs/acorn ] || need+=(node-acorn)
@@ -54,8 +55,21 @@ part_times() {
 # Instructions a token of the three readers, and how they grow.
 part_instructions() { "$programs/count"; }
 
-# The deepest byte of a painted stack that each reader writes to.
-part_stack() { "$programs/stack"; }
+# The deepest byte of a painted stack that each reader writes to; the bound from the object code; and the lists that come nearest to it.
+part_stack() {
+    local ways
+    ways=$(mktemp)
+    "$programs/stack"
+    echo
+    echo "The bound from the object code, by frames and calls in bytes."
+    echo
+    python3 -B "$here/../tools/stack.py" --ways "$ways" "$VUOLMASET_ARCHIVE"
+    echo
+    echo "The lists and trees that take the most, of all that were tried."
+    echo
+    "$programs/search" "$ways"
+    rm "$ways"
+}
 
 # The bytes of the archive's sections, by what they hold.
 part_size() {

@@ -21,9 +21,8 @@
  *
  * The archive wants one function of its surroundings: `memset`, as the C library has it. It is all that `nm -u` finds undefined.
  *
- * A call takes stack by the depth of what it reads: under 18 KB for the measuring sheets of the bench, VUOLMASET_STACK_MEASURED bytes for the deepest
- * list that was found. This is a measurement on x86-64 and no bound: no proof speaks of the stack, and a deeper list may exist. `bench/run.sh stack`
- * measures it anew. The call must have so much, and room to spare: past the end of the stack, nothing that is promised here holds.
+ * A call takes stack by the brackets that are open at once in what it reads, and a conversion by the rows that stand below one another. How much is
+ * enough for every list and for every tree is said below. On a shorter stack it can run past the end, and then nothing that is promised here holds.
  */
 #ifndef VUOLMASET_H
 #define VUOLMASET_H
@@ -41,10 +40,14 @@ extern "C" {
 #define VUOLMASET_ROW_WORDS (6 * VUOLMASET_TOKENS)
 #define VUOLMASET_RECORD_WORDS (2 * VUOLMASET_TOKENS)
 
-/* The most bytes of stack that a call was seen to take: of vuolmaset_read, for `(` 64 times and then `a ?` 992 times, which is refused. For a list that is
- * read they were 948,560, of vuolmaset_pattern 1,056,896, of vuolmaset_convert 721,296 (2,047 arrays in one another). The others do not recurse. Some
- * bytes more or less are the caller's own frame. */
-#define VUOLMASET_STACK_MEASURED 1057568
+/* Bytes of stack that are enough for a call: VUOLMASET_CONVERT_STACK for vuolmaset_convert, of any tree; VUOLMASET_STACK for every other function, of any
+ * list and any memory that is lent. Counted from the caller's frame on; what a signal takes comes on top.
+ *
+ * They are bounds for the archive as it is built for x86-64, and rest on its object code and on a script, not on a theorem: tools/stack.py adds up the
+ * frames of the longest way that the calls can take, with at most 64 calls behind an opening bracket and one for each of 2,048 rows, and says at its
+ * head what is assumed. The test command holds the script's bounds to these two numbers, and runs the lists that take the most on stacks of this size. */
+#define VUOLMASET_STACK 1057568
+#define VUOLMASET_CONVERT_STACK 721624
 
 /* Reads a list of tokens that is one Expression. After a refusal 1 to 7 both buffers hold what they held, after 8 to 12 all their words are 0; read,
  * the words past the used ones are 0. */

@@ -17,16 +17,19 @@ RUSTFLAGS='-D warnings' cargo test --quiet --offline --manifest-path bindings/ru
 echo "Rust: all as expected"
 
 # The linked archive gives the answers that other parsers agreed on, and those of the sheets.
-(cd bench/harness && RUSTFLAGS='-D warnings' cargo build --quiet --offline --release --features archive --bin answer --bin stack --target-dir ../../target/harness)
+(cd bench/harness && RUSTFLAGS='-D warnings' cargo build --quiet --offline --release --features archive --bin answer --bin search --target-dir ../../target/harness)
 bash tests/judged/replay.sh target/harness/release/answer
 python3 -B tests/sheets.py target/harness/release/answer
 
-# The stack that the header and the crate name is the most that is measured, but for some bytes of the caller's frame.
-said=$(sed -n 's/^#define VUOLMASET_STACK_MEASURED \([0-9]*\)$/\1/p' include/vuolmaset.h)
-crate=$(sed -n 's/^pub const STACK_MEASURED: usize = \([0-9_]*\);$/\1/p' bindings/rust/src/lib.rs)
-measured=$(target/harness/release/stack | sed -n 's/^Largest peak: .*archive \*\*\([0-9]*\)\*\*.*/\1/p')
-if [ "$said" != "${crate//_/}" ] || [ $((measured - said)) -gt 256 ] || [ $((said - measured)) -gt 256 ]; then
-    echo "stack: $measured bytes measured, $said in include/vuolmaset.h, $crate in bindings/rust"
+# The stack. The bound from the object code is at most what the header and the crate name, and is lost where no call is counted. No list of a short
+# search takes more than the bound for its brackets. The lists that take the most run on as much stack as is named, and on less they are stopped.
+need objdump binutils
+python3 -B tests/stack.py
+python3 -B tools/stack.py --ways target/stack_ways
+if python3 -B tools/stack.py --uncut > target/stack_uncut || ! grep -q '^- vuolmaset_read: no bound: a cycle' target/stack_uncut; then
+    echo "tools/stack.py: no cycle where no call is counted"
     exit 1
 fi
-echo "stack: $measured bytes measured, as the header says"
+target/harness/release/search short target/stack_ways target/stack_lists 2> target/stack_progress || { cat target/stack_progress; exit 1; }
+gcc -std=c11 -O2 -Wall -Wextra -Wpedantic -Werror -pthread bindings/c/stack.c target/staticlib/libvuolmaset.a -o target/stack_c
+target/stack_c < target/stack_lists

@@ -101,6 +101,18 @@ pub fn tokens(text: &str) -> List {
     list
 }
 
+/// A text of a kind.
+pub fn spelled(kind: u8) -> &'static str {
+    let known = SIGNS.iter().chain(&WORDS).find(|(_, one)| *one == kind);
+    match (kind, known) {
+        (1, _) => "a",
+        (11, _) => "''",
+        (12, _) => "1",
+        (_, Some((text, _))) => text,
+        _ => "?",
+    }
+}
+
 /// The kinds of three texts.
 fn kinds(texts: [&str; 3]) -> [Vec<u8>; 3] {
     texts.map(|text| tokens(text).kinds)
@@ -210,20 +222,4 @@ pub static FAMILIES: [Family; 26] = [
     family("random, refused", Shape::Random(false)),
     family("refused at the end", Shape::Repeated("", "a +", "")),
     family("refused as a target", Shape::Repeated("[", "a, ", "1] = a")),
-];
-
-/// As many brackets as may be open.
-macro_rules! open {
-    () => {
-        "(((((((((((((((((((((((((((((((((((((((((((((((((((((((((((((((("
-    };
-}
-
-/// The deepest lists that were found, for the stack alone: refused by `read`, read by it, refused by `pattern`; and one of which only the length
-/// counts, for `convert`. Found by repeating units of up to three tokens after openings.
-pub static DEEPEST: [Family; 4] = [
-    family("64 (, then a ? a ? .., refused", Shape::Repeated(open!(), "a ?", "")),
-    family("64 (, then a => a => .., closed", Shape::Repeated(open!(), "a =>", "a))))))))))))))))))))))))))))))))))))))))))))))))))))))))))))))))")),
-    family("pattern: a =, 64 (, then a ? a ? ..", Shape::Repeated(concat!("a =", open!()), "a ?", "")),
-    family("convert: arrays in one another", Shape::Repeated("a", "[", "")),
 ];

@@ -2,5 +2,7 @@
 #[cfg(feature = "archive")]
 pub mod archive;
 pub mod families;
+pub mod painted;
 pub mod readers;
+pub mod shape;
 pub mod table;

@@ -18,32 +18,6 @@ pub static READERS: &[Reader] = &[
     ("archive", crate::archive::Archive::read as Entry),
 ];
 
-/// The same readers by their entry for patterns.
-pub static PATTERNS: &[Reader] = &[
-    ("plain twin", Twin::pattern as Entry),
-    ("tuned twin", Tuned::pattern as Entry),
-    #[cfg(feature = "archive")]
-    ("archive", crate::archive::Archive::pattern as Entry),
-];
-
-/// And by their entry for conversion.
-pub static CONVERTERS: &[Reader] = &[
-    ("plain twin", convert_arrays::<Twin> as Entry),
-    ("tuned twin", convert_arrays::<Tuned> as Entry),
-    #[cfg(feature = "archive")]
-    ("archive", convert_arrays::<crate::archive::Archive> as Entry),
-];
-
-/// Converts a name in arrays in one another, as many rows as there are tokens.
-fn convert_arrays<Reader: Entries>(kinds: &[u8], _: &[u8], rows: &mut [u32], records: &mut [u32]) -> Result<Read, Refused> {
-    let last = kinds.len() as u32 - 1;
-    for (number, row) in (0..).zip(rows.chunks_exact_mut(6)) {
-        let (kind, kids) = if number == 0 { (1, 0) } else { (5, 1) };
-        row.copy_from_slice(&[kind, last - number, last - number, last + 1, kids, number + 1]);
-    }
-    Reader::convert(rows, last as usize, records)
-}
-
 /// The readers' names.
 pub fn names() -> Vec<&'static str> {
     READERS.iter().map(|(name, _)| *name).collect()

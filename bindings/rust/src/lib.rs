@@ -4,9 +4,9 @@
 //! asks of its caller (lists that are lent for writing overlap nothing), so no safe call can be a wrong one. There is no heap and no global state. The
 //! archive wants the function `memset` of its surroundings, and nothing else.
 //!
-//! Stack: a call takes it by the depth of what it reads, and [`STACK_MEASURED`] bytes for the deepest list that was found. That is a measurement and no
-//! bound. A thread whose stack is shorter can run past its end: where there is a guard page the program is stopped, on a box without one memory
-//! is overwritten. A safe call is safe only on a stack that is long enough.
+//! Stack: a call takes it by the brackets that are open at once in what it reads, and a conversion by the rows that stand below one another. [`STACK`]
+//! bytes are enough for every list, [`CONVERT_STACK`] for every tree. A thread whose stack is shorter can run past its end: where there is a guard page
+//! the program is stopped, on a box without one memory is overwritten. A safe call is safe only on a stack that is long enough.
 //!
 //! A tree is six words a row, and all of the slice that is given: after a reading that is the beginning of the buffer that was lent.
 //!
@@ -27,8 +27,12 @@ mod sentences;
 
 pub use sentences::{record_sentence, refusal_sentence};
 
-/// The most bytes of stack that a call was seen to take, on x86-64: VUOLMASET_STACK_MEASURED of include/vuolmaset.h, where it is said of what.
-pub const STACK_MEASURED: usize = 1_057_568;
+/// Bytes of stack that are enough for a call of every function but [`convert`], of any list: VUOLMASET_STACK of include/vuolmaset.h. It is a bound for the
+/// archive as it is built for x86-64, from its object code by tools/stack.py, and no theorem: the header says what it rests on.
+pub const STACK: usize = 1_057_568;
+
+/// Bytes of stack that are enough for a call of [`convert`], of any tree: VUOLMASET_CONVERT_STACK, a bound of the same kind.
+pub const CONVERT_STACK: usize = 721_624;
 
 mod archive {
     extern "C" {

@@ -1,6 +1,6 @@
 //! P1 to P10 (docs/RULES.md), and one call of each other function, through the archive.
 use vuolmaset::{
-    convert, expression_precedence, pattern, precedence, read, record_sentence, refusal_sentence, subtree, three_way, Counts, Refused, Tristate,
+    convert, expression_precedence, pattern, precedence, read, record_sentence, refusal_sentence, subtree, three_way, Counts, Refused, Tristate, STACK,
 };
 
 type Row = [u32; 6];
@@ -106,6 +106,17 @@ fn a_tree_is_six_words_a_row() {
     assert_eq!(subtree(&rows[..words], 2), &rows[..18]);
     assert_eq!(convert(&mut rows[..words], 3, &mut records), Ok(Counts { rows: 1, records: 0, abandoned: 0 }));
     assert_eq!(rows[18], 40);
+}
+
+#[test]
+fn the_stack_is_enough() {
+    // 64 times `( ... a =`, in a thread with so much stack and what a thread takes itself
+    let read = || {
+        let kinds = [18, 28, 1, 63].repeat(64);
+        read(&kinds, &[0; 256], &mut [0; 6 * 256], &mut [0; 2 * 256])
+    };
+    let thread = std::thread::Builder::new().stack_size(STACK + 65_536).spawn(read).expect("a thread");
+    assert_eq!(thread.join().expect("an answer"), Err(Refused { number: 8, place: 256 }));
 }
 
 #[test]
