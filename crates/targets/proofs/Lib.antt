@@ -3,8 +3,11 @@ mod Near
 mod Flat
 mod Looking
 mod Records
+mod Plans
 mod Judging
+mod Wrong
 mod Turning
+mod Finishing
 mod ShortCuts
 mod Converting
 mod Entering
