@@ -9,6 +9,7 @@ mod Wrong
 mod Turning
 mod Finishing
 mod ShortCuts
+mod Elements
 mod Converting
 mod Entering
 pub mod Once

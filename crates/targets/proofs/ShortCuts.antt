@@ -7,6 +7,7 @@ use mathlib.Core.List.{List, [], _++_, append-assoc}
 use native.Mathlib.Omega.{arith}
 use lib.Dec.{eqb}
 use lib.ListN.{length, getD, set, length-set}
+use lib.Seq.{set-set}
 use borrow.Author.Tests.{eqb-true, ne-eqb}
 use Rattle.tokens.specs.Bool.{if_then_else_, _and_, _or_}
 use Rattle.rows.specs.Row as row
@@ -346,6 +347,12 @@ kept-here {rows} {root} {kind} role t w y =
           };
     }
 
+-- so of an element
+pub element-turned : (t : Tree) (last : Bool) → is-element (kind-of t) ≡ true → convert-as t (kid code.Array last) ≡ turned (with-kind (named-kind (kind-of t)) t) []
+unfolding kid
+element-turned t true e = kept-turned t (last-element []) refl (kept-as-element (kind-of t) e)
+element-turned t false e = kept-turned t element refl (kept-as-element (kind-of t) e)
+
 -- so of a reference, whatever is aimed at
 pub reference-turned : {rows : List ℕ} {root kind : ℕ} (simply : Bool) (h : Subtree rows root) → Word rows root 0 kind → is-reference kind ≡ true
     → convert-as (h .tree) (aim simply) ≡ turned (with-kind (named-at rows root) (h .tree)) []
@@ -399,6 +406,11 @@ pub step-plain : {rows r : List ℕ} {root of start stop at : ℕ} {rows₁ rows
     → NameSet rows (stop - 1) at rows₁ → rows′ ≡ rows₁ → r′ ≡ r → start′ ≡ start → Step rows r root of start stop rows′ r′ start′
 step-plain {root = root} {stop = stop} n lt k e f g =
     step-turned (turn-named (n .is (eqb stop root)) (omega arith) k) (ap length (k .text) ∙ simp length-set) refl e f g
+
+-- one row is set
+pub one-name-set : {rows rows′ : List ℕ} {at kind kind′ : ℕ} → Word rows at 0 kind → kind′ ≡ named-kind kind → KindSet rows at kind′ rows′ → NameSet rows at at rows′
+one-name-set {rows} {at = at} w e k =
+    record { text = k .text ∙ rw (e, w .is) (sym (set-set rows (6 * at) (named-at rows at) (named-at rows at))) }
 
 pub inside-name : {rows : List ℕ} {root at : ℕ} → Subtree rows root → at ≤ root → NameInside (length rows) root at
 inside-name h le = record { order = le; room = root-inside h }

@@ -3,6 +3,7 @@
 -- Assumes nothing.
 use Prim.Native.Nat.{ℕ, _+_, _-_, _*_, _≤_, _<_, _%_}
 use mathlib.Core.Bool.{Bool, true, false}
+use Rattle.tokens.specs.Bool.{if_then_else_}
 use mathlib.Core.Path.{_≡_, refl, sym, ap, _∙_}
 use mathlib.Core.List.{List, [], _∷_, _++_, append-assoc}
 use native.Mathlib.Omega.{arith}
@@ -20,17 +21,34 @@ use Rattle.conversion.specs.Conversion as def
 use Rattle.conversion.specs.Conversion.{Outcome, turned, refused, roles, over, convert-as, convert-kids}
 use Rattle.roles.specs.Meaning as means
 use Rattle.targets.specs.Post.{Subtree, SizeInside, FirstRow, begins-of, begins-before, PlanAt, Filled, NoteFits, Written, FinishFits, Finished, Ready, Made, TurnedRow}
-use Rattle.targets.specs.Named.{NameUnder, NameSet}
+use Rattle.targets.specs.Named.{all-elements}
+use Rattle.roles.specs.ShortCut.{is-element}
 use Rattle.conversion.specs.RuleHolds.{refused-turned}
 use Rattle.conversion.specs.Potentials.{turned-is, turned-records}
 use Rattle.targets.proofs.Flat.{root-words, flat-root, root-text, root-inside, size-root, Walk, Next, walk-start, walk-some, walk-next, walk-none, walk-past, kid-tree, kid-size, whole-next}
-use Rattle.targets.proofs.Looking.{reads-size, last-begins, kid-before}
+use Rattle.targets.proofs.Looking.{reads-kind, reads-size, last-begins, kid-before}
 use Rattle.targets.proofs.Records.{filled-none, filled-more}
 use Rattle.targets.proofs.Judging.{by-change, last-kid}
 use Rattle.roles.specs.Plan as code
 use Rattle.targets.proofs.Plans.{turning, Alone, kept, refuses, alone, before-length, right-before}
 use Rattle.targets.proofs.Wrong.{wrong-kid}
 use Rattle.conversion.specs.Shapes.{SameShape, same-size, same-shape, Both, cons-parts, cons-turned, none-turned}
+
+-- elements of two forests, one after the other
+pub first-element : (b c : Bool) → (if b then c else false) ≡ true → b ≡ true
+first-element true c h = refl
+first-element false c h = h
+
+pub rest-elements : (b c : Bool) → (if b then c else false) ≡ true → c ≡ true
+rest-elements true c h = h
+rest-elements false c h = let z : _≡_ {A = ℕ} 0 1 = cc in absurd (omega arith)
+
+pub elements-join : (ts us : Forest) → all-elements (join ts us) ≡ true → (all-elements ts ≡ true) × (all-elements us ≡ true)
+unfolding all-elements join
+elements-join nil us h = (refl, h)
+elements-join (cons t ts) us h =
+    let r = elements-join ts us (rest-elements (is-element (kind-of t)) _ h) in
+    (rw (first-element (is-element (kind-of t)) _ h) (r .0), r .1)
 
 -- the last kids of some that are converted are converted
 record Suffix (ts : Forest) (each : ℕ → def.Role) (rs : List Record) : Type 0 where
@@ -271,6 +289,15 @@ module _ {rows₀ r₀ : List ℕ} {root of start₀ : ℕ} {rows r : List ℕ} 
     (f : FirstRow rows root first) (lt : first < stop) (k : KidsReady rows₀ root of start₀) where
   pub kid-there : Subtree rows (stop - 1)
   kid-there = the-kid t f lt (k .rooted) (k .kindly)
+
+  -- where each kid is an element by itself, so is this one
+  pub kid-element : {kind : ℕ} → Word rows (stop - 1) 0 kind → all-elements (kids-of (k .rooted .tree)) ≡ true → is-element kind ≡ true
+  unfolding all-elements
+  kid-element w all =
+      let n = next-kid t f lt (k .rooted) (k .kindly) in
+      let e = ap all-elements (sym (whole-next (t .here (k .rooted) (k .kindly) .walk) n)) ∙ all in
+      let g = elements-join (n .rest) (cons (n .kid) (t .here (k .rooted) (k .kindly) .walk .passed)) e .1 in
+      ap is-element (reads-kind (the-kid t f lt (k .rooted) (k .kindly)) w) ∙ first-element (is-element (kind-of (n .kid))) _ g
 
   pub low : 1 ≤ stop
   low = let s = kid-size (t .here (k .rooted) (k .kindly) .walk) (next-kid t f lt (k .rooted) (k .kindly)) in omega arith

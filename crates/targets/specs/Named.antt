@@ -2,14 +2,16 @@
 -- Assumes nothing: these are definitions.
 use Prim.Native.Nat.{ℕ, _+_, _*_, _≤_}
 use mathlib.Core.Path.{_≡_}
-use mathlib.Core.Bool.{Bool}
+use mathlib.Core.Bool.{Bool, true, false}
 use mathlib.Core.List.{List, [], _++_}
 use lib.ListN.{getD, set}
 use Rattle.tokens.specs.Bool.{if_then_else_}
-use Rattle.rows.specs.Tree.{Tree, flat}
-use Rattle.conversion.specs.Conversion.{turned, Role, property, last-property, convert-as}
+use Rattle.rows.specs.Row as row
+use Rattle.rows.specs.Tree.{Tree, Forest, nil, cons, flat, kind-of, kids-of}
+use Rattle.rows.specs.Record.{Record}
+use Rattle.conversion.specs.Conversion.{turned, Role, any, property, last-property, convert-as}
 use Rattle.roles.specs.Meaning.{commas, kid}
-use Rattle.roles.specs.ShortCut.{named-kind}
+use Rattle.roles.specs.ShortCut.{named-kind, is-element}
 use Rattle.targets.specs.Post.{Subtree}
 
 -- the kind that a row gets by itself
@@ -45,3 +47,22 @@ pub record NameInside (words root at : ℕ) : Type 0 where
 
 pub record NameSet (rows : List ℕ) (root at : ℕ) (rows′ : List ℕ) : Type 0 where
   pub text : rows′ ≡ name-set rows root at
+
+-- each of these becomes an element of an array by itself
+unfoldable pub all-elements : Forest → Bool
+all-elements nil = true
+all-elements (cons t ts) = if is-element (kind-of t) then all-elements ts else false
+
+-- so it is, or not, with the kids of a row
+pub record PlainArray (rows : List ℕ) (root : ℕ) (r : Bool) : Type 0 where
+  pub is : (h : Subtree rows root) → r ≡ all-elements (kids-of (h .tree))
+
+pub record PlainReady (rows : List ℕ) (root : ℕ) : Type 0 where
+  pub rooted : Subtree rows root
+  pub array : kind-of (rooted .tree) ≡ row.Array
+  pub plain : all-elements (kids-of (rooted .tree)) ≡ true
+
+-- the words are those of its conversion
+pub record PlainTurned (rows₀ : List ℕ) (root : ℕ) (rows : List ℕ) : Type 0 where
+  pub is : (h : Subtree rows₀ root) → kind-of (h .tree) ≡ row.Array → all-elements (kids-of (h .tree)) ≡ true → (t : Tree) (records : List Record)
+      → convert-as (h .tree) any ≡ turned t records → rows ≡ h .before ++ (flat t ++ h .after)

@@ -9,7 +9,7 @@ ghost use Rattle.roles.specs.Meaning as means;
 ghost use Rattle.targets.specs.Outcome as outcome;
 ghost use Rattle.targets.specs.Entry.{Answered};
 ghost use Rattle.targets.specs.Post.{Subtree, WordInside, SizeInside, FirstRow, PlanAt, Judged, Sums, Own, NoteFits, Written, FinishFits, Finished, Ready, TurnedRow, Room, RowConverted};
-ghost use Rattle.targets.specs.Named.{NameUnder, NameBelow, NameInside, NameSet};
+ghost use Rattle.targets.specs.Named.{NameUnder, NameBelow, NameInside, NameSet, PlainArray, PlainReady, PlainTurned};
 use roles::Seen;
 use roles::plan;
 use rows::clear_from;
@@ -299,6 +299,36 @@ fn conversion_of(found: usize) -> Conversion
     Conversion::Refused(Cause::Spread(found / 4))
 }
 
+// Whether all kids of a row become elements of an array by themselves, with no record.
+fn is_plain_array(rows: &[u32], root: usize) -> bool
+    requires { ⌜ Subtree (now rows) root ⌝ }
+    ensures { λ r. ⌜ PlainArray (now (rows .entry)) root r ⌝ }
+{
+    let mut end = root;
+    while first_row(rows, root) < end {
+        let kind = word_at(rows, end - 1, 0);
+        if !roles::is_element(kind) {
+            return false;
+        }
+        end -= size_before(rows, end);
+    }
+    true
+}
+
+// Makes such an Array and its kids targets.
+fn turn_plain_array(rows: &mut [u32], root: usize)
+    requires { ⌜ PlainReady (now rows) root ⌝ }
+    ensures { λ _. ⌜ PlainTurned (now (rows .entry)) root (now (rows .exit)) ⌝ }
+{
+    let mut stop = root;
+    while first_row(rows, root) < stop {
+        let kind = roles::named_kind(word_at(rows, stop - 1, 0));
+        set_kind(rows, stop - 1, kind);
+        stop -= size_before(rows, stop);
+    }
+    set_kind(rows, root, row::TARGET_ARRAY);
+}
+
 // Converts a row to any target or to a simple one: its kinds change and its records are added, or nothing changes.
 pub fn convert_row(
     rows: &mut [u32],
@@ -314,6 +344,14 @@ pub fn convert_row(
     if roles::is_reference(kind) {
         set_kind(rows, root, roles::named_kind(kind));
         return Conversion::Turned(0);
+    }
+    if !simple {
+        if kind == row::ARRAY {
+            if is_plain_array(rows, root) {
+                turn_plain_array(rows, root);
+                return Conversion::Turned(0);
+            }
+        }
     }
     let under = roles::aim_at(simple);
     let found = conversion_of(judge(rows, root, under, true));
