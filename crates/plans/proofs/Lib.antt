@@ -1,3 +1,2 @@
-mod First
-mod Patterns
+mod Numbers
 pub mod Once

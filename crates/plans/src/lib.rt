@@ -1,51 +1,42 @@
-// What a row becomes in a role (RULES C).
+// What a row becomes, by what it is and by what the row over it becomes (RULES C).
 ghost use mathlib.Core.Path.{_≡_};
 ghost use mathlib.Core.List.{[]};
+ghost use Prim.Native.Nat.{_<_, _^_};
 ghost use Rattle.tokens.specs.declared.cause.Cause.the-variants.{Target as NoTarget, Spread as SpreadNotLast};
 ghost use Rattle.conversion.specs.Conversion as def;
 ghost use Rattle.roles.specs.Meaning as means;
-ghost use Rattle.roles.specs.ShortCut as short;
-use roles::Change;
-use roles::Kids;
-use roles::Note;
-use roles::Plan;
-use roles::Role;
 use roles::Seen;
+use roles::plan;
 use rows::row;
-use tokens::cause::Cause;
 
-// Another kind over the same kids.
-fn keep(kind: u32) -> Plan
-    ensures { λ r. ⌜ means.plan r ≡ def.keep kind [] ⌝ }
+// The plan of a kind that holds this.
+fn holding(kind: usize, held: usize) -> usize
+    requires { ⌜ kind < 16 ⌝ }
+    requires { ⌜ held < 2 ^ 60 ⌝ }
+    ensures { λ r. ⌜ means.Coded kind held r ⌝ }
 {
-    Plan::Keep(kind, Note::Nothing)
+    16 * held + kind
 }
 
-// Another kind over converted kids.
-fn over(kind: u32, kids: Kids) -> Plan
-    ensures { λ r. ⌜ means.plan r ≡ def.turn kind [] (means.kids kids) [] ⌝ }
+// Another kind over the same kids.
+fn keep(seen: Seen, kind: u32) -> usize
+    ensures { λ r. ⌜ means.plan (seen .begins) r ≡ def.keep kind [] ⌝ }
 {
-    Plan::Turn(Change {
-        kind,
-        before: Note::Nothing,
-        then: Note::Nothing,
-        kids,
-        after: Note::Nothing,
-    })
+    holding(plan::KEEP, roles::wide(kind))
 }
 
 // 9, at the row's first token.
-fn no_target(seen: Seen) -> Plan
-    ensures { λ r. ⌜ means.plan r ≡ def.refuse (NoTarget (seen .first)) ⌝ }
+fn no_target(seen: Seen) -> usize
+    ensures { λ r. ⌜ means.plan (seen .begins) r ≡ def.refuse (NoTarget (seen .first)) ⌝ }
 {
-    Plan::Refuse(Cause::Target(roles::wide(seen.first)))
+    holding(plan::NO_TARGET, roles::wide(seen.first))
 }
 
 // 10, at the row's first token.
-fn not_last(seen: Seen) -> Plan
-    ensures { λ r. ⌜ means.plan r ≡ def.refuse (SpreadNotLast (seen .first)) ⌝ }
+fn not_last(seen: Seen) -> usize
+    ensures { λ r. ⌜ means.plan (seen .begins) r ≡ def.refuse (SpreadNotLast (seen .first)) ⌝ }
 {
-    Plan::Refuse(Cause::Spread(roles::wide(seen.first)))
+    holding(plan::NOT_LAST, roles::wide(seen.first))
 }
 
 // An Array or Object, with or without a comma after its closing spread.
@@ -70,68 +61,65 @@ fn is_closed(seen: Seen, kind: u32) -> bool
 }
 
 // Name, Member, Index, or a Paren over a simple target; all else is 9.
-fn as_simple(seen: Seen) -> Plan
-    ensures { λ r. ⌜ means.plan r ≡ def.as-simple (means.seen seen) ⌝ }
+fn as_simple(seen: Seen) -> usize
+    ensures { λ r. ⌜ means.plan (seen .begins) r ≡ def.as-simple (means.seen seen) ⌝ }
 {
     if seen.kind == row::IDENTIFIER {
-        return keep(row::TARGET_NAME);
+        return keep(seen, row::TARGET_NAME);
     }
     if seen.kind == row::MEMBER {
-        return keep(row::TARGET_MEMBER);
+        return keep(seen, row::TARGET_MEMBER);
     }
     if seen.kind == row::INDEX {
-        return keep(row::TARGET_INDEX);
+        return keep(seen, row::TARGET_INDEX);
     }
     if is_with(seen, row::PAREN, 1) {
         if is_array_or_object(seen.last) {
             return no_target(seen);
         }
-        return over(row::TARGET_PAREN, Kids::Only(Role::Simple));
+        return plan::PAREN;
     }
     no_target(seen)
 }
 
 // An Array or Object; otherwise a simple target.
-fn as_any(seen: Seen) -> Plan
-    ensures { λ r. ⌜ means.plan r ≡ def.as-any (means.seen seen) ⌝ }
+fn as_any(seen: Seen) -> usize
+    ensures { λ r. ⌜ means.plan (seen .begins) r ≡ def.as-any (means.seen seen) ⌝ }
 {
     if seen.kind == row::ARRAY {
-        return over(row::TARGET_ARRAY, Kids::Elements(Note::Nothing));
+        return plan::ARRAY;
     }
     if is_closed(seen, row::ARRAY_REST_COMMA) {
-        return over(row::TARGET_ARRAY, Kids::Elements(Note::Says(4, seen.first)));
+        return holding(plan::ARRAY, roles::wide(seen.first) + 1);
     }
     if seen.kind == row::OBJECT {
-        return over(row::TARGET_OBJECT, Kids::Properties(Note::Nothing));
+        return plan::OBJECT;
     }
     if is_closed(seen, row::OBJECT_REST_COMMA) {
-        return over(
-            row::TARGET_OBJECT,
-            Kids::Properties(Note::Says(4, seen.first)),
-        );
+        return holding(plan::OBJECT, roles::wide(seen.first) + 1);
     }
     as_simple(seen)
 }
 
 // Assign becomes TargetDefault; CompoundAssign too, with record 5 at its operator.
-fn as_value(seen: Seen) -> Plan
-    ensures { λ r. ⌜ means.plan r ≡ def.as-value (means.seen seen) ⌝ }
+fn as_value(seen: Seen) -> usize
+    ensures { λ r. ⌜ means.plan (seen .begins) r ≡ def.as-value (means.seen seen) ⌝ }
 {
     if seen.kind == row::ASSIGN {
-        return keep(row::TARGET_DEFAULT);
+        return keep(seen, row::TARGET_DEFAULT);
     }
     if seen.kind == row::COMPOUND_ASSIGN {
-        return Plan::Keep(row::TARGET_DEFAULT, Note::Says(5, seen.mark));
+        return holding(plan::COMPOUND, roles::wide(seen.mark));
     }
     as_any(seen)
 }
 
 // A Hole stays; a Spread that is not last is 10.
-fn as_element(seen: Seen) -> Plan
-    ensures { λ r. ⌜ means.plan r ≡ def.as-element (means.seen seen) ⌝ }
+fn as_element(seen: Seen) -> usize
+    ensures { λ r. ⌜ means.plan (seen .begins) r ≡ def.as-element (means.seen seen) ⌝ }
 {
     if seen.kind == row::HOLE {
-        return keep(row::HOLE);
+        return keep(seen, row::HOLE);
     }
     if seen.kind == row::SPREAD {
         return not_last(seen);
@@ -140,33 +128,28 @@ fn as_element(seen: Seen) -> Plan
 }
 
 // A last Spread is a rest: the argument, then record 4. An argument that is a target is never a wrong one here.
-fn as_last_element(comma: Note, seen: Seen) -> Plan
-    ensures { λ r. ⌜ means.plan r ≡ def.as-last-element (means.note comma) (means.seen seen) ⌝ }
+fn as_last_element(comma: usize, seen: Seen) -> usize
+    requires { ⌜ comma < 2 ^ 60 ⌝ }
+    ensures { λ r. ⌜ means.plan (seen .begins) r ≡ def.as-last-element (means.commas comma) (means.seen seen) ⌝ }
 {
     if is_with(seen, row::SPREAD, 1) {
-        return Plan::Turn(Change {
-            kind: row::TARGET_REST,
-            before: Note::Nothing,
-            then: Note::Nothing,
-            kids: Kids::Only(Role::Any),
-            after: comma,
-        });
+        return holding(plan::REST_IN_ARRAY, comma);
     }
     as_element(seen)
 }
 
 // A shorthand, a shorthand with an initializer, or a key with its value; a Spread that is not last is 10.
-fn as_property(seen: Seen) -> Plan
-    ensures { λ r. ⌜ means.plan r ≡ def.as-property (means.seen seen) ⌝ }
+fn as_property(seen: Seen) -> usize
+    ensures { λ r. ⌜ means.plan (seen .begins) r ≡ def.as-property (means.seen seen) ⌝ }
 {
     if is_with(seen, row::SHORTHAND, 1) {
-        return over(row::TARGET_SHORTHAND, Kids::Only(Role::Name));
+        return plan::SHORTHAND;
     }
     if is_with(seen, row::SHORTHAND_INIT, 2) {
-        return over(row::TARGET_SHORTHAND_INIT, Kids::NameAndInitializer);
+        return plan::SHORTHAND_INIT;
     }
     if is_with(seen, row::PROPERTY, 2) {
-        return over(row::TARGET_PROPERTY, Kids::KeyAndValue);
+        return plan::PROPERTY;
     }
     if seen.kind == row::SPREAD {
         return not_last(seen);
@@ -174,80 +157,59 @@ fn as_property(seen: Seen) -> Plan
     no_target(seen)
 }
 
-// Record 3, where the argument of an object's rest is an Array or Object.
-fn wrong_argument(seen: Seen) -> Note
-    ensures { λ r. ⌜ means.note r ≡ means.seen seen .in-object ⌝ }
-{
-    if is_array_or_object(seen.last) {
-        return Note::Says(3, seen.begins);
-    }
-    Note::Nothing
-}
-
 // A last Spread is a rest: record 3 where its argument is an Array or Object, record 4, the argument.
-fn as_last_property(comma: Note, seen: Seen) -> Plan
-    ensures { λ r. ⌜ means.Planned (def.last-property (means.note comma)) (means.seen seen) r ⌝ }
+fn as_last_property(comma: usize, seen: Seen) -> usize
+    requires { ⌜ comma < 2 ^ 60 ⌝ }
+    ensures { λ r. ⌜ means.plan (seen .begins) r ≡ def.as-last-property (means.commas comma) (means.seen seen) ⌝ }
 {
     if is_with(seen, row::SPREAD, 1) {
-        let before = wrong_argument(seen);
-        return Plan::Turn(Change {
-            kind: row::TARGET_REST,
-            before,
-            then: comma,
-            kids: Kids::Only(Role::Any),
-            after: Note::Nothing,
-        });
+        if is_array_or_object(seen.last) {
+            return holding(plan::WRONG_REST, comma);
+        }
+        return holding(plan::REST_IN_OBJECT, comma);
     }
     as_property(seen)
 }
 
 // The name of a shorthand.
-fn as_name(seen: Seen) -> Plan
-    ensures { λ r. ⌜ means.plan r ≡ def.as-name (means.seen seen) ⌝ }
+fn as_name(seen: Seen) -> usize
+    ensures { λ r. ⌜ means.plan (seen .begins) r ≡ def.as-name (means.seen seen) ⌝ }
 {
     if seen.kind == row::IDENTIFIER {
-        return keep(row::TARGET_NAME);
+        return keep(seen, row::TARGET_NAME);
     }
     no_target(seen)
 }
 
-// Whether a row of this kind becomes a pattern, and no comma stands after a closing spread.
-fn is_pattern(role: Role, kind: u32) -> bool
-    ensures { λ r. ⌜ r ≡ short.is-pattern (means.role role) kind ⌝ }
+// What a row becomes as a kid, the last one or not, of a row of the plan `under`.
+pub fn plan_of(under: usize, last: bool, seen: Seen) -> usize
+    ensures { λ r. ⌜ means.plan (seen .begins) r ≡ def.change (means.kid under «last») (means.seen seen) ⌝ }
 {
+    let kind = under % 16;
+    let comma = under / 16;
     match kind {
-        row::ARRAY => roles::takes_pattern(role),
-        row::OBJECT => roles::takes_pattern(role),
-        _ => false,
-    }
-}
-
-// The pattern that an Array or an Object becomes.
-fn pattern_of(kind: u32) -> Plan
-    ensures { λ r. ⌜ means.plan r ≡ short.pattern-of kind ⌝ }
-{
-    if kind == row::ARRAY {
-        return over(row::TARGET_ARRAY, Kids::Elements(Note::Nothing));
-    }
-    over(row::TARGET_OBJECT, Kids::Properties(Note::Nothing))
-}
-
-// What a row becomes in a role.
-pub fn plan_of(role: Role, seen: Seen) -> Plan
-    ensures { λ r. ⌜ means.Planned (means.role role) (means.seen seen) r ⌝ }
-{
-    if is_pattern(role, seen.kind) {
-        return pattern_of(seen.kind);
-    }
-    match role {
-        Role::Any => as_any(seen),
-        Role::Simple => as_simple(seen),
-        Role::Element => as_element(seen),
-        Role::LastElement(comma) => as_last_element(comma, seen),
-        Role::Property => as_property(seen),
-        Role::LastProperty(comma) => as_last_property(comma, seen),
-        Role::Value => as_value(seen),
-        Role::Name => as_name(seen),
-        Role::Same => keep(seen.kind),
+        plan::ARRAY => if last {
+            as_last_element(comma, seen)
+        } else {
+            as_element(seen)
+        },
+        plan::OBJECT => if last {
+            as_last_property(comma, seen)
+        } else {
+            as_property(seen)
+        },
+        plan::PROPERTY => if last {
+            as_value(seen)
+        } else {
+            keep(seen, seen.kind)
+        },
+        plan::SHORTHAND => as_name(seen),
+        plan::SHORTHAND_INIT => if last {
+            keep(seen, seen.kind)
+        } else {
+            as_name(seen)
+        },
+        plan::PAREN => as_simple(seen),
+        _ => as_any(seen),
     }
 }

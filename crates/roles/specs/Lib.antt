@@ -1,2 +1,3 @@
+pub mod Plan
 pub mod Meaning
 pub mod ShortCut

@@ -1,52 +1,99 @@
--- What the code's own types say: a note is no record or one, a role and a plan are those of the definition.
+-- What the code's numbers say: a plan is a number, and says what a row becomes and the roles of its kids. By its remainder by 16 it is of a
+-- kind (specs/Plan.antt), by its quotient it holds a kind, a place, or one more than the place of a literal with a comma after its rest.
 -- Assumes nothing: these are definitions.
-use Prim.Native.Nat.{ℕ}
+use Prim.Native.Nat.{ℕ, _-_, _/_, _%_}
 use mathlib.Core.Path.{_≡_}
 use mathlib.Core.Bool.{Bool, true, false}
-use mathlib.Core.List.{List, [], _∷_, _++_}
-use lib.ListN.{length}
-use Rattle.tokens.specs.Bool.{if_then_else_}
+use mathlib.Core.List.{List, [], _∷_}
+use lib.Dec.{leb}
+use Rattle.tokens.specs.Bool.{if_then_else_, _is_}
+use Rattle.tokens.specs.declared.cause.Cause.the-variants.{Target as NoTarget, Spread as SpreadNotLast}
 use Rattle.rows.specs.Row as row
-use Rattle.rows.specs.Record.{Record, says, rest-argument}
+use Rattle.rows.specs.Record.{Record, rest-argument, rest-comma, compound-default}
 use Rattle.conversion.specs.Conversion as def
-use Rattle.conversion.specs.KidRoles as kid-roles
-use Rattle.roles.specs.declared.Note.{Note}
-use Rattle.roles.specs.declared.Note.the-variants.{Nothing, Says}
-use Rattle.roles.specs.declared.Role.{Role}
-use Rattle.roles.specs.declared.Role.the-variants.{Any, Simple, Element, LastElement, Property, LastProperty, Value, Name, Same}
-use Rattle.roles.specs.declared.Kids.{Kids}
-use Rattle.roles.specs.declared.Kids.the-variants.{Only, Elements, Properties, KeyAndValue, NameAndInitializer}
+use Rattle.roles.specs.Plan as code
 use Rattle.roles.specs.declared.Seen.{Seen}
-use Rattle.roles.specs.declared.Change.{Change}
-use Rattle.roles.specs.declared.Plan.{Plan}
-use Rattle.roles.specs.declared.Plan.the-variants.{Refuse, Keep, Turn}
 
-abbrev pub note : Note → List Record
-note Nothing = []
-note (Says number place) = says number place ∷ []
+-- a number as a word of a row or of a record
+abbrev pub word : ℕ → ℕ
+word n = n % 4294967296
 
-abbrev pub role : Role → def.Role
-role Any = def.any
-role Simple = def.simple
-role Element = def.element
-role (LastElement comma) = def.last-element (note comma)
-role Property = def.property
-role (LastProperty comma) = def.last-property (note comma)
-role Value = def.value
-role Name = def.name
-role Same = def.same
+-- the record of a comma after a literal's rest, or none
+abbrev pub commas : ℕ → List Record
+commas held = if held is 0 then [] else rest-comma (word (held - 1)) ∷ []
+
+-- the role of a kid, the last one or not, of a row of that plan
+abbrev pub kid-as : ℕ → ℕ → Bool → def.Role
+kid-as kind held last =
+    if kind is code.Array then (if last then def.last-element (commas held) else def.element)
+    else if kind is code.Object then (if last then def.last-property (commas held) else def.property)
+    else if kind is code.Property then (if last then def.value else def.same)
+    else if kind is code.Shorthand then def.name
+    else if kind is code.ShorthandInit then (if last then def.same else def.name)
+    else if kind is code.Paren then def.simple
+    else def.any
+
+-- the kind that the row gets
+abbrev pub kind-as : ℕ → ℕ → ℕ
+kind-as kind held =
+    if kind is code.Array then row.TargetArray
+    else if kind is code.Object then row.TargetObject
+    else if kind is code.Property then row.TargetProperty
+    else if kind is code.Shorthand then row.TargetShorthand
+    else if kind is code.ShorthandInit then row.TargetShorthandInit
+    else if kind is code.Paren then row.TargetParen
+    else if kind is code.Keep then word held
+    else if kind is code.Compound then row.TargetDefault
+    else row.TargetRest
+
+-- the records before those of its kids, whose last one begins there, and those after them
+abbrev pub before-as : ℕ → ℕ → ℕ → List Record
+before-as begins kind held =
+    if kind is code.RestInObject then commas held
+    else if kind is code.WrongRest then rest-argument begins ∷ commas held
+    else if kind is code.Compound then compound-default (word held) ∷ []
+    else []
+
+abbrev pub after-as : ℕ → ℕ → List Record
+after-as kind held = if kind is code.RestInArray then commas held else []
+
+-- what it becomes
+abbrev pub plan-as : ℕ → ℕ → ℕ → def.Change
+plan-as begins kind held =
+    if leb code.Keep kind then
+    (if leb code.NoTarget kind then (if kind is code.NoTarget then def.refuse (NoTarget held) else def.refuse (SpreadNotLast held))
+    else def.keep (kind-as kind held) (before-as begins kind held))
+    else def.turn (kind-as kind held) (before-as begins kind held) (λ after. kid-as kind held (after is 0)) (after-as kind held)
+
+-- the same of a number
+unfoldable pub kid : ℕ → Bool → def.Role
+kid of last = kid-as (of % 16) (of / 16) last
+
+-- of a kid with so many kids after it
+abbrev pub kids : ℕ → ℕ → def.Role
+kids of after = kid of (after is 0)
+
+unfoldable pub kind : ℕ → ℕ
+kind of = kind-as (of % 16) (of / 16)
+
+unfoldable pub before : ℕ → ℕ → List Record
+before begins of = before-as begins (of % 16) (of / 16)
+
+unfoldable pub after : ℕ → List Record
+after of = after-as (of % 16) (of / 16)
+
+unfoldable pub plan : ℕ → ℕ → def.Change
+plan begins of = plan-as begins (of % 16) (of / 16)
 
 -- any target, or a simple one
 abbrev pub aim : Bool → def.Role
 aim true = def.simple
 aim false = def.any
 
-abbrev pub kids : Kids → ℕ → def.Role
-kids (Only r) = def.only (role r)
-kids (Elements comma) = kid-roles.elements (note comma)
-kids (Properties comma) = kid-roles.properties (note comma)
-kids KeyAndValue = kid-roles.key-and-value
-kids NameAndInitializer = kid-roles.name-and-initializer
+-- a plan whose only kid is to be that
+abbrev pub aimed : Bool → ℕ
+aimed true = code.Paren
+aimed false = code.RestInArray
 
 -- A rest's argument that can be converted is of a wrong kind only in an object, and only if it is an Array or Object itself
 -- (proofs/Near.antt): so the code looks at the argument alone, and not through Parens.
@@ -62,41 +109,7 @@ seen r =
       in-object = if def.is-array-or-object (r .last) then rest-argument (r .begins) ∷ [] else [];
     }
 
-abbrev pub change : Change → def.Change
-change c = def.turn (c .kind) (note (c .before) ++ note (c .then)) (kids (c .kids)) (note (c .after))
-
-abbrev pub plan : Plan → def.Change
-plan (Refuse cause) = def.refuse cause
-plan (Keep kind n) = def.keep kind (note n)
-plan (Turn c) = change c
-
--- The records before those of the kids are two notes: record 3, of the argument of an object's rest, and then that of the comma after it.
--- The first of them that a row gives in a role, and the first of a plan:
-abbrev pub argument-note : def.Role → def.Seen → List Record
-argument-note def.any s = []
-argument-note def.simple s = []
-argument-note def.element s = []
-argument-note (def.last-element comma) s = []
-argument-note def.property s = []
-argument-note (def.last-property comma) s = if def.is-with s row.Spread 1 then s .in-object else []
-argument-note def.value s = []
-argument-note def.name s = []
-argument-note def.same s = []
-
-abbrev pub first-note : Plan → List Record
-first-note (Refuse cause) = []
-first-note (Keep kind n) = []
-first-note (Turn c) = note (c .before)
-
--- the plan is the change of a row in a role, with each record in its place
-pub record Planned (r : def.Role) (s : def.Seen) (p : Plan) : Type 0 where
-  pub is : plan p ≡ def.change r s
-  pub first : first-note p ≡ argument-note r s
-
--- the role is that of a kid with so many kids after it
-pub record KidRole (each : Kids) (after : ℕ) (r : Role) : Type 0 where
-  pub is : role r ≡ kids each after
-
--- the records that a change gives beside its kids' are so many
-pub record NotesCount (c : Change) (n : ℕ) : Type 0 where
-  pub is : n ≡ length (note (c .before) ++ note (c .then) ++ note (c .after))
+-- the number is of a kind and holds that
+pub record Coded (kind held of : ℕ) : Type 0 where
+  pub kind-is : of % 16 ≡ kind
+  pub held-is : of / 16 ≡ held

@@ -80,6 +80,22 @@ unfolding count
 next nil h = absurd (omega arith)
 next (cons t ts) h = next-of t ts
 
+-- trees have rows
+some-trees : (ts : Forest) → 0 < sizes ts → 0 < count ts
+unfolding count sizes
+some-trees nil h = absurd (omega arith)
+some-trees (cons t ts) h = omega arith
+
+pub some-rows : (ts : Forest) → 0 < count ts → 0 < sizes ts
+unfolding count sizes
+some-rows nil h = absurd (omega arith)
+some-rows (cons t ts) h = omega (arith, some-row t)
+
+none-there : (ts : Forest) → sizes ts ≡ 0 → ts ≡ nil
+unfolding sizes
+none-there nil h = refl
+none-there (cons t ts) h = absurd (omega (arith, some-row t))
+
 pub no-trees : count nil ≡ 0
 unfolding count
 no-trees = refl
@@ -150,14 +166,20 @@ module _ {before : List ℕ} {kids : Forest} {tail rows : List ℕ} {after end :
           text = e ∙ append-assoc before (flats (n .rest)) (flat t′ ++ tail);
         }
 
-  none-left : (front : Forest) → count front ≡ 0 → front ≡ nil
-  unfolding count
-  none-left nil h = refl
-  none-left (cons t ts) h = absurd (omega arith)
+  -- there is one more kid where rows are left
+  pub walk-some : 6 * end ≡ length before + 6 * sizes (w .front) → {first : ℕ} → 6 * first ≡ length before → first < end → Next (w .front)
+  walk-some s e h = next (w .front) (some-trees (w .front) (omega arith))
 
-  -- all are passed
-  pub walk-done : count kids ≤ after → (w .passed ≡ kids) × (rows ≡ before ++ tail)
+  -- no kid is left where no row is
+  pub walk-none : {first : ℕ} → 6 * first ≡ length before → end ≤ first → w .front ≡ nil
+  walk-none e h =
+      let s = w .stop in
+      let none : sizes (w .front) ≡ 0 = omega arith in
+      none-there (w .front) none
+
+  -- all are passed then
+  pub walk-past : {first : ℕ} → 6 * first ≡ length before → end ≤ first → (w .passed ≡ kids) × (rows ≡ before ++ tail)
   unfolding join flats
-  walk-done h =
-      let e : w .front ≡ nil = none-left (w .front) (omega (arith, counts)) in
+  walk-past e h =
+      let e : w .front ≡ nil = walk-none e h in
       (sym (w .whole ∙ ap (λ (f : Forest). join f (w .passed)) e), w .text ∙ ap (λ (f : Forest). before ++ (flats f ++ tail)) e)

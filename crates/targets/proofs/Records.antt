@@ -9,8 +9,6 @@ use lib.Seq.{length-take-le, drop-append-seam, take-append-le, set-split, take-s
 use Rattle.rows.specs.Record.{Record, says, record-words}
 use Rattle.rows.proofs.Records.{record-words-append}
 use Rattle.targets.specs.Post.{Filled, Written, NoteFits}
-use Rattle.roles.specs.declared.Note.{Note}
-use Rattle.roles.specs.declared.Note.the-variants.{Nothing, Says}
 
 -- nothing is written
 pub filled-none : (r : List ℕ) (start : ℕ) → Filled r start [] r
@@ -58,13 +56,20 @@ filled-one r start number place h =
           ∙ rw (take-suc-set r i number l, drop-set-lt (suc (suc i)) r i number (omega arith), n, append-assoc) refl;
     }
 
-pub written-none : {r : List ℕ} {end : ℕ} (note : Note) → note ≡ Nothing → Written r end note r end
-written-none {r} {end} note e = rw e (record { begins = omega arith; filled = filled-none r end })
+pub written-none : {r : List ℕ} {end : ℕ} {records : List Record} → records ≡ [] → Written r end records r end
+written-none {r} {end} e = rw e (record { begins = omega arith; filled = filled-none r end })
 
-pub written-one : {r : List ℕ} {end : ℕ} (note : Note) (number place : ℕ) → note ≡ Says number place → 1 ≤ end → 2 * end ≤ length r
-    → Written r end note (set (set r (2 * (end - 1)) number) (2 * (end - 1) + 1) place) (end - 1)
-written-one {r} {end} note number place e l h =
-    rw e (record { begins = omega arith; filled = filled-one r (end - 1) number place (omega arith) })
+pub written-one : {r : List ℕ} {end number place : ℕ} → NoteFits (length r) end (says number place ∷ [])
+    → Written r end (says number place ∷ []) (set (set r (2 * (end - 1)) number) (2 * (end - 1) + 1) place) (end - 1)
+written-one {r} {end} {number} {place} h =
+    let a = h .room in
+    let b = h .inside in
+    record { begins = omega arith; filled = filled-one r (end - 1) number place (omega arith) }
 
-pub says-fits : {words end number place : ℕ} {note : Note} → note ≡ Says number place → NoteFits words end note → 1 ≤ end
-says-fits {end = end} e h = let l : 1 ≤ end = rw e at (h .room) in l
+-- records after which others are written
+pub written-more : {r₀ r₁ r₂ : List ℕ} {end middle start : ℕ} {rs ss : List Record} → Written r₀ end ss r₁ middle → Written r₁ middle rs r₂ start
+    → 2 * end ≤ length r₀ → Written r₀ end (rs ++ ss) r₂ start
+written-more a b h =
+    let e = a .begins in
+    let f = b .begins in
+    record { begins = simp length-append (omega arith); filled = filled-more (a .filled) (b .filled) f (omega arith) }

@@ -1,34 +1,102 @@
 -- Where all there is to convert in a row is one name: what the code finds and writes there is what the definition gives.
 -- Assumes nothing.
-use Prim.Native.Nat.{ℕ, _+_, _-_, _*_, _≤_, _<_}
+use Prim.Native.Nat.{ℕ, _+_, _-_, _*_, _≤_, _<_, _/_, _%_}
 use mathlib.Core.Path.{_≡_, refl, sym, ap, _∙_}
 use mathlib.Core.Bool.{Bool, true, false}
 use mathlib.Core.List.{List, [], _++_, append-assoc}
 use native.Mathlib.Omega.{arith}
 use lib.Dec.{eqb}
-use lib.ListN.{length, getD, set}
-use borrow.Author.Tests.{eqb-true}
-use Rattle.tokens.specs.Bool.{_and_}
+use lib.ListN.{length, getD, set, length-set}
+use lib.Seq.{set-set}
+use borrow.Author.Tests.{eqb-true, ne-eqb}
+use Rattle.tokens.specs.Bool.{if_then_else_, _and_, _or_}
 use Rattle.rows.specs.Row as row
 use Rattle.rows.specs.Tree.{Tree, Forest, node, nil, cons, one, join, count, size, sizes, flat, flats, kind-of, mark-of, first-of, end-of, kids-of}
 use Rattle.rows.specs.Post.{Word, KindSet, RowInside}
 use Rattle.rows.proofs.Rows.{sizes-join, flats-join, count-join}
-use Rattle.conversion.specs.Conversion.{turned, Role, any, simple, element, last-element, property, last-property, value, name, same, each, only, as-simple, as-any, as-value, as-element, as-last-element, as-property, as-last-property, as-name, change, roles, over, seen, both, convert-as, convert-kids}
-use Rattle.targets.specs.Outcome as outcome
-use Rattle.targets.specs.Post.{Subtree, Judged, TurnedRow}
+use Rattle.conversion.specs.Conversion.{turned, is-reference, Role, any, simple, element, last-element, property, last-property, value, name, same, each, only, as-simple, as-any, as-value, as-element, as-last-element, as-property, as-last-property, as-name, change, roles, over, seen, both, convert-as, convert-kids}
+use Rattle.targets.specs.Post.{Subtree, WordInside, TurnedRow}
 use Rattle.conversion.specs.RuleHolds.{by-test, both-true, one-kid}
-use Rattle.roles.specs.ShortCut.{takes-name, takes-member, takes-default, is-kept, is-property, is-initialized, ends-in-target, named-kind}
-use Rattle.targets.specs.Named.{Named, NameAt, NameBelow, NameInside, NameSet}
-use Rattle.targets.specs.declared.Conversion.the-variants.{Turned}
+use Rattle.roles.specs.Plan as code
+use Rattle.roles.specs.Meaning.{commas, kid, aim}
+use Rattle.roles.specs.ShortCut.{is-value, is-element, is-initialized, ends-in-target, named-kind}
+use Rattle.targets.specs.Named.{Named, NameAt, NameBelow, NameUnder, NameInside, NameSet, named-at}
 use Rattle.conversion.specs.Potentials.{turned-is, turned-records}
 use Rattle.targets.proofs.Flat.{root-words, root-text, root-inside, Walk, Next, walk-start, walk-more, walk-next, kid-tree, kid-size, kid-text, whole-next}
 use Rattle.targets.proofs.Looking.{reads-kind, reads-kids, reads-size, no-kid}
 use Rattle.targets.proofs.Records.{filled-none}
-use Rattle.targets.proofs.Turning.{root-set, same-kids, place-root, more-flat}
+use Rattle.targets.proofs.Turning.{root-set, same-kids, place-root, more-flat, Step, step-turned}
 use Rattle.conversion.specs.Shapes.{SameShape}
 
 false-true : {A : Type 0} → false ≡ true → A
 false-true e = let z : _≡_ {A = ℕ} 0 1 = cc in absurd (omega arith)
+
+-- a name becomes a TargetName in this role; a Member or an Index a target; an Assign a TargetDefault; a Hole stays
+abbrev takes-name : Role → Bool
+takes-name any = true
+takes-name simple = true
+takes-name element = true
+takes-name (last-element comma) = true
+takes-name property = false
+takes-name (last-property comma) = false
+takes-name value = true
+takes-name name = true
+takes-name same = false
+
+abbrev takes-member : Role → Bool
+takes-member any = true
+takes-member simple = true
+takes-member element = true
+takes-member (last-element comma) = true
+takes-member property = false
+takes-member (last-property comma) = false
+takes-member value = true
+takes-member name = false
+takes-member same = false
+
+abbrev takes-default : Role → Bool
+takes-default any = false
+takes-default simple = false
+takes-default element = true
+takes-default (last-element comma) = true
+takes-default property = false
+takes-default (last-property comma) = false
+takes-default value = true
+takes-default name = false
+takes-default same = false
+
+abbrev takes-hole : Role → Bool
+takes-hole any = false
+takes-hole simple = false
+takes-hole element = true
+takes-hole (last-element comma) = true
+takes-hole property = false
+takes-hole (last-property comma) = false
+takes-hole value = false
+takes-hole name = false
+takes-hole same = false
+
+-- in a role that takes names, a row of this kind gets another kind and no record
+abbrev is-kept : Role → ℕ → Bool
+is-kept role kind =
+    if eqb kind row.Identifier then true
+    else if eqb kind row.Member then takes-member role
+    else if eqb kind row.Index then takes-member role
+    else if eqb kind row.Assign then takes-default role
+    else if eqb kind row.Hole then takes-hole role
+    else false
+
+-- the role of an object's property
+abbrev is-property : Role → Bool
+is-property any = false
+is-property simple = false
+is-property element = false
+is-property (last-element comma) = false
+is-property property = true
+is-property (last-property comma) = true
+is-property value = false
+is-property name = false
+is-property same = false
 
 -- a tree with another kind at its root, or other kids
 abbrev with-kind : ℕ → Tree → Tree
@@ -87,15 +155,27 @@ default-turned (node k m f e kids) value i t = rw i
 default-turned (node k m f e kids) name i t = false-true t
 default-turned (node k m f e kids) same i t = false-true t
 
+hole-turned : (t : Tree) (role : Role) → kind-of t ≡ row.Hole → takes-hole role ≡ true → convert-as t role ≡ turned (with-kind row.Hole t) []
+unfolding convert-as change as-any as-simple as-value as-element as-last-element as-name seen over kind-of mark-of first-of end-of kids-of
+hole-turned (node k m f e kids) any i t = false-true t
+hole-turned (node k m f e kids) simple i t = false-true t
+hole-turned (node k m f e kids) element i t = rw i
+hole-turned (node k m f e kids) (last-element comma) i t = rw i
+hole-turned (node k m f e kids) property i t = false-true t
+hole-turned (node k m f e kids) (last-property comma) i t = false-true t
+hole-turned (node k m f e kids) value i t = false-true t
+hole-turned (node k m f e kids) name i t = false-true t
+hole-turned (node k m f e kids) same i t = false-true t
+
 -- a key or an initializer stays
 same-turned : (t : Tree) → convert-as t same ≡ turned t []
 unfolding convert-as change over seen
 same-turned (node k m f e kids) = refl
 
--- the kids of a property over a name
-kids-property : (a b : Tree) → kind-of b ≡ row.Identifier → convert-kids (cons a (one b)) (each same value) ≡ turned (cons a (one (with-kind row.TargetName b))) []
+-- the kids of a property over a value that turns by itself, or over a name
+kids-property : (a b b′ : Tree) → convert-as b value ≡ turned b′ [] → convert-kids (cons a (one b)) (each same value) ≡ turned (cons a (one b′)) []
 unfolding convert-kids both count
-kids-property a b i = rw (same-turned a, name-turned b value i refl)
+kids-property a b b′ v = rw (same-turned a, v)
 
 kids-shorthand : (b : Tree) → kind-of b ≡ row.Identifier → convert-kids (one b) (only name) ≡ turned (one (with-kind row.TargetName b)) []
 unfolding convert-kids both count
@@ -105,18 +185,18 @@ kids-initialized : (b a : Tree) → kind-of b ≡ row.Identifier → convert-kid
 unfolding convert-kids both count
 kids-initialized b a i = rw (same-turned a, name-turned b name i refl)
 
-property-turned : (t : Tree) (role : Role) (a b : Tree) → is-property role ≡ true → kind-of t ≡ row.Property → kids-of t ≡ cons a (one b) → kind-of b ≡ row.Identifier
-    → convert-as t role ≡ turned (with-kind row.TargetProperty (with-kids t (cons a (one (with-kind row.TargetName b))))) []
+property-turned : (t : Tree) (role : Role) (a b b′ : Tree) → is-property role ≡ true → kind-of t ≡ row.Property → kids-of t ≡ cons a (one b) → convert-as b value ≡ turned b′ []
+    → convert-as t role ≡ turned (with-kind row.TargetProperty (with-kids t (cons a (one b′)))) []
 unfolding convert-as change as-property as-last-property seen over roles count kind-of mark-of first-of end-of kids-of
-property-turned (node k m f e kids) any a b p i q n = false-true p
-property-turned (node k m f e kids) simple a b p i q n = false-true p
-property-turned (node k m f e kids) element a b p i q n = false-true p
-property-turned (node k m f e kids) (last-element comma) a b p i q n = false-true p
-property-turned (node k m f e kids) property a b p i q n = rw (i, q) (rw (kids-property a b n))
-property-turned (node k m f e kids) (last-property comma) a b p i q n = rw (i, q) (rw (kids-property a b n))
-property-turned (node k m f e kids) value a b p i q n = false-true p
-property-turned (node k m f e kids) name a b p i q n = false-true p
-property-turned (node k m f e kids) same a b p i q n = false-true p
+property-turned (node k m f e kids) any a b b′ p i q v = false-true p
+property-turned (node k m f e kids) simple a b b′ p i q v = false-true p
+property-turned (node k m f e kids) element a b b′ p i q v = false-true p
+property-turned (node k m f e kids) (last-element comma) a b b′ p i q v = false-true p
+property-turned (node k m f e kids) property a b b′ p i q v = rw (i, q) (rw (kids-property a b b′ v))
+property-turned (node k m f e kids) (last-property comma) a b b′ p i q v = rw (i, q) (rw (kids-property a b b′ v))
+property-turned (node k m f e kids) value a b b′ p i q v = false-true p
+property-turned (node k m f e kids) name a b b′ p i q v = false-true p
+property-turned (node k m f e kids) same a b b′ p i q v = false-true p
 
 shorthand-turned : (t : Tree) (role : Role) (b : Tree) → is-property role ≡ true → kind-of t ≡ row.Shorthand → kids-of t ≡ one b → kind-of b ≡ row.Identifier
     → convert-as t role ≡ turned (with-kind row.TargetShorthand (with-kids t (one (with-kind row.TargetName b)))) []
@@ -172,16 +252,16 @@ swap-shape front back n n′ e =
     }
 
 -- the words with a kid turned, and then the root
-two-set : {rows : List ℕ} {root : ℕ} (h : Subtree rows root) (front back : Forest) (n : Tree) (at kind : ℕ) → kids-of (h .tree) ≡ join front (cons n back)
-    → set rows (6 * at) row.TargetName ≡ (h .before ++ flats front) ++ (flat (with-kind row.TargetName n) ++ (flats back ++ (root-words (h .tree) ++ h .after)))
-    → set (set rows (6 * at) row.TargetName) (6 * root) kind
-    ≡ h .before ++ (flat (with-kind kind (with-kids (h .tree) (join front (cons (with-kind row.TargetName n) back)))) ++ h .after)
+two-set : {rows : List ℕ} {root : ℕ} (h : Subtree rows root) (front back : Forest) (n : Tree) (at below kind : ℕ) → kids-of (h .tree) ≡ join front (cons n back)
+    → set rows (6 * at) below ≡ (h .before ++ flats front) ++ (flat (with-kind below n) ++ (flats back ++ (root-words (h .tree) ++ h .after)))
+    → set (set rows (6 * at) below) (6 * root) kind
+    ≡ h .before ++ (flat (with-kind kind (with-kids (h .tree) (join front (cons (with-kind below n) back)))) ++ h .after)
 unfolding flats
-two-set {rows} {root} h front back n at kind q e =
-    let n′ = with-kind row.TargetName n in
+two-set {rows} {root} h front back n at below kind q e =
+    let n′ = with-kind below n in
     let kids = join front (cons n′ back) in
-    let s : SameShape (kids-of (h .tree)) kids = rw q (swap-shape front back n n′ (kind-size n row.TargetName)) in
-    let text : set rows (6 * at) row.TargetName ≡ h .before ++ (flat (with-kids (h .tree) kids) ++ h .after) =
+    let s : SameShape (kids-of (h .tree)) kids = rw q (swap-shape front back n n′ (kind-size n below)) in
+    let text : set rows (6 * at) below ≡ h .before ++ (flat (with-kids (h .tree) kids) ++ h .after) =
     e ∙ rw (same-root (h .tree) kids s, flats-join front (cons n′ back)) (simp append-assoc) in
     let place : 6 * (root + 1) ≡ length (h .before) + 6 * size (with-kids (h .tree) kids) = rw (same-size (h .tree) kids s) (h .place) in
     kind-set (record { before = h .before; tree = with-kids (h .tree) kids; after = h .after; text = text; place = place }) kind
@@ -191,7 +271,10 @@ pub no-name : {rows : List ℕ} {root : ℕ} {role : Role} → NameAt rows root 
 no-name = record { is = λ le h. absurd (omega arith) }
 
 pub none-below : {rows : List ℕ} {root : ℕ} → NameBelow rows root (root + 1)
-none-below = record { is = λ role p. no-name }
+none-below = record { is = λ held last. no-name }
+
+pub none-under : {rows : List ℕ} {root of : ℕ} → NameUnder rows root of (root + 1)
+none-under = record { is = λ last. no-name }
 
 -- a row that keeps its kids
 kept-turned : (t : Tree) (role : Role) → takes-name role ≡ true → is-kept role (kind-of t) ≡ true
@@ -205,39 +288,111 @@ kept-turned t role takes kept =
     (λ k m. let i = eqb-true (kind-of t) _ k in index-turned t role i m ∙ ap (λ (n : ℕ). turned (with-kind (named-kind n) t) []) (sym i))
     (λ _ y. by-test Yes (eqb (kind-of t) row.Assign) y
     (λ k d. let i = eqb-true (kind-of t) _ k in default-turned t role i d ∙ ap (λ (n : ℕ). turned (with-kind (named-kind n) t) []) (sym i))
-    (λ _ y. false-true y))))
+    (λ _ y. by-test Yes (eqb (kind-of t) row.Hole) y
+    (λ k d. let i = eqb-true (kind-of t) _ k in hole-turned t role i d ∙ ap (λ (n : ℕ). turned (with-kind (named-kind n) t) []) (sym i))
+    (λ _ y. false-true y)))))
   where
     Yes : Bool → Type 0
     Yes b = b ≡ true
 
+-- what the code asks of a kind is that a row of it is kept
+any-tests : (a b c d e : Bool) → (a or b or c) ≡ true
+    → (if a then true else if b then true else if c then true else if d then false else if e then false else false) ≡ true
+any-tests true b c d e h = refl
+any-tests false true c d e h = refl
+any-tests false false true d e h = refl
+any-tests false false false d e h = false-true h
+
+value-tests : (a b c d e : Bool) → (if d then true else a or b or c) ≡ true
+    → (if a then true else if b then true else if c then true else if d then true else if e then false else false) ≡ true
+value-tests true b c d e h = refl
+value-tests false true c d e h = refl
+value-tests false false true d e h = refl
+value-tests false false false true e h = refl
+value-tests false false false false e h = false-true h
+
+element-tests : (a b c d e : Bool) → (if e then true else if d then true else a or b or c) ≡ true
+    → (if a then true else if b then true else if c then true else if d then true else if e then true else false) ≡ true
+element-tests true b c d e h = refl
+element-tests false true c d e h = refl
+element-tests false false true d e h = refl
+element-tests false false false true e h = refl
+element-tests false false false false true h = refl
+element-tests false false false false false h = false-true h
+
+kept-as-any : (k : ℕ) → is-reference k ≡ true → is-kept any k ≡ true
+kept-as-any k h = any-tests (eqb k row.Identifier) (eqb k row.Member) (eqb k row.Index) (eqb k row.Assign) (eqb k row.Hole) h
+
+kept-as-value : (k : ℕ) → is-value k ≡ true → is-kept value k ≡ true
+kept-as-value k h = value-tests (eqb k row.Identifier) (eqb k row.Member) (eqb k row.Index) (eqb k row.Assign) (eqb k row.Hole) h
+
+kept-as-element : (k : ℕ) → is-element k ≡ true → is-kept element k ≡ true
+kept-as-element k h = element-tests (eqb k row.Identifier) (eqb k row.Member) (eqb k row.Index) (eqb k row.Assign) (eqb k row.Hole) h
+
 -- the row itself is all there is to convert
-pub kept-here : {rows : List ℕ} {root kind : ℕ} {role : Role} {r s : Bool} → r ≡ takes-name role → r ≡ true → Word rows root 0 kind → s ≡ is-kept role kind → s ≡ true
-    → NameAt rows root role root
+kept-here : {rows : List ℕ} {root kind : ℕ} (role : Role) → takes-name role ≡ true → Word rows root 0 kind → is-kept role kind ≡ true → NameAt rows root role root
 unfolding mark-of first-of end-of kids-of
-kept-here {rows} {root} {kind} {role = role} e t w f y =
+kept-here {rows} {root} {kind} role t w y =
     record {
       is = λ le h.
           let here : kind-of (h .tree) ≡ kind = sym (reads-kind h w) in
-          let n = named-kind (getD rows (6 * root + 0) 0) in
+          let n = named-at rows root in
           let n-is : named-kind (kind-of (h .tree)) ≡ n = ap named-kind (here ∙ w .is) in
-          let t₁ = with-kind row.TargetName (h .tree) in
-          let place : 6 * (root + 1) ≡ length (h .before) + 6 * size t₁ = rw (kind-size (h .tree) row.TargetName) (h .place) in
+          let t₁ = with-kind n (h .tree) in
+          let place : 6 * (root + 1) ≡ length (h .before) + 6 * size t₁ = rw (kind-size (h .tree) n) (h .place) in
           record {
             made = with-kind n (h .tree);
-            is =
-                kept-turned (h .tree) role (sym e ∙ t) (ap (is-kept role) here ∙ sym f ∙ y)
-                ∙ ap (λ (k : ℕ). turned (with-kind k (h .tree)) []) n-is;
-            text = kind-set (record { before = h .before; tree = t₁; after = h .after; text = kind-set h row.TargetName; place = place }) n;
+            is = kept-turned (h .tree) role t (ap (is-kept role) here ∙ y) ∙ ap (λ (k : ℕ). turned (with-kind k (h .tree)) []) n-is;
+            text = kind-set (record { before = h .before; tree = t₁; after = h .after; text = kind-set h n; place = place }) n;
           };
     }
 
-pub name-inside : {rows : List ℕ} {root at : ℕ} → NameBelow rows root at → {role : Role} {r : Bool} → r ≡ is-property role → r ≡ true → NameAt rows root role at
-name-inside b {role} e t = b .is role (sym e ∙ t)
+-- so of an element
+pub element-turned : (t : Tree) (last : Bool) → is-element (kind-of t) ≡ true → convert-as t (kid code.Array last) ≡ turned (with-kind (named-kind (kind-of t)) t) []
+unfolding kid
+element-turned t true e = kept-turned t (last-element []) refl (kept-as-element (kind-of t) e)
+element-turned t false e = kept-turned t element refl (kept-as-element (kind-of t) e)
+
+-- so of a reference, whatever is aimed at
+pub reference-turned : {rows : List ℕ} {root kind : ℕ} (simply : Bool) (h : Subtree rows root) → Word rows root 0 kind → is-reference kind ≡ true
+    → convert-as (h .tree) (aim simply) ≡ turned (with-kind (named-at rows root) (h .tree)) []
+reference-turned {rows} {root} {kind} true h w e =
+    kept-turned (h .tree) simple refl (ap (is-kept simple) (sym (reads-kind h w)) ∙ kept-as-any kind e)
+    ∙ ap (λ (k : ℕ). turned (with-kind (named-kind k) (h .tree)) []) (sym (reads-kind h w) ∙ w .is)
+reference-turned {rows} {root} {kind} false h w e =
+    kept-turned (h .tree) any refl (ap (is-kept any) (sym (reads-kind h w)) ∙ kept-as-any kind e)
+    ∙ ap (λ (k : ℕ). turned (with-kind (named-kind k) (h .tree)) []) (sym (reads-kind h w) ∙ w .is)
+
+pub one-set : {rows : List ℕ} {root : ℕ} (h : Subtree rows root) → set rows (6 * root) (named-at rows root) ≡ h .before ++ (flat (with-kind (named-at rows root) (h .tree)) ++ h .after)
+one-set {rows} {root} h = kind-set h (named-at rows root)
+
+-- an element of an array; a simple target, or any
+pub element-here : {rows : List ℕ} {root of kind : ℕ} → of % 16 ≡ code.Array → Word rows root 0 kind → is-element kind ≡ true → NameUnder rows root of root
+unfolding kid
+element-here {rows} {root} {of} {kind} k w e = record { is = λ last. rw k (go last) }
+  where
+    go : (last : Bool) → NameAt rows root (if last then last-element (commas (of / 16)) else element) root
+    go true = kept-here (last-element (commas (of / 16))) refl w (kept-as-element kind e)
+    go false = kept-here element refl w (kept-as-element kind e)
+
+pub reference-here : {rows : List ℕ} {root of kind : ℕ} → code.Paren ≤ of % 16 → Word rows root 0 kind → is-reference kind ≡ true → NameUnder rows root of root
+unfolding kid
+reference-here {rows} {root} {of} {kind} le w e =
+    record {
+      is = λ last.
+          rw (ne-eqb (of % 16) code.Array (λ z. omega arith), ne-eqb (of % 16) code.Object (λ z. omega arith), ne-eqb (of % 16) code.Property (λ z. omega arith), ne-eqb (of % 16) code.Shorthand (λ z. omega arith), ne-eqb (of % 16) code.ShorthandInit (λ z. omega arith))
+          (go (eqb (of % 16) code.Paren));
+    }
+  where
+    go : (b : Bool) → NameAt rows root (if b then simple else any) root
+    go true = kept-here simple refl w (kept-as-any kind e)
+    go false = kept-here any refl w (kept-as-any kind e)
+
+pub property-here : {rows : List ℕ} {root of at : ℕ} → of % 16 ≡ code.Object → NameBelow rows root at → NameUnder rows root of at
+unfolding kid
+property-here {of = of} k b = record { is = λ last. rw k (b .is (of / 16) last) }
 
 -- all of the conversion is that of the name, with no record
-pub judge-name : {rows : List ℕ} {root : ℕ} {role : Role} {at : ℕ} → NameAt rows root role at → at ≤ root → Judged rows root role (Turned 0)
-judge-name n le = record { is = λ h. sym (ap outcome.found (n .is le h .is)) }
-
 pub turn-named : {rows r : List ℕ} {root end : ℕ} {rows′ : List ℕ} {role : Role} {at : ℕ} → NameAt rows root role at → at ≤ root → NameSet rows root at rows′
     → TurnedRow rows r root role end rows′ r end
 turn-named {rows} {r} {end = end} n le k =
@@ -246,6 +401,16 @@ turn-named {rows} {r} {end = end} n le k =
           let b = sym a ∙ n .is le h .is in
           rw (turned-is b, turned-records b) (omega arith, record { text = k .text ∙ n .is le h .text; filled = filled-none r end });
     }
+
+pub step-plain : {rows r : List ℕ} {root of start stop at : ℕ} {rows₁ rows′ r′ : List ℕ} {start′ : ℕ} → NameUnder rows (stop - 1) of at → at < stop
+    → NameSet rows (stop - 1) at rows₁ → rows′ ≡ rows₁ → r′ ≡ r → start′ ≡ start → Step rows r root of start stop rows′ r′ start′
+step-plain {root = root} {stop = stop} n lt k e f g =
+    step-turned (turn-named (n .is (eqb stop root)) (omega arith) k) (ap length (k .text) ∙ simp length-set) refl e f g
+
+-- one row is set
+pub one-name-set : {rows rows′ : List ℕ} {at kind kind′ : ℕ} → Word rows at 0 kind → kind′ ≡ named-kind kind → KindSet rows at kind′ rows′ → NameSet rows at at rows′
+one-name-set {rows} {at = at} w e k =
+    record { text = k .text ∙ rw (e, w .is) (sym (set-set rows (6 * at) (named-at rows at) (named-at rows at))) }
 
 pub inside-name : {rows : List ℕ} {root at : ℕ} → Subtree rows root → at ≤ root → NameInside (length rows) root at
 inside-name h le = record { order = le; room = root-inside h }
@@ -256,26 +421,32 @@ name-is-inside i = let o = i .order in let r = i .room in record { room = omega 
 pub root-is-inside : {words words′ root at : ℕ} → NameInside words root at → words′ ≡ words → RowInside words′ root
 root-is-inside i e = let r = i .room in record { room = omega arith }
 
-pub name-is-set : {rows rows₁ rows₂ : List ℕ} {root at kind kind′ : ℕ} → Word rows root 0 kind → kind′ ≡ named-kind kind → KindSet rows at row.TargetName rows₁
-    → KindSet rows₁ root kind′ rows₂ → NameSet rows root at rows₂
-name-is-set {root = root} w e k l = record { text = l .text ∙ rw (k .text, e, w .is) }
+pub name-word : {words root at : ℕ} → NameInside words root at → WordInside words at 0
+name-word i = let o = i .order in let r = i .room in record { room = omega arith }
 
--- what the kind and the number of kids of a property can be
-data Ends (kind kids : ℕ) : Type 0 where
-  key-value : kind ≡ row.Property → kids ≡ 2 → Ends kind kids
-  shorthand : kind ≡ row.Shorthand → kids ≡ 1 → Ends kind kids
+pub root-word-inside : {words root at : ℕ} → NameInside words root at → WordInside words root 0
+root-word-inside i = let r = i .room in record { room = omega arith }
 
-ends : (kind kids : ℕ) → ends-in-target kind kids ≡ true → Ends kind kids
-ends kind kids t =
-    by-test (λ (x : Bool). x ≡ true) (eqb kind row.Property) t (λ k n. key-value (eqb-true kind _ k) (eqb-true kids _ n))
-    (λ _ n. let b = both-true (eqb kind row.Shorthand) _ n in shorthand (eqb-true kind _ (b .0)) (eqb-true kids _ (b .1)))
+pub name-is-set : {rows rows₁ rows₂ : List ℕ} {root at kind kind′ below below′ : ℕ} → Word rows root 0 kind → kind′ ≡ named-kind kind → Word rows at 0 below
+    → below′ ≡ named-kind below → KindSet rows at below′ rows₁ → KindSet rows₁ root kind′ rows₂ → NameSet rows root at rows₂
+name-is-set w e v f k l = record { text = l .text ∙ rw (k .text, e, w .is, f, v .is) }
+
+-- what the kind and the number of kids of a property can be, and what stands last in it
+data Ends (kind kids last : ℕ) : Type 0 where
+  key-value : kind ≡ row.Property → kids ≡ 2 → is-value last ≡ true → Ends kind kids last
+  shorthand : kind ≡ row.Shorthand → kids ≡ 1 → last ≡ row.Identifier → Ends kind kids last
+
+ends : (kind kids last : ℕ) → ends-in-target kind kids last ≡ true → Ends kind kids last
+ends kind kids last t =
+    by-test (λ (x : Bool). x ≡ true) (eqb kind row.Property) t
+    (λ k n. let b = both-true (eqb kids 2) _ n in key-value (eqb-true kind _ k) (eqb-true kids _ (b .0)) (b .1))
+    (λ _ n.
+    let b = both-true (eqb kind row.Shorthand) _ n in
+    let c = both-true (eqb kids 1) _ (b .1) in
+    shorthand (eqb-true kind _ (b .0)) (eqb-true kids _ (c .0)) (eqb-true last _ (c .1)))
 
 begins : (kind kids : ℕ) → is-initialized kind kids ≡ true → (kind ≡ row.ShorthandInit) × (kids ≡ 2)
 begins kind kids t = let b = both-true (eqb kind row.ShorthandInit) _ t in (eqb-true kind _ (b .0), eqb-true kids _ (b .1))
-
-some-kid : {kind kids : ℕ} → Ends kind kids → 0 < kids
-some-kid (key-value k n) = omega arith
-some-kid (shorthand k n) = omega arith
 
 of-one : {kids : ℕ} → kids ≡ 1 → 0 < kids
 of-one e = omega arith
@@ -324,6 +495,10 @@ module _ {rows : List ℕ} {root kids : ℕ} (h : Subtree rows root) (wn : Word 
     unfolding join
     first-is = whole-next past-last first-kid ∙ ap (λ (f : Forest). join f (cons (first-kid .kid) (one (last-kid (of-two two) .kid)))) first-alone
 
+a-property : (held : ℕ) (last : Bool) → is-property (if last then last-property (commas held) else property) ≡ true
+a-property held true = refl
+a-property held false = refl
+
 -- the name of a shorthand with an initializer
 pub named-first : {rows : List ℕ} {root kind kids s s′ x : ℕ} {r : Bool} → Word rows root 0 kind → Word rows root 4 kids → r ≡ is-initialized kind kids → r ≡ true
     → Word rows (root - 1) 5 s → s′ ≡ s → Word rows (root - s′ - 1) 0 x → x ≡ row.Identifier → NameBelow rows root (root - s′ - 1)
@@ -331,7 +506,7 @@ unfolding join flats
 named-first {rows} {root} {kind} {kids} {s′ = s′} wk wn e t ws es wx i =
     let b = begins kind kids (sym e ∙ t) in
     record {
-      is = λ role p.
+      is = λ held last.
           record {
             is = λ le h.
                 let init = last-kid h wn (of-two (b .1)) .kid in
@@ -341,24 +516,25 @@ named-first {rows} {root} {kind} {kids} {s′ = s′} wk wn e t ws es wx i =
                 let q = first-is h wn (b .1) ws es in
                 let k : kind-of name ≡ row.Identifier = sym (reads-kind tree wx) ∙ i in
                 let kind-is : getD rows (6 * root + 0) 0 ≡ row.ShorthandInit = sym (wk .is) ∙ b .0 in
+                let below-is : getD rows (6 * (root - s′ - 1) + 0) 0 ≡ row.Identifier = sym (wx .is) ∙ i in
                 let text =
                 kind-set tree row.TargetName
                 ∙ ap (λ (f : Forest). (h .before ++ flats f) ++ (flat (with-kind row.TargetName name) ++ (flat init ++ R))) (first-alone h wn (b .1) ws es)
                 ∙ ap (λ (l : List ℕ). (h .before ++ flats nil) ++ (flat (with-kind row.TargetName name) ++ l)) (sym (more-flat init nil R)) in
                 record {
                   made = _;
-                  is = initialized-turned (h .tree) role name init p (sym (reads-kind h wk) ∙ b .0) q k;
-                  text = rw kind-is (two-set h nil (one init) name (root - s′ - 1) row.TargetShorthandInit q text);
+                  is = initialized-turned (h .tree) _ name init (a-property held last) (sym (reads-kind h wk) ∙ b .0) q k;
+                  text = rw (kind-is, below-is) (two-set h nil (one init) name (root - s′ - 1) row.TargetName row.TargetShorthandInit q text);
                 };
           };
     }
 
 -- the value of a property, or the name of a shorthand
-module _ {rows : List ℕ} {root kind kids x : ℕ} (wk : Word rows root 0 kind) (wn : Word rows root 4 kids) (wx : Word rows (root - 1) 0 x) (i : x ≡ row.Identifier)
+module _ {rows : List ℕ} {root kind kids x : ℕ} (wk : Word rows root 0 kind) (wn : Word rows root 4 kids) (wx : Word rows (root - 1) 0 x)
     (role : Role) (p : is-property role ≡ true) (h : Subtree rows root) where
-  last-here : Ends kind kids → Named rows root role (root - 1) h
+  last-here : Ends kind kids x → Named rows root role (root - 1) h
   unfolding join flats count
-  last-here (key-value k n) =
+  last-here (key-value k n v) =
       let last = last-kid h wn (of-two n) in
       let tree = last-tree h wn (of-two n) in
       let c = ap count (last .is) ∙ count-join (last .rest) (one (last .kid)) in
@@ -367,15 +543,20 @@ module _ {rows : List ℕ} {root kind kids x : ℕ} (wk : Word rows root 0 kind)
       let a = one-kid (last .rest) (rw single refl) in
       let q : kids-of (h .tree) ≡ cons (a .0) (one (last .kid)) = last .is ∙ ap (λ (f : Forest). join f (one (last .kid))) (a .1) in
       let kind-is : getD rows (6 * root + 0) 0 ≡ row.Property = sym (wk .is) ∙ k in
+      let below = named-at rows (root - 1) in
+      let below-is : named-kind (kind-of (last .kid)) ≡ below = ap named-kind (sym (reads-kind tree wx) ∙ wx .is) in
+      let turns : convert-as (last .kid) value ≡ turned (with-kind below (last .kid)) [] =
+      kept-turned (last .kid) value refl (ap (is-kept value) (sym (reads-kind tree wx)) ∙ kept-as-value x v)
+      ∙ ap (λ (k : ℕ). turned (with-kind k (last .kid)) []) below-is in
       let text =
-      kind-set tree row.TargetName
-      ∙ ap (λ (f : Forest). (h .before ++ flats f) ++ (flat (with-kind row.TargetName (last .kid)) ++ (root-words (h .tree) ++ h .after))) (a .1) in
+      kind-set tree below
+      ∙ ap (λ (f : Forest). (h .before ++ flats f) ++ (flat (with-kind below (last .kid)) ++ (root-words (h .tree) ++ h .after))) (a .1) in
       record {
         made = _;
-        is = property-turned (h .tree) role (a .0) (last .kid) p (sym (reads-kind h wk) ∙ k) q (sym (reads-kind tree wx) ∙ i);
-        text = rw kind-is (two-set h (one (a .0)) nil (last .kid) (root - 1) row.TargetProperty q text);
+        is = property-turned (h .tree) role (a .0) (last .kid) _ p (sym (reads-kind h wk) ∙ k) q turns;
+        text = rw kind-is (two-set h (one (a .0)) nil (last .kid) (root - 1) below row.TargetProperty q text);
       }
-  last-here (shorthand k n) =
+  last-here (shorthand k n i) =
       let last = last-kid h wn (of-one n) in
       let tree = last-tree h wn (of-one n) in
       let c = ap count (last .is) ∙ count-join (last .rest) (one (last .kid)) in
@@ -383,22 +564,31 @@ module _ {rows : List ℕ} {root kind kids x : ℕ} (wk : Word rows root 0 kind)
       let none : last .rest ≡ nil = no-kid (last .rest) (omega arith) in
       let q : kids-of (h .tree) ≡ one (last .kid) = last .is ∙ ap (λ (f : Forest). join f (one (last .kid))) none in
       let kind-is : getD rows (6 * root + 0) 0 ≡ row.Shorthand = sym (wk .is) ∙ k in
+      let below-is : getD rows (6 * (root - 1) + 0) 0 ≡ row.Identifier = sym (wx .is) ∙ i in
       let text =
       kind-set tree row.TargetName
       ∙ ap (λ (f : Forest). (h .before ++ flats f) ++ (flat (with-kind row.TargetName (last .kid)) ++ (root-words (h .tree) ++ h .after))) none in
       record {
         made = _;
         is = shorthand-turned (h .tree) role (last .kid) p (sym (reads-kind h wk) ∙ k) q (sym (reads-kind tree wx) ∙ i);
-        text = rw kind-is (two-set h nil nil (last .kid) (root - 1) row.TargetShorthand q text);
+        text = rw (kind-is, below-is) (two-set h nil nil (last .kid) (root - 1) row.TargetName row.TargetShorthand q text);
       }
 
-pub named-last : {rows : List ℕ} {root kind kids x : ℕ} {r : Bool} → Word rows root 0 kind → Word rows root 4 kids → r ≡ ends-in-target kind kids → r ≡ true
-    → Word rows (root - 1) 0 x → x ≡ row.Identifier → NameBelow rows root (root - 1)
-named-last {kind = kind} {kids = kids} wk wn e t wx i = record { is = λ role p. record { is = λ le h. last-here wk wn wx i role p h (ends kind kids (sym e ∙ t)) } }
+pub named-last : {rows : List ℕ} {root kind kids x : ℕ} {r : Bool} → Word rows root 0 kind → Word rows root 4 kids → Word rows (root - 1) 0 x → r ≡ ends-in-target kind kids x
+    → r ≡ true → NameBelow rows root (root - 1)
+named-last {kind = kind} {kids = kids} {x = x} wk wn wx e t =
+    record { is = λ held last. record { is = λ le h. last-here wk wn wx _ (a-property held last) h (ends kind kids x (sym e ∙ t)) } }
 
 -- the places that are looked at are there
-pub last-low : {rows : List ℕ} {root kind kids : ℕ} {r : Bool} → Subtree rows root → Word rows root 0 kind → Word rows root 4 kids → r ≡ ends-in-target kind kids → r ≡ true → 1 ≤ root
-last-low {kind = kind} {kids = kids} h wk wn e t = low h wn (some-kid (ends kind kids (sym e ∙ t)))
+pub last-low : {rows : List ℕ} {root kids : ℕ} → Subtree rows root → Word rows root 4 kids → (kids ≡ 0 → ⊥) → 1 ≤ root
+last-low h wn some = low h wn (omega (arith, some))
+
+-- a word of a row is there
+pub word-inside : {rows : List ℕ} {root : ℕ} (word : ℕ) → Subtree rows root → word < 6 → WordInside (length rows) root word
+word-inside word h lt = let i = root-inside h in record { room = omega arith }
+
+pub below-inside : {rows : List ℕ} {root n : ℕ} (word : ℕ) → Subtree rows root → n ≤ root → word < 6 → WordInside (length rows) n word
+below-inside word h le lt = let i = root-inside h in record { room = omega arith }
 
 pub first-low : {rows : List ℕ} {root kind kids : ℕ} {r : Bool} → Subtree rows root → Word rows root 0 kind → Word rows root 4 kids → r ≡ is-initialized kind kids → r ≡ true → 1 ≤ root
 first-low {kind = kind} {kids = kids} h wk wn e t = low h wn (of-two (begins kind kids (sym e ∙ t) .1))

@@ -1,5 +1,7 @@
 -- `plans::as_element` meets its contract.
--- Assumes nothing.
+-- Made from answers/as_element.ans by tools/fill.py. Assumes nothing.
+use mathlib.Core.Path.{sym, ap, _∙_}
+use native.Mathlib.Omega.{arith}
 use borrow.Author.Needs.{needs}
 use borrow.Author.Tests.{eq-eqb, ne-eqb}
 use Rattle.conversion.specs.Conversion.{as-element}
@@ -18,16 +20,14 @@ not-last-requires c κs = search needs
 
 returns-2 : tie.Need-returns-2
 unfolding as-element
-returns-2 c =
-    rw (ne-eqb _ _ (c .before .before .before .if1 .left), eq-eqb _ _ (c .before .if2 .taken)) (c .not-last .ensures)
+returns-2 c = rw (ne-eqb _ _ (c .before .before .before .if1 .left), eq-eqb _ _ (c .before .if2 .taken)) (c .not-last .ensures)
 
 as-value-requires : tie.Need-as-value-requires
 as-value-requires c κs = search needs
 
 returns-3 : tie.Need-returns-3
 unfolding as-element
-returns-3 c =
-    rw (ne-eqb _ _ (c .before .before .before .if1 .left), ne-eqb _ _ (c .before .if2 .left)) (c .as-value .ensures)
+returns-3 c = rw (ne-eqb _ _ (c .before .before .before .if1 .left), ne-eqb _ _ (c .before .if2 .left)) (c .as-value .ensures)
 
 pub as-element-spec : {M : Type 1} → statement M
 as-element-spec = tie.close (tie.spec keep-requires returns not-last-requires returns-2 as-value-requires returns-3)

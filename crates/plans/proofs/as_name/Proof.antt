@@ -1,5 +1,7 @@
 -- `plans::as_name` meets its contract.
--- Assumes nothing.
+-- Made from answers/as_name.ans by tools/fill.py. Assumes nothing.
+use mathlib.Core.Path.{sym, ap, _∙_}
+use native.Mathlib.Omega.{arith}
 use borrow.Author.Needs.{needs}
 use borrow.Author.Tests.{eq-eqb, ne-eqb}
 use Rattle.conversion.specs.Conversion.{as-name}

@@ -1,14 +1,21 @@
 -- `plans::no_target` meets its contract.
--- Assumes nothing.
+-- Made from answers/no_target.ans by tools/fill.py. Assumes nothing.
+use mathlib.Core.Path.{sym, ap, _∙_}
+use native.Mathlib.Omega.{arith}
 use borrow.Author.Needs.{needs}
+use borrow.Author.Tests.{eq-eqb, ne-eqb}
+use Rattle.plans.proofs.Numbers.{planned}
 use Rattle.plans.proofs.no_target.Statement.{statement}
 use Rattle.plans.proofs.no_target.Tie as tie
 
 wide-requires : tie.Need-wide-requires
 wide-requires c κs = search needs
 
+holding-requires : tie.Need-holding-requires
+holding-requires c κs = search needs
+
 returns : tie.Need-returns
-returns c = rw (c .wide .ensures)
+returns c = planned _ (c .holding .ensures) ∙ rw (c .before .wide .ensures)
 
 pub no-target-spec : {M : Type 1} → statement M
-no-target-spec = tie.close (tie.spec wide-requires returns)
+no-target-spec = tie.close (tie.spec wide-requires holding-requires returns)

@@ -1,118 +1,91 @@
 -- `plans::plan_of` meets its contract.
--- Assumes nothing.
-use mathlib.Core.Path.{sym, _∙_}
+-- Made from answers/plan_of.ans by tools/fill.py. Assumes nothing.
+use Prim.Native.Nat.{_<_, _^_, _/_}
+use mathlib.Core.Path.{sym, ap, _∙_}
+use native.Mathlib.Omega.{arith}
 use borrow.Author.Needs.{needs}
+use borrow.Author.Tests.{ne-eqb}
+use Rattle.roles.specs.Meaning.{kid}
 use Rattle.conversion.specs.Conversion.{change}
-use Rattle.roles.specs.Meaning.{role, seen}
-use Rattle.plans.proofs.First.{keeping, no-first, pattern-none, any-none, simple-none, element-none, last-element-none, property-none, value-none, name-none}
-use Rattle.plans.proofs.Patterns.{pattern-changed, pattern-argument}
 use Rattle.plans.proofs.plan_of.Statement.{statement}
 use Rattle.plans.proofs.plan_of.Tie as tie
 
-is-pattern-requires : tie.Need-is-pattern-requires
-is-pattern-requires c κs = search needs
-
-pattern-of-requires : tie.Need-pattern-of-requires
-pattern-of-requires c κs = search needs
-
-enum-told : tie.Need-enum-told
-enum-told c = search needs
-
-as-any-requires : tie.Need-as-any-requires
-as-any-requires c κs = search needs
-
-enum-told-2 : tie.Need-enum-told-2
-enum-told-2 c = search needs
-
-as-simple-requires : tie.Need-as-simple-requires
-as-simple-requires c κs = search needs
-
-enum-told-3 : tie.Need-enum-told-3
-enum-told-3 c = search needs
+as-last-element-requires : tie.Need-as-last-element-requires
+as-last-element-requires c κs = omega arith
 
 as-element-requires : tie.Need-as-element-requires
 as-element-requires c κs = search needs
 
-enum-known-role : tie.Need-enum-known-role
-enum-known-role c = search needs
-
-as-last-element-requires : tie.Need-as-last-element-requires
-as-last-element-requires c κs = search needs
-
-enum-told-4 : tie.Need-enum-told-4
-enum-told-4 c = search needs
+as-last-property-requires : tie.Need-as-last-property-requires
+as-last-property-requires c κs = omega arith
 
 as-property-requires : tie.Need-as-property-requires
 as-property-requires c κs = search needs
 
-enum-known-role-2 : tie.Need-enum-known-role-2
-enum-known-role-2 c = search needs
-
-as-last-property-requires : tie.Need-as-last-property-requires
-as-last-property-requires c κs = search needs
-
-enum-told-5 : tie.Need-enum-told-5
-enum-told-5 c = search needs
-
 as-value-requires : tie.Need-as-value-requires
 as-value-requires c κs = search needs
-
-enum-told-6 : tie.Need-enum-told-6
-enum-told-6 c = search needs
-
-as-name-requires : tie.Need-as-name-requires
-as-name-requires c κs = search needs
-
-enum-told-7 : tie.Need-enum-told-7
-enum-told-7 c = search needs
 
 keep-requires : tie.Need-keep-requires
 keep-requires c κs = search needs
 
+as-name-requires : tie.Need-as-name-requires
+as-name-requires c κs = search needs
+
+keep-requires-2 : tie.Need-keep-requires-2
+keep-requires-2 c κs = search needs
+
+as-name-requires-2 : tie.Need-as-name-requires-2
+as-name-requires-2 c κs = search needs
+
+as-simple-requires : tie.Need-as-simple-requires
+as-simple-requires c κs = search needs
+
+as-any-requires : tie.Need-as-any-requires
+as-any-requires c κs = search needs
+
 returns : tie.Need-returns
-returns c =
-    let args = c .before .before .before .args in
-    let pattern = sym (c .before .before .is-pattern .ensures) ∙ c .before .if1 .taken in
-    record {
-      is = c .pattern-of .ensures ∙ pattern-changed _ _ pattern;
-      first = no-first (c .pattern-of .result) (c .pattern-of .ensures) (pattern-none (args .seen .kind)) ∙ sym (pattern-argument (role (args .role)) (seen (args .seen)) pattern);
-    }
+unfolding kid change
+returns c = rw (c .before .before .match .keys1, c .before .if1 .taken) (c .as-last-element .ensures)
 
 returns-2 : tie.Need-returns-2
-unfolding change
-returns-2 c = record { is = rw (c .before .enum-told .given .1) (c .as-any .ensures); first = rw (c .before .enum-told .given .1) (no-first (c .as-any .result) (c .as-any .ensures) (any-none _)) }
+unfolding kid change
+returns-2 c = rw (c .before .before .match .keys1, c .before .if1 .left) (c .as-element .ensures)
 
 returns-3 : tie.Need-returns-3
-unfolding change
-returns-3 c = record { is = rw (c .before .enum-told2 .given .1) (c .as-simple .ensures); first = rw (c .before .enum-told2 .given .1) (no-first (c .as-simple .result) (c .as-simple .ensures) (simple-none _)) }
+unfolding kid change
+returns-3 c = rw (c .before .before .match .keys2, c .before .if2 .taken) (c .as-last-property .ensures)
 
 returns-4 : tie.Need-returns-4
-unfolding change
-returns-4 c = record { is = rw (c .before .enum-told3 .given .1) (c .as-element .ensures); first = rw (c .before .enum-told3 .given .1) (no-first (c .as-element .result) (c .as-element .ensures) (element-none _)) }
+unfolding kid change
+returns-4 c = rw (c .before .before .match .keys2, c .before .if2 .left) (c .as-property .ensures)
 
 returns-5 : tie.Need-returns-5
-unfolding change
-returns-5 c = record { is = rw (c .before .before .role .given .1) (c .as-last-element .ensures); first = rw (c .before .before .role .given .1) (no-first (c .as-last-element .result) (c .as-last-element .ensures) (last-element-none _ _)) }
+unfolding kid change
+returns-5 c = rw (c .before .before .match .keys3, c .before .if3 .taken) (c .as-value .ensures)
 
 returns-6 : tie.Need-returns-6
-unfolding change
-returns-6 c = record { is = rw (c .before .enum-told4 .given .1) (c .as-property .ensures); first = rw (c .before .enum-told4 .given .1) (no-first (c .as-property .result) (c .as-property .ensures) (property-none _)) }
+unfolding kid change
+returns-6 c = rw (c .before .before .match .keys3, c .before .if3 .left) (c .keep .ensures)
 
 returns-7 : tie.Need-returns-7
-unfolding change
-returns-7 c = rw (c .before .before .role2 .given .1) (c .as-last-property .ensures)
+unfolding kid change
+returns-7 c = rw (c .before .match .keys4) (c .as-name .ensures)
 
 returns-8 : tie.Need-returns-8
-unfolding change
-returns-8 c = record { is = rw (c .before .enum-told5 .given .1) (c .as-value .ensures); first = rw (c .before .enum-told5 .given .1) (no-first (c .as-value .result) (c .as-value .ensures) (value-none _)) }
+unfolding kid change
+returns-8 c = rw (c .before .before .match .keys5, c .before .if4 .taken) (c .keep2 .ensures)
 
 returns-9 : tie.Need-returns-9
-unfolding change
-returns-9 c = record { is = rw (c .before .enum-told6 .given .1) (c .as-name .ensures); first = rw (c .before .enum-told6 .given .1) (no-first (c .as-name .result) (c .as-name .ensures) (name-none _)) }
+unfolding kid change
+returns-9 c = rw (c .before .before .match .keys5, c .before .if4 .left) (c .as-name2 .ensures)
 
 returns-10 : tie.Need-returns-10
-unfolding change
-returns-10 c = record { is = rw (c .before .enum-told7 .given .1) (c .keep .ensures); first = rw (c .before .enum-told7 .given .1) (no-first (c .keep .result) (c .keep .ensures) keeping) }
+unfolding kid change
+returns-10 c = rw (c .before .match .keys6) (c .as-simple .ensures)
+
+returns-11 : tie.Need-returns-11
+unfolding kid change
+returns-11 c = rw (ne-eqb _ _ (c .before .match .rest .0 .0 .0 .0 .0 .1), ne-eqb _ _ (c .before .match .rest .0 .0 .0 .0 .1), ne-eqb _ _ (c .before .match .rest .0 .0 .0 .1), ne-eqb _ _ (c .before .match .rest .0 .0 .1), ne-eqb _ _ (c .before .match .rest .0 .1), ne-eqb _ _ (c .before .match .rest .1)) (c .as-any .ensures)
 
 pub plan-of-spec : {M : Type 1} → statement M
-plan-of-spec = tie.close (tie.spec is-pattern-requires pattern-of-requires returns enum-told as-any-requires enum-told-2 as-simple-requires enum-told-3 as-element-requires enum-known-role as-last-element-requires enum-told-4 as-property-requires enum-known-role-2 as-last-property-requires enum-told-5 as-value-requires enum-told-6 as-name-requires enum-told-7 keep-requires returns-2 returns-3 returns-4 returns-5 returns-6 returns-7 returns-8 returns-9 returns-10)
+plan-of-spec = tie.close (tie.spec as-last-element-requires as-element-requires as-last-property-requires as-property-requires as-value-requires keep-requires as-name-requires keep-requires-2 as-name-requires-2 as-simple-requires as-any-requires returns returns-2 returns-3 returns-4 returns-5 returns-6 returns-7 returns-8 returns-9 returns-10 returns-11)
