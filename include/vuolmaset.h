@@ -46,8 +46,8 @@ extern "C" {
  * They are bounds for the archive as it is built for x86-64, and rest on its object code and on a script, not on a theorem: tools/stack.py adds up the
  * frames of the longest way that the calls can take, with at most 64 calls behind an opening bracket and one for each of 2,048 rows, and says at its
  * head what is assumed. The test command holds the script's bounds to these two numbers, and runs the lists that take the most on stacks of this size. */
-#define VUOLMASET_STACK 1057568
-#define VUOLMASET_CONVERT_STACK 721624
+#define VUOLMASET_STACK 90112
+#define VUOLMASET_CONVERT_STACK 230400
 
 /* Reads a list of tokens that is one Expression. After a refusal 1 to 7 both buffers hold what they held, after 8 to 12 all their words are 0; read,
  * the words past the used ones are 0. */

@@ -25,7 +25,8 @@ python3 -B tests/sheets.py target/harness/release/answer
 # search takes more than the bound for its brackets. The lists that take the most run on as much stack as is named, and on less they are stopped.
 need objdump binutils
 python3 -B tests/stack.py
-python3 -B tools/stack.py --ways target/stack_ways
+python3 -B tools/stack.py --ways target/stack_ways > target/stack_table || { cat target/stack_table; exit 1; }
+grep '^- ' target/stack_table
 if python3 -B tools/stack.py --uncut > target/stack_uncut || ! grep -q '^- vuolmaset_read: no bound: a cycle' target/stack_uncut; then
     echo "tools/stack.py: no cycle where no call is counted"
     exit 1

@@ -3,6 +3,7 @@
 All that could make the depth or the calls unsure is an error: an instruction that can be met at two depths or is never reached; a call or a jump
 that is indirect, but for a table of jumps within a function; one that goes where nothing is known of; the address of a function that is taken.
 """
+import os
 import re
 import subprocess
 
@@ -35,7 +36,7 @@ class Function:
 
 
 def objdump(archive, *words):
-    run = subprocess.run(['objdump', '-w', *words, archive], capture_output=True, text=True)
+    run = subprocess.run(['objdump', '-w', *words, archive], capture_output=True, text=True, env={**os.environ, 'LC_ALL': 'C'})
     if run.returncode or run.stdout.count('file format elf64-x86-64') != 1:
         raise Wrong('%s is not one object file for x86-64 %s' % (archive, run.stderr.strip()))
     return run.stdout.split('\n')

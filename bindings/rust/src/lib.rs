@@ -28,11 +28,12 @@ mod sentences;
 pub use sentences::{record_sentence, refusal_sentence};
 
 /// Bytes of stack that are enough for a call of every function but [`convert`], of any list: VUOLMASET_STACK of include/vuolmaset.h. It is a bound for the
-/// archive as it is built for x86-64, from its object code by tools/stack.py, and no theorem: the header says what it rests on.
-pub const STACK: usize = 1_057_568;
+/// archive as it is built for x86-64, from its object code by tools/stack.py, and no theorem: the header says what it rests on. The frames of this crate,
+/// some hundred bytes, come on top.
+pub const STACK: usize = 90_112;
 
 /// Bytes of stack that are enough for a call of [`convert`], of any tree: VUOLMASET_CONVERT_STACK, a bound of the same kind.
-pub const CONVERT_STACK: usize = 721_624;
+pub const CONVERT_STACK: usize = 230_400;
 
 mod archive {
     extern "C" {

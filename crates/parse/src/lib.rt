@@ -60,7 +60,7 @@ pub fn comma(
     }
 }
 
-// 13.15 AssignmentExpression: one token by itself; or parts and operands, one after the other, while what they are the last part of waits.
+// 13.15 AssignmentExpression: one token by itself; or parts and operands, one after the other, while what still lacks its last part waits.
 fn assign(
     kinds: &[u8],
     flags: &[u8],

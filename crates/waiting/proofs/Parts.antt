@@ -15,7 +15,7 @@ use Rattle.making.specs.Post.{Topped}
 use Rattle.making.specs.declared.cursor.Cursor.{Cursor}
 use Rattle.making.specs.declared.cursor.Step.{Step}
 use Rattle.waiting.specs.Waiting.{Waiting, operation, part, choice, Choice, all-words, Whole, Comes-all, Ends, Awaits}
-use Rattle.waiting.specs.Post.{word, start-of, PartFits, PartAt, Otherwise, Goes}
+use Rattle.waiting.specs.Post.{word, start-of, LastPartFits, PartAt, Otherwise, Goes}
 use Rattle.waiting.specs.declared.Next.{Next}
 use Rattle.waiting.specs.declared.Spot.{Spot}
 use Rattle.waiting.proofs.Cuts.{held-word, held-kind, held-next, held-below, held-some, held-none}
@@ -92,11 +92,11 @@ module _ {ks fs : List ℕ} {all : Whole} {m r s : List ℕ} {c : Cursor} {top b
   pub parts-inside : Parts ks fs all m r s c top base → top < base → 6 * top + 6 ≤ length r
   parts-inside p lt = let h = p .at .held .room in omega arith
 
-  pub parts-fit : Parts ks fs all m r s c top base → top < base → {kind : ℕ} → kind ≡ getD r (6 * top) 0 → (kind ≡ Choice → ⊥) → PartFits r c top
+  pub parts-fit : Parts ks fs all m r s c top base → top < base → {kind : ℕ} → kind ≡ getD r (6 * top) 0 → (kind ≡ Choice → ⊥) → LastPartFits r c top
   unfolding Ends
   parts-fit p lt {kind} k other = go (p .ws) (p .at)
     where
-      go : (ws : List Waiting) → PartAt ks fs all m ws r s c top base → PartFits r c top
+      go : (ws : List Waiting) → PartAt ks fs all m ws r s c top base → LastPartFits r c top
       go [] a = absurd (held-some (a .held) lt)
       go (operation mark first left from ∷ ws) a = absurd (no-operator (a .no-operand))
       go (choice mark first from ∷ ws) a = absurd (other (k ∙ held-kind (a .held)))

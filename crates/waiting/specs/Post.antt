@@ -139,7 +139,7 @@ pub record WaitsBody (ks fs r s : List ℕ) (d : Cursor) (h : Head) (top : ℕ) 
   pub waits : (getD ks (d .at + 1) 0 ≡ LCurly → ⊥) → BodyWaits fs r s d h top r′ s′ x
 
 -- a row waits for its last part in the row `top`, and there is room for it
-pub record PartFits (r : List ℕ) (c : Cursor) (top : ℕ) : Type 0 where
+pub record LastPartFits (r : List ℕ) (c : Cursor) (top : ℕ) : Type 0 where
   pub inside : 6 * top + 6 ≤ length r
   pub fits : TopRoom (6 * (top + 1)) c (word r top 1) (word r top 2) (c .at) (word r top 4) (word r top 5)
 

@@ -6,9 +6,9 @@ ghost use lib.ListN.{length, getD};
 ghost use Prim.Native.Nat.{_+_, _-_, _*_, _≤_, _<_};
 ghost use lib.ListN.{take};
 ghost use Rattle.rows.specs.Post.{RowInside};
-ghost use Rattle.making.specs.Post.{cursor, Room, Operand, Topped};
+ghost use Rattle.making.specs.Post.{Room, Operand, Topped};
 ghost use Rattle.waiting.specs.Waiting.{is-operation};
-ghost use Rattle.waiting.specs.Post.{word, end-of, ends-operand, OperationFits, FinishedOperation, WaitFits, WaitsOperand, WaitsChoice, WaitsRight, BodyFits, WaitsBody, PartFits, Otherwise, opens-body, NameBody, PartEnding, PartEnded, Grouping, Followed, Level, FollowedLevel, StartFits, AfterStart};
+ghost use Rattle.waiting.specs.Post.{word, end-of, ends-operand, OperationFits, FinishedOperation, WaitFits, WaitsOperand, WaitsChoice, WaitsRight, BodyFits, WaitsBody, LastPartFits, Otherwise, opens-body, NameBody, PartEnding, PartEnded, Grouping, Followed, Level, FollowedLevel, StartFits, AfterStart};
 use heads::Head;
 use making::cursor::Cursor;
 use making::cursor::leaf;
@@ -55,20 +55,94 @@ pub struct Group {
     pub top: usize,
 }
 
-// A word of a row that waits.
-fn word(rows: &[u32], n: usize, word: usize) -> usize
-    requires { ⌜ RowInside (length (now rows)) n ⌝ }
-    requires { ⌜ word < 6 ⌝ }
-    ensures { λ r. ⌜ r ≡ getD (now (rows .entry)) (6 * n + word) 0 ⌝ }
+// Past a start: an arrow waits for its body, or what follows an operand is read.
+pub fn after_start(
+    kinds: &[u8],
+    flags: &[u8],
+    rows: &mut [u32],
+    records: &mut [u32],
+    got: Start,
+    from: Spot,
+    base: usize,
+) -> Next
+    requires { ⌜ StartFits (now kinds) (now flags) (now rows) (now records) got from base ⌝ }
+    ensures { λ x. ⌜ AfterStart (now (kinds .entry)) (now (flags .entry)) (now (rows .entry)) (now (records .entry)) got from base (now (rows .exit)) (now (records .exit)) x ⌝ }
 {
-    rows[6 * n + word] as usize
+    match got {
+        Start::Fail(cause) => Next::Fail(cause),
+        Start::Opened(d, head) => wait_body(kinds, flags, rows, records, d, head, from.top),
+        Start::Operand(d) => {
+            let operand = Group {
+                at: d.at,
+                rows: d.rows,
+                records: d.records,
+                first: from.at,
+                from: from.rows,
+                top: from.top,
+            };
+            follow(kinds, flags, rows, records, operand, base)
+        }
+    }
 }
 
-// Binary and Logical rows.
-fn is_operation(kind: u32) -> bool
-    ensures { λ r. ⌜ r ≡ is-operation kind ⌝ }
+// 15.3, 15.9: an arrow waits for its body, from its `=>` on: a break before `=>` is record 1, and `{` as body is 8.
+fn wait_body(
+    kinds: &[u8],
+    flags: &[u8],
+    rows: &mut [u32],
+    records: &mut [u32],
+    d: Cursor,
+    head: Head,
+    waiting: usize,
+) -> Next
+    requires { ⌜ BodyFits (length (now rows)) (length (now records)) d head waiting ⌝ }
+    ensures { λ x. ⌜ WaitsBody (now (kinds .entry)) (now (flags .entry)) (now (rows .entry)) (now (records .entry)) d head waiting (now (rows .exit)) (now (records .exit)) x ⌝ }
 {
-    kind == row::BINARY || kind == row::LOGICAL
+    let at = d.at;
+    if heads::is_block(kinds, at + 1) {
+        return Next::Fail(Cause::Unexpected(at + 1));
+    }
+    let mut c = Cursor {
+        at: at + 1,
+        rows: d.rows,
+        records: d.records,
+    };
+    if tokens::flag_at(flags, at) == 1 {
+        c = say(records, c, 1, at);
+    }
+    let top = waiting - 1;
+    let kids = head.kids + 1;
+    rows::push_row(rows, top, head.kind, at, head.first, 0, kids, head.from);
+    Next::Read(Spot {
+        at: c.at,
+        rows: c.rows,
+        records: c.records,
+        top,
+        part: true,
+    })
+}
+
+// 13.6 to 13.15: past an operand, what waits and ends here is made, and what begins here waits.
+fn follow(
+    kinds: &[u8],
+    flags: &[u8],
+    rows: &mut [u32],
+    records: &mut [u32],
+    operand: Group,
+    base: usize,
+) -> Next
+    requires { ⌜ Grouping (now kinds) (now flags) (now rows) (now records) operand base ⌝ }
+    ensures { λ x. ⌜ Followed (now (kinds .entry)) (now (flags .entry)) (now (rows .entry)) (now (records .entry)) operand base (now (rows .exit)) (now (records .exit)) x ⌝ }
+{
+    let level = operators::expression_precedence(tokens::kind_at(kinds, operand.at));
+    let mut group = operand;
+    while ends_operand(rows, group.top, base, level) {
+        group = finish_operation(kinds, rows, records, group);
+    }
+    if level != 0 {
+        return wait_operand(kinds, rows, group);
+    }
+    after_binary(kinds, flags, rows, records, group, base)
 }
 
 // Whether the innermost row that waits is an operator's, and its right operand ends before an operator of this level.
@@ -83,6 +157,13 @@ fn ends_operand(rows: &[u32], top: usize, base: usize, level: u8) -> bool
         return level as usize <= word(rows, top, 4);
     }
     false
+}
+
+// Binary and Logical rows.
+fn is_operation(kind: u32) -> bool
+    ensures { λ r. ⌜ r ≡ is-operation kind ⌝ }
+{
+    kind == row::BINARY || kind == row::LOGICAL
 }
 
 // 13.6 to 13.13: the innermost row that waits is made, over its left operand and the group.
@@ -141,6 +222,70 @@ fn wait_operand(kinds: &[u8], rows: &mut [u32], left: Group) -> Next
     })
 }
 
+// 13.15, 13.14, 15.3: what may follow the binary level.
+fn after_binary(
+    kinds: &[u8],
+    flags: &[u8],
+    rows: &mut [u32],
+    records: &mut [u32],
+    left: Group,
+    base: usize,
+) -> Next
+    requires { ⌜ Level (now kinds) (now flags) (now rows) (now records) left base ⌝ }
+    ensures { λ x. ⌜ FollowedLevel (now (kinds .entry)) (now (flags .entry)) (now (rows .entry)) (now (records .entry)) left base (now (rows .exit)) (now (records .exit)) x ⌝ }
+{
+    if opens_body(kinds, rows, left) {
+        return name_body(kinds, flags, rows, records, left);
+    }
+    let operator = tokens::kind_at(kinds, left.at);
+    if operation::is_assignment_operator(operator) {
+        return wait_right(kinds, rows, records, left);
+    }
+    if operator == kind::QUESTION {
+        return wait_choice(rows, left);
+    }
+    let c = Cursor {
+        at: left.at,
+        rows: left.rows,
+        records: left.records,
+    };
+    finish_parts(kinds, rows, c, left.top, base)
+}
+
+// Whether `=>` stands after a group that is one Identifier.
+fn opens_body(kinds: &[u8], rows: &[u32], group: Group) -> bool
+    requires { ⌜ 1 ≤ group .rows ⌝ }
+    ensures { λ r. ⌜ r ≡ opens-body (now (kinds .entry)) (now (rows .entry)) group ⌝ }
+{
+    if tokens::kind_at(kinds, group.at) == kind::ARROW {
+        return rows::row_word(rows, group.rows - 1, 0) == row::IDENTIFIER;
+    }
+    false
+}
+
+// 15.3: the name of an arrow without parentheses is a binding, and its body is waited for.
+fn name_body(kinds: &[u8], flags: &[u8], rows: &mut [u32], records: &mut [u32], name: Group) -> Next
+    requires { ⌜ WaitFits (length (now rows)) name ⌝ }
+    requires { ⌜ name .from < name .top ⌝ }
+    requires { ⌜ 2 * name .records + 2 ≤ length (now records) ⌝ }
+    requires { ⌜ name .records ≤ 2048 ⌝ }
+    ensures { λ x. ⌜ NameBody (now (kinds .entry)) (now (flags .entry)) (now (rows .entry)) (now (records .entry)) name (now (rows .exit)) (now (records .exit)) x ⌝ }
+{
+    let d = leaf(rows, name.first, name.from, name.records, row::BINDING_NAME);
+    let c = Cursor {
+        at: name.at,
+        rows: d.rows,
+        records: d.records,
+    };
+    let head = Head {
+        kind: row::ARROW,
+        first: name.first,
+        from: name.from,
+        kids: 1,
+    };
+    wait_body(kinds, flags, rows, records, c, head, name.top)
+}
+
 // 13.15: an assignment waits for its right side, once its left side is converted.
 fn wait_right(kinds: &[u8], rows: &mut [u32], records: &mut [u32], left: Group) -> Next
     requires { ⌜ WaitFits (length (now rows)) left ⌝ }
@@ -190,46 +335,26 @@ fn wait_choice(rows: &mut [u32], test: Group) -> Next
     })
 }
 
-// 15.3, 15.9: an arrow waits for its body, from its `=>` on: a break before `=>` is record 1, and `{` as body is 8.
-fn wait_body(
-    kinds: &[u8],
-    flags: &[u8],
-    rows: &mut [u32],
-    records: &mut [u32],
-    d: Cursor,
-    head: Head,
-    waiting: usize,
-) -> Next
-    requires { ⌜ BodyFits (length (now rows)) (length (now records)) d head waiting ⌝ }
-    ensures { λ x. ⌜ WaitsBody (now (kinds .entry)) (now (flags .entry)) (now (rows .entry)) (now (records .entry)) d head waiting (now (rows .exit)) (now (records .exit)) x ⌝ }
+// A part has ended: what waited for it is made, up to the first that waits for its `:`.
+fn finish_parts(kinds: &[u8], rows: &mut [u32], d: Cursor, waiting: usize, base: usize) -> Next
+    requires { ⌜ PartEnding (now kinds) (now rows) d waiting base ⌝ }
+    ensures { λ x. ⌜ PartEnded (now (kinds .entry)) (now (rows .entry)) d waiting base (now (rows .exit)) x ⌝ }
 {
-    let at = d.at;
-    if heads::is_block(kinds, at + 1) {
-        return Next::Fail(Cause::Unexpected(at + 1));
+    let mut c = d;
+    let mut top = waiting;
+    while top < base {
+        if rows[6 * top] == CHOICE {
+            return otherwise(kinds, rows, c, top);
+        }
+        c = finish_part(rows, c, top);
+        top += 1;
     }
-    let mut c = Cursor {
-        at: at + 1,
-        rows: d.rows,
-        records: d.records,
-    };
-    if tokens::flag_at(flags, at) == 1 {
-        c = say(records, c, 1, at);
-    }
-    let top = waiting - 1;
-    let kids = head.kids + 1;
-    rows::push_row(rows, top, head.kind, at, head.first, 0, kids, head.from);
-    Next::Read(Spot {
-        at: c.at,
-        rows: c.rows,
-        records: c.records,
-        top,
-        part: true,
-    })
+    Next::Ended(c)
 }
 
 // The innermost row that waits is made, up to where its last part ends.
 fn finish_part(rows: &mut [u32], c: Cursor, top: usize) -> Cursor
-    requires { ⌜ PartFits (now rows) c top ⌝ }
+    requires { ⌜ LastPartFits (now rows) c top ⌝ }
     ensures { λ u. ⌜ Topped (now (rows .entry)) c (getD (now (rows .entry)) (6 * top) 0) (word (now (rows .entry)) top 1) (word (now (rows .entry)) top 2) (c .at) (word (now (rows .entry)) top 4) (word (now (rows .entry)) top 5) (now (rows .exit)) u ⌝ }
 {
     let kind = rows[6 * top];
@@ -260,136 +385,11 @@ fn otherwise(kinds: &[u8], rows: &mut [u32], c: Cursor, top: usize) -> Next
     })
 }
 
-// A part has ended: what waited for it is made, up to the first that waits for its `:`.
-fn finish_parts(kinds: &[u8], rows: &mut [u32], d: Cursor, waiting: usize, base: usize) -> Next
-    requires { ⌜ PartEnding (now kinds) (now rows) d waiting base ⌝ }
-    ensures { λ x. ⌜ PartEnded (now (kinds .entry)) (now (rows .entry)) d waiting base (now (rows .exit)) x ⌝ }
+// A word of a row that waits.
+fn word(rows: &[u32], n: usize, i: usize) -> usize
+    requires { ⌜ RowInside (length (now rows)) n ⌝ }
+    requires { ⌜ i < 6 ⌝ }
+    ensures { λ r. ⌜ r ≡ word (now (rows .entry)) n i ⌝ }
 {
-    let mut c = d;
-    let mut top = waiting;
-    while top < base {
-        if rows[6 * top] == CHOICE {
-            return otherwise(kinds, rows, c, top);
-        }
-        c = finish_part(rows, c, top);
-        top += 1;
-    }
-    Next::Ended(c)
-}
-
-// Whether `=>` stands after a group that is one Identifier.
-fn opens_body(kinds: &[u8], rows: &[u32], group: Group) -> bool
-    requires { ⌜ 1 ≤ group .rows ⌝ }
-    ensures { λ r. ⌜ r ≡ opens-body (now (kinds .entry)) (now (rows .entry)) group ⌝ }
-{
-    if tokens::kind_at(kinds, group.at) == kind::ARROW {
-        return rows::row_word(rows, group.rows - 1, 0) == row::IDENTIFIER;
-    }
-    false
-}
-
-// 15.3: the name of an arrow without parentheses is a binding, and its body is waited for.
-fn name_body(kinds: &[u8], flags: &[u8], rows: &mut [u32], records: &mut [u32], name: Group) -> Next
-    requires { ⌜ WaitFits (length (now rows)) name ⌝ }
-    requires { ⌜ name .from < name .top ⌝ }
-    requires { ⌜ 2 * name .records + 2 ≤ length (now records) ⌝ }
-    requires { ⌜ name .records ≤ 2048 ⌝ }
-    ensures { λ x. ⌜ NameBody (now (kinds .entry)) (now (flags .entry)) (now (rows .entry)) (now (records .entry)) name (now (rows .exit)) (now (records .exit)) x ⌝ }
-{
-    let d = leaf(rows, name.first, name.from, name.records, row::BINDING_NAME);
-    let c = Cursor {
-        at: name.at,
-        rows: d.rows,
-        records: d.records,
-    };
-    let head = Head {
-        kind: row::ARROW,
-        first: name.first,
-        from: name.from,
-        kids: 1,
-    };
-    wait_body(kinds, flags, rows, records, c, head, name.top)
-}
-
-// 13.15, 13.14, 15.3: what may follow the binary level.
-fn after_binary(
-    kinds: &[u8],
-    flags: &[u8],
-    rows: &mut [u32],
-    records: &mut [u32],
-    left: Group,
-    base: usize,
-) -> Next
-    requires { ⌜ Level (now kinds) (now flags) (now rows) (now records) left base ⌝ }
-    ensures { λ x. ⌜ FollowedLevel (now (kinds .entry)) (now (flags .entry)) (now (rows .entry)) (now (records .entry)) left base (now (rows .exit)) (now (records .exit)) x ⌝ }
-{
-    if opens_body(kinds, rows, left) {
-        return name_body(kinds, flags, rows, records, left);
-    }
-    let operator = tokens::kind_at(kinds, left.at);
-    if operation::is_assignment_operator(operator) {
-        return wait_right(kinds, rows, records, left);
-    }
-    if operator == kind::QUESTION {
-        return wait_choice(rows, left);
-    }
-    let c = Cursor {
-        at: left.at,
-        rows: left.rows,
-        records: left.records,
-    };
-    finish_parts(kinds, rows, c, left.top, base)
-}
-
-// 13.6 to 13.15: past an operand, what waits and ends here is made, and what begins here waits.
-fn follow(
-    kinds: &[u8],
-    flags: &[u8],
-    rows: &mut [u32],
-    records: &mut [u32],
-    operand: Group,
-    base: usize,
-) -> Next
-    requires { ⌜ Grouping (now kinds) (now flags) (now rows) (now records) operand base ⌝ }
-    ensures { λ x. ⌜ Followed (now (kinds .entry)) (now (flags .entry)) (now (rows .entry)) (now (records .entry)) operand base (now (rows .exit)) (now (records .exit)) x ⌝ }
-{
-    let level = operators::expression_precedence(tokens::kind_at(kinds, operand.at));
-    let mut group = operand;
-    while ends_operand(rows, group.top, base, level) {
-        group = finish_operation(kinds, rows, records, group);
-    }
-    if level != 0 {
-        return wait_operand(kinds, rows, group);
-    }
-    after_binary(kinds, flags, rows, records, group, base)
-}
-
-// Past a start: an arrow waits for its body, or what follows an operand is read.
-pub fn after_start(
-    kinds: &[u8],
-    flags: &[u8],
-    rows: &mut [u32],
-    records: &mut [u32],
-    got: Start,
-    from: Spot,
-    base: usize,
-) -> Next
-    requires { ⌜ StartFits (now kinds) (now flags) (now rows) (now records) got from base ⌝ }
-    ensures { λ x. ⌜ AfterStart (now (kinds .entry)) (now (flags .entry)) (now (rows .entry)) (now (records .entry)) got from base (now (rows .exit)) (now (records .exit)) x ⌝ }
-{
-    match got {
-        Start::Fail(cause) => Next::Fail(cause),
-        Start::Opened(d, head) => wait_body(kinds, flags, rows, records, d, head, from.top),
-        Start::Operand(d) => {
-            let operand = Group {
-                at: d.at,
-                rows: d.rows,
-                records: d.records,
-                first: from.at,
-                from: from.rows,
-                top: from.top,
-            };
-            follow(kinds, flags, rows, records, operand, base)
-        }
-    }
+    rows[6 * n + i] as usize
 }

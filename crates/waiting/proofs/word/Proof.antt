@@ -19,10 +19,10 @@ shared-slice-read-result : tie.Need-shared-slice-read-result
 shared-slice-read-result c = omega (arith, c .before .pre)
 
 cast-result : tie.Need-cast-result
-cast-result c = omega (arith, c .shared-slice-known .given (6 * c .before .args .n + c .before .args .word))
+cast-result c = omega (arith, c .shared-slice-known .given (6 * c .before .args .n + c .before .args .i))
 
 returns : tie.Need-returns
 returns c = search needs
 
 pub word-spec : {M : Type 1} → statement M
-word-spec = tie.close (tie.spec mul-result add-result mul-result-2 shared-slice-read-result cast-result returns)
+word-spec = tie.close (tie.spec  mul-result add-result mul-result-2 shared-slice-read-result cast-result returns)

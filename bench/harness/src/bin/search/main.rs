@@ -55,7 +55,8 @@ fn main() {
         let line = format!("c {} {} {}", words.len() / 6 - 1, words.len() / 3, words.join(" "));
         worst.push(Entry::Convert, found.took, "turned", &bounds, words.len() / 6, &found.tower, line);
     }
-    let real: Vec<_> = FAMILIES[0].sheets(LARGEST).into_iter().map(|sheet| (Entry::Read, sheet)).collect();
+    let real = FAMILIES.iter().find(|family| family.name == "real sheets").expect("the family");
+    let real: Vec<_> = real.sheets(LARGEST).into_iter().map(|sheet| (Entry::Read, sheet)).collect();
     let pair = |number| [(Entry::Read, random(19, number, LARGEST.tokens)), (Entry::Pattern, random_pattern(19, number, LARGEST.tokens))];
     let random: Vec<_> = (0..many).flat_map(pair).collect();
     println!("{}", worst.table);
