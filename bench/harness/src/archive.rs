@@ -3,32 +3,8 @@
 use twin::protocol::{Entries, Read, Refused};
 
 extern "C" {
-    fn vuolmaset_read(
-        k: *const u8,
-        kn: usize,
-        f: *const u8,
-        fn_: usize,
-        r: *mut u32,
-        rn: usize,
-        c: *mut u32,
-        cn: usize,
-        a: *mut usize,
-        b: *mut usize,
-        d: *mut usize,
-    ) -> u32;
-    fn vuolmaset_pattern(
-        k: *const u8,
-        kn: usize,
-        f: *const u8,
-        fn_: usize,
-        r: *mut u32,
-        rn: usize,
-        c: *mut u32,
-        cn: usize,
-        a: *mut usize,
-        b: *mut usize,
-        d: *mut usize,
-    ) -> u32;
+    fn vuolmaset_read(k: *const u8, kn: usize, f: *const u8, fn_: usize, r: *mut u32, rn: usize, c: *mut u32, cn: usize, a: *mut usize, b: *mut usize, d: *mut usize) -> u32;
+    fn vuolmaset_pattern(k: *const u8, kn: usize, f: *const u8, fn_: usize, r: *mut u32, rn: usize, c: *mut u32, cn: usize, a: *mut usize, b: *mut usize, d: *mut usize) -> u32;
     fn vuolmaset_convert(tree: *mut u32, tn: usize, row: usize, c: *mut u32, cn: usize, a: *mut usize, b: *mut usize, d: *mut usize) -> u32;
     fn vuolmaset_three_way(k: *const u8, kn: usize, f: *const u8, fn_: usize, ts: bool, jsx: bool, place: usize, told: *mut usize) -> u32;
     fn vuolmaset_subtree(tree: *const u32, tn: usize, row: usize) -> usize;
@@ -57,14 +33,16 @@ fn answer(number: u32, told: Read) -> Result<Read, Refused> {
 impl Entries for Archive {
     fn read(k: &[u8], f: &[u8], r: &mut [u32], c: &mut [u32]) -> Result<Read, Refused> {
         let [mut x, mut y, mut z] = [0; 3];
-        let number =
-            unsafe { vuolmaset_read(k.as_ptr(), k.len(), f.as_ptr(), f.len(), r.as_mut_ptr(), r.len(), c.as_mut_ptr(), c.len(), &mut x, &mut y, &mut z) };
+        let number = unsafe {
+            vuolmaset_read(k.as_ptr(), k.len(), f.as_ptr(), f.len(), r.as_mut_ptr(), r.len(), c.as_mut_ptr(), c.len(), &mut x, &mut y, &mut z)
+        };
         answer(number, [x, y, z])
     }
     fn pattern(k: &[u8], f: &[u8], r: &mut [u32], c: &mut [u32]) -> Result<Read, Refused> {
         let [mut x, mut y, mut z] = [0; 3];
-        let number =
-            unsafe { vuolmaset_pattern(k.as_ptr(), k.len(), f.as_ptr(), f.len(), r.as_mut_ptr(), r.len(), c.as_mut_ptr(), c.len(), &mut x, &mut y, &mut z) };
+        let number = unsafe {
+            vuolmaset_pattern(k.as_ptr(), k.len(), f.as_ptr(), f.len(), r.as_mut_ptr(), r.len(), c.as_mut_ptr(), c.len(), &mut x, &mut y, &mut z)
+        };
         answer(number, [x, y, z])
     }
     fn convert(tree: &mut [u32], row: usize, c: &mut [u32]) -> Result<Read, Refused> {

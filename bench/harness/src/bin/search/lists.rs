@@ -66,10 +66,17 @@ fn find(measure: &mut Measure, entry: Entry, shape: Shape) -> Found {
     Found { entry, shape, took }
 }
 
-/// Whether a unit takes more the more often it is repeated after some layers.
-fn grows(measure: &mut Measure, entry: Entry, before: &[Layer], unit: &[u8]) -> bool {
+/// The least that a list takes that goes on after some layers.
+fn least(measure: &mut Measure, entry: Entry, before: &[Layer]) -> usize {
+    let bytes = |token: &u8| find(measure, entry, Shape::of(&and(before, &[*token], 1))).took.bytes;
+    tokens(TOKENS).kinds.iter().map(bytes).min().unwrap_or(0)
+}
+
+/// Whether a unit takes more the more often it is repeated after some layers. What takes the least eight times is not tried four times.
+fn grows(measure: &mut Measure, entry: Entry, before: &[Layer], unit: &[u8], least: usize) -> bool {
     let mut bytes = |times| find(measure, entry, Shape::of(&and(before, unit, times))).took.bytes;
-    bytes(4) < bytes(8)
+    let eight = bytes(8);
+    eight > least && bytes(4) < eight
 }
 
 /// The list with a unit as often as it fits after some layers.
@@ -99,10 +106,10 @@ fn repeated(reach: &Reach, bounds: &Bounds) -> Vec<Found> {
     let lengths = (1..=reach.unit).map(|length| (length - length.min(3), length.min(3)));
     let items: Vec<_> = lengths.flat_map(|(first, rest)| sequences(&alphabet, first).into_iter().map(move |first| (first, rest))).collect();
     let found = for_all("units repeated", &items, bounds, |measure, (first, rest)| {
-        let mut found = vec![];
+        let (mut found, least) = (vec![], [Entry::Read, Entry::Pattern].map(|entry| least(measure, entry, &[])));
         for unit in sequences(&alphabet, *rest).iter().map(|rest| [&first[..], rest].concat()).filter(|unit| opens_first(unit)) {
             for entry in [Entry::Read, Entry::Pattern] {
-                if grows(measure, entry, &[], &unit) {
+                if grows(measure, entry, &[], &unit, least[entry as usize]) {
                     found.push(filled(measure, entry, &[], &unit));
                 }
             }
@@ -120,11 +127,13 @@ fn inside(reach: &Reach, bounds: &Bounds) -> Vec<Found> {
     let found = for_all("units inside others", &openings, bounds, |measure, opening| {
         let mut found = vec![];
         for entry in [Entry::Read, Entry::Pattern] {
-            if !grows(measure, entry, &[], opening) {
+            if !grows(measure, entry, &[], opening, 0) {
                 continue;
             }
+            let before = and(&[], opening, 2);
+            let least = least(measure, entry, &before);
             for unit in units.iter() {
-                if grows(measure, entry, &and(&[], opening, 2), unit) {
+                if grows(measure, entry, &before, unit, least) {
                     let often = Layer::new(opening, 1).fitting(LARGEST.tokens / 2, LARGEST.depth - brackets(unit).1);
                     found.extend([1, often].map(|times| filled(measure, entry, &and(&[], opening, times), unit)));
                 }
