@@ -62,4 +62,4 @@ returns-4 : tie.Need-returns-4
 returns-4 c = record { goes = λ all m ws p i none. c .before .before .finish-parts .ensures .goes (c .before .before .before .before .before .before .before .before .before .before .before .before .before .before .before .args .flags .now) all m (c .before .before .before .before .before .before .before .before .before .before .before .before .before .before .before .args .records .now) ws (part-at ws p i none (c .before .before .before .before .before .before .before .before .before .opens-body .ensures) (c .before .before .before .before .before .before .before .before .if1 .left) (c .before .before .before .before .before .before .is-assignment-operator .ensures ∙ ap is-assignment-operator (c .before .before .before .before .before .before .before .kind-at .ensures)) (c .before .before .before .before .before .if2 .left) (λ z. c .before .before .before .before .if3 .left (c .before .before .before .before .before .before .before .kind-at .ensures ∙ z))) }
 
 pub after-binary-spec : {M : Type 1} → statement M
-after-binary-spec = tie.close (tie.spec  opens-body-requires name-body-requires same-length same-length-2 returns kind-at-requires is-assignment-operator-requires wait-right-requires same-length-3 same-length-4 returns-2 wait-choice-requires same-length-5 returns-3 finish-parts-requires same-length-6 returns-4)
+after-binary-spec = tie.close (tie.spec opens-body-requires name-body-requires same-length same-length-2 returns kind-at-requires is-assignment-operator-requires wait-right-requires same-length-3 same-length-4 returns-2 wait-choice-requires same-length-5 returns-3 finish-parts-requires same-length-6 returns-4)

@@ -44,4 +44,4 @@ returns-3 : tie.Need-returns-3
 returns-3 c = after-operand (c .before .before .before .before .before .before .before .before .got3 .given .1) (c .before .before .before .before .follow .ensures)
 
 pub after-start-spec : {M : Type 1} → statement M
-after-start-spec = tie.close (tie.spec  enum-known-got enum-known-got-2 wait-body-requires enum-known-got-3 follow-requires returns same-length same-length-2 returns-2 same-length-3 same-length-4 returns-3)
+after-start-spec = tie.close (tie.spec enum-known-got enum-known-got-2 wait-body-requires enum-known-got-3 follow-requires returns same-length same-length-2 returns-2 same-length-3 same-length-4 returns-3)

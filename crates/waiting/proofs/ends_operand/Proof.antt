@@ -32,4 +32,4 @@ returns-3 : tie.Need-returns-3
 returns-3 c = part-waits (c .before .before .before .before .before .args .rows .now) (c .before .before .before .before .before .args .top) (c .before .before .before .before .before .args .base) (c .before .before .before .before .before .args .level) (c .before .before .before .if1 .left) (c .before .is-operation .ensures) (c .if2 .left)
 
 pub ends-operand-spec : {M : Type 1} → statement M
-ends-operand-spec = tie.close (tie.spec  returns mul-is-operation mul-is-operation-2 shared-slice-read-is-operation is-operation-requires word-requires returns-2 returns-3)
+ends-operand-spec = tie.close (tie.spec returns mul-is-operation mul-is-operation-2 shared-slice-read-is-operation is-operation-requires word-requires returns-2 returns-3)

@@ -50,4 +50,4 @@ returns : tie.Need-returns
 returns c = operation-made (c .before .before .before .before .before .before .before .before .before .before .before .before .before .before .before .before .before .before .args .kinds .now) (c .before .before .before .before .before .before .before .before .before .before .before .before .before .before .before .before .before .before .args .rows .now) (c .before .before .before .before .before .before .before .before .before .before .before .before .before .before .before .before .before .before .args .records .now) (c .before .before .before .before .before .before .before .before .before .before .before .before .before .before .before .before .before .before .args .right) (c .before .before .before .before .finish .last .1 .0) (c .before .before .before .before .finish .last .1 .1 .0) (c .before .before .before .before .finish .result) (c .before .before .before .before .before .before .before .before .before .before .before .before .before .word .ensures) (c .before .before .before .before .before .before .before .before .before .before .before .word2 .ensures) (c .before .before .before .before .before .before .before .before .before .word3 .ensures) (c .before .before .before .before .before .before .before .word4 .ensures) (omega (arith, c .before .before .before .before .before .before .before .before .before .before .before .before .before .before .before .before .before .before .pre, c .before .before .before .before .before .before .before .before .before .before .before .before .before .word .ensures, c .before .before .before .before .before .before .before .before .before .before .before .word2 .ensures, c .before .before .before .before .before .before .before .before .before .word3 .ensures, c .before .before .before .before .before .before .before .word4 .ensures, c .before .before .before .before .finish .kept, length-take-le (6 * (c .before .before .before .before .before .before .before .before .before .before .before .before .before .before .before .before .before .before .args .right .top + 1)) (c .before .before .before .before .before .before .before .before .before .before .before .before .before .before .before .before .before .before .args .rows .now) (omega (arith, c .before .before .before .before .before .before .before .before .before .before .before .before .before .before .before .before .before .before .pre, c .before .before .before .before .before .before .before .before .before .before .before .before .before .word .ensures, c .before .before .before .before .before .before .before .before .before .before .before .word2 .ensures, c .before .before .before .before .before .before .before .before .before .word3 .ensures, c .before .before .before .before .before .before .before .word4 .ensures, c .before .before .before .before .finish .kept)))) (c .before .before .before .before .finish .ensures)
 
 pub finish-operation-spec : {M : Type 1} → statement M
-finish-operation-spec = tie.close (tie.spec  word-requires word-requires-2 word-requires-3 word-requires-4 add-free mul-free slice-relend-prefix-finish slice-aggregate-finish finish-requires add-t21 same-length same-length-2 returns)
+finish-operation-spec = tie.close (tie.spec word-requires word-requires-2 word-requires-3 word-requires-4 add-free mul-free slice-relend-prefix-finish slice-aggregate-finish finish-requires add-t21 same-length same-length-2 returns)

@@ -38,4 +38,4 @@ returns : tie.Need-returns
 returns c = part-made (c .before .before .before .before .before .before .before .before .before .before .before .before .before .before .args .rows .now) (c .before .before .before .before .before .before .before .before .before .before .before .before .before .before .args .top) (c .before .before .before .before .before .before .before .before .before .before .word .ensures) (c .before .before .before .before .before .before .before .before .word2 .ensures) (c .before .before .before .before .before .before .word3 .ensures) (c .before .before .before .before .word4 .ensures) (c .before .before .over .ensures)
 
 pub finish-part-spec : {M : Type 1} → statement M
-finish-part-spec = tie.close (tie.spec  mul-kind mul-kind-2 slice-read-kind word-requires word-requires-2 word-requires-3 word-requires-4 over-requires same-length returns)
+finish-part-spec = tie.close (tie.spec mul-kind mul-kind-2 slice-read-kind word-requires word-requires-2 word-requires-3 word-requires-4 over-requires same-length returns)

@@ -11,4 +11,4 @@ returns-2 : tie.Need-returns-2
 returns-2 c = rw (ne-eqb _ _ (c .if1 .left))
 
 pub is-operation-spec : {M : Type 1} → statement M
-is-operation-spec = tie.close (tie.spec  returns returns-2)
+is-operation-spec = tie.close (tie.spec returns returns-2)

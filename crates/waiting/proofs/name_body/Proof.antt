@@ -26,4 +26,4 @@ returns : tie.Need-returns
 returns c = record { named = c .before .before .before .before .before .before .before .before .before .leaf .last .0; long = omega (arith, c .before .before .before .before .before .before .before .before .before .before .before .before .before .before .before .pre, c .before .before .before .before .before .before .before .before .before .leaf .kept, ap (λ (x : Cursor). x .rows) (c .before .before .before .before .before .before .before .before .before .leaf .ensures .is), ap (λ (x : Cursor). x .records) (c .before .before .before .before .before .before .before .before .before .leaf .ensures .is), c .before .before .before .before .wait-body .kept); d = c .before .before .before .before .before .before .before .before .before .leaf .result; leafed = c .before .before .before .before .before .before .before .before .before .leaf .ensures; waits = c .before .before .before .before .wait-body .ensures }
 
 pub name-body-spec : {M : Type 1} → statement M
-name-body-spec = tie.close (tie.spec  leaf-requires wait-body-requires same-length same-length-2 returns)
+name-body-spec = tie.close (tie.spec leaf-requires wait-body-requires same-length same-length-2 returns)

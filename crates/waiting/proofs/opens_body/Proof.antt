@@ -23,4 +23,4 @@ returns-2 : tie.Need-returns-2
 returns-2 c = opens-nowhere (c .before .before .before .before .args .kinds .now) (c .before .before .before .before .args .rows .now) (c .before .before .before .before .args .group) (c .before .kind-at .ensures) (c .if1 .left)
 
 pub opens-body-spec : {M : Type 1} → statement M
-opens-body-spec = tie.close (tie.spec  kind-at-requires sub-row-word row-word-requires returns returns-2)
+opens-body-spec = tie.close (tie.spec kind-at-requires sub-row-word row-word-requires returns returns-2)

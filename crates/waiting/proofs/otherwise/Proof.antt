@@ -26,4 +26,4 @@ returns-2 : tie.Need-returns-2
 returns-2 c = otherwise-goes (c .before .before .before .before .before .kind-at .ensures) (c .before .before .before .before .if1 .left) refl (c .before .before .set-kind .ensures)
 
 pub otherwise-spec : {M : Type 1} → statement M
-otherwise-spec = tie.close (tie.spec  kind-at-requires returns set-kind-requires add-t12 same-length returns-2)
+otherwise-spec = tie.close (tie.spec kind-at-requires returns set-kind-requires add-t12 same-length returns-2)

@@ -50,4 +50,4 @@ returns-2 : tie.Need-returns-2
 returns-2 c = body-goes (c .before .before .before .before .before .before .before .before .is-block .ensures) (c .before .before .before .before .before .before .before .if1 .left) refl (⊎-elim (λ w. breaks (c .before .before .before .before .before .before .flag-at .ensures) (w .0 .taken) (w .2 .ensures) (omega (arith, w .2 .kept)) (w .5) (w .6)) (λ w. no-break (c .before .before .before .before .before .before .flag-at .ensures) (w .0 .left) (w .1) (w .2)) (c .before .before .before .before .before .if2 .came)) (c .before .before .push-row .ensures)
 
 pub wait-body-spec : {M : Type 1} → statement M
-wait-body-spec = tie.close (tie.spec  add-is-block is-block-requires add-t14 returns add-t13 flag-at-requires say-requires sub-top add-kids push-row-requires same-length same-length-2 returns-2)
+wait-body-spec = tie.close (tie.spec add-is-block is-block-requires add-t14 returns add-t13 flag-at-requires say-requires sub-top add-kids push-row-requires same-length same-length-2 returns-2)

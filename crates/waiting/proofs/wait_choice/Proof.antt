@@ -22,4 +22,4 @@ returns : tie.Need-returns
 returns c = record { gives = refl; pushed = c .before .before .before .push-row .ensures }
 
 pub wait-choice-spec : {M : Type 1} → statement M
-wait-choice-spec = tie.close (tie.spec  sub-top push-row-requires add-t7 same-length returns)
+wait-choice-spec = tie.close (tie.spec sub-top push-row-requires add-t7 same-length returns)

@@ -35,4 +35,4 @@ returns : tie.Need-returns
 returns c = operand-waits (c .before .before .before .before .before .before .kind-at .ensures) (c .before .before .before .before .before .operation-kind .ensures) (c .before .before .before .before .right-floor .ensures) refl (c .before .before .push-row .ensures)
 
 pub wait-operand-spec : {M : Type 1} → statement M
-wait-operand-spec = tie.close (tie.spec  sub-top kind-at-requires operation-kind-requires right-floor-requires cast-floor push-row-requires add-t13 same-length returns)
+wait-operand-spec = tie.close (tie.spec sub-top kind-at-requires operation-kind-requires right-floor-requires cast-floor push-row-requires add-t13 same-length returns)

@@ -67,4 +67,4 @@ returns-2 : tie.Need-returns-2
 returns-2 c = right-goes (c .before .before .before .before .before .before .before .before .before .before .before .before .before .before .before .before .before .before .before .before .before .before .args .kinds .now) (c .before .before .before .before .before .before .before .before .before .before .before .before .before .before .before .before .before .before .before .before .before .before .args .rows .now) (c .before .before .before .before .before .before .before .before .before .before .before .before .before .before .before .before .before .before .before .before .before .before .args .records .now) (c .before .before .before .before .before .before .before .before .before .before .before .before .before .before .before .before .before .before .before .before .before .before .args .left) (c .before .before .before .before .before .before .before .before .before .before .before .before .before .before .before .before .before .before .kind-at .ensures) refl (c .before .before .before .before .before .before .before .before .before .before .before .before .before .convert-row .ensures) (omega (arith, c .before .before .before .before .before .before .before .before .before .before .before .before .before .before .before .before .before .before .before .before .before .before .pre, (length-take-le (6 * c .before .before .before .before .before .before .before .before .before .before .before .before .before .before .before .before .before .before .before .before .before .before .args .left .top) (c .before .before .before .before .before .before .before .before .before .before .before .before .before .before .before .before .before .before .before .before .before .before .args .rows .now) (omega (arith, c .before .before .before .before .before .before .before .before .before .before .before .before .before .before .before .before .before .before .before .before .before .before .pre))), c .before .before .before .before .before .before .before .before .before .before .before .before .before .convert-row .kept, c .before .before .push-row .kept)) (c .before .before .before .before .before .before .before .turned2 .given .1) (⊎-elim (λ w. plain-kind (w .0 .taken) (w .1)) (λ w. compound-kind (w .0 .left) (w .1)) (c .before .before .before .before .before .if1 .came)) (c .before .before .push-row .ensures)
 
 pub wait-right-spec : {M : Type 1} → statement M
-wait-right-spec = tie.close (tie.spec  kind-at-requires mul-free slice-relend-prefix-convert-row slice-aggregate-convert-row sub-convert-row convert-row-requires enum-known-turned enum-known-turned-2 sub-top push-row-requires add-t27 add-t28 same-length same-length-2 returns same-length-3 same-length-4 returns-2)
+wait-right-spec = tie.close (tie.spec kind-at-requires mul-free slice-relend-prefix-convert-row slice-aggregate-convert-row sub-convert-row convert-row-requires enum-known-turned enum-known-turned-2 sub-top push-row-requires add-t27 add-t28 same-length same-length-2 returns same-length-3 same-length-4 returns-2)

@@ -25,4 +25,4 @@ returns : tie.Need-returns
 returns c = search needs
 
 pub word-spec : {M : Type 1} → statement M
-word-spec = tie.close (tie.spec  mul-result add-result mul-result-2 shared-slice-read-result cast-result returns)
+word-spec = tie.close (tie.spec mul-result add-result mul-result-2 shared-slice-read-result cast-result returns)
