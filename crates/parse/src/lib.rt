@@ -39,24 +39,29 @@ pub fn comma(
     requires { ⌜ Room (now kinds) (now rows) (now records) (cursor at made said) ⌝ }
     ensures { λ x. ⌜ Met (now (kinds .entry)) (now (flags .entry)) (now (rows .entry)) (now (records .entry)) (now (notes .entry)) (now (rows .exit)) (now (records .exit)) (now (notes .exit)) (Job.expression at) made said x ⌝ }
 {
-    let got = assign(kinds, flags, rows, records, notes, at, made, said);
-    let Step::Done(part) = got else { return got };
-    let mark = part.at;
-    if tokens::kind_at(kinds, mark) != kind::COMMA {
-        return Step::Done(part);
-    }
-    let mut c = part;
-    let mut kids = 1;
+    let mut c = Cursor {
+        at,
+        rows: made,
+        records: said,
+    };
+    let mut kids = 0;
+    let mut mark = at;
     loop {
-        let place = c.at;
-        if tokens::kind_at(kinds, place) != kind::COMMA {
-            return Step::Done(over(rows, c, row::SEQUENCE, mark, at, place, kids, made));
-        }
-        let start = place + 1;
-        let more = assign(kinds, flags, rows, records, notes, start, c.rows, c.records);
-        let Step::Done(d) = more else { return more };
-        c = d;
+        let got = assign(kinds, flags, rows, records, notes, c.at, c.rows, c.records);
+        let Step::Done(d) = got else { return got };
+        let place = d.at;
         kids += 1;
+        if tokens::kind_at(kinds, place) != kind::COMMA {
+            if kids == 1 {
+                return got;
+            }
+            return Step::Done(over(rows, d, row::SEQUENCE, mark, at, place, kids, made));
+        }
+        c = d;
+        c.at = place + 1;
+        if kids == 1 {
+            mark = place;
+        }
     }
 }
 
@@ -353,22 +358,24 @@ fn args(
         if tokens::kind_at(kinds, place) == kind::R_PAREN {
             break over(rows, c, row::CALL, first, first, place + 1, kids, from);
         }
-        let got = item(kinds, flags, rows, records, notes, c.at, c.rows, c.records);
-        let Step::Done(d) = got else { return got };
+        let single = singles::single_part(kinds, place);
+        if single != 0 {
+            c = leaf(rows, place, c.rows, c.records, single);
+        } else {
+            let got = item(kinds, flags, rows, records, notes, c.at, c.rows, c.records);
+            let Step::Done(d) = got else { return got };
+            c = d;
+        }
         kids += 1;
-        let close = d.at;
+        let close = c.at;
         let next = tokens::kind_at(kinds, close);
         if next == kind::R_PAREN {
-            break over(rows, d, row::CALL, first, first, close + 1, kids, from);
+            break over(rows, c, row::CALL, first, first, close + 1, kids, from);
         }
         if next != kind::COMMA {
             return Step::Fail(Cause::Unexpected(close));
         }
-        c = Cursor {
-            at: close + 1,
-            rows: d.rows,
-            records: d.records,
-        };
+        c.at = close + 1;
     };
     Step::Done(read)
 }
@@ -448,14 +455,13 @@ fn item(
     requires { ⌜ Room (now kinds) (now rows) (now records) (cursor at made said) ⌝ }
     ensures { λ x. ⌜ Met (now (kinds .entry)) (now (flags .entry)) (now (rows .entry)) (now (records .entry)) (now (notes .entry)) (now (rows .exit)) (now (records .exit)) (now (notes .exit)) (if getD (now (kinds .entry)) at 0 is Dot3 then Job.spread at else Job.assignment at) made said x ⌝ }
 {
-    if tokens::kind_at(kinds, at) == kind::DOT3 {
-        return spread(kinds, flags, rows, records, notes, at, made, said);
+    let start = singles::part_start(kinds, at);
+    let got = assign(kinds, flags, rows, records, notes, start, made, said);
+    let Step::Done(d) = got else { return got };
+    if start == at {
+        return got;
     }
-    let single = singles::single_part(kinds, at);
-    if single != 0 {
-        return Step::Done(leaf(rows, at, made, said, single));
-    }
-    assign(kinds, flags, rows, records, notes, at, made, said)
+    Step::Done(over(rows, d, row::SPREAD, at, at, d.at, 1, made))
 }
 
 // 13.2.4 SpreadElement.
@@ -512,17 +518,22 @@ fn array(
             c = leaf(rows, c.at, c.rows, c.records, row::HOLE);
             continue;
         }
-        let got = item(kinds, flags, rows, records, notes, c.at, c.rows, c.records);
-        let Step::Done(d) = got else { return got };
-        let close = d.at;
+        let single = singles::single_part(kinds, place);
+        if single != 0 {
+            c = leaf(rows, place, c.rows, c.records, single);
+        } else {
+            let got = item(kinds, flags, rows, records, notes, c.at, c.rows, c.records);
+            let Step::Done(d) = got else { return got };
+            c = d;
+        }
+        let close = c.at;
         let next = tokens::kind_at(kinds, close);
         if next == kind::R_BRACK {
-            break over(rows, d, row::ARRAY, at, at, close + 1, kids, made);
+            break over(rows, c, row::ARRAY, at, at, close + 1, kids, made);
         }
         if next != kind::COMMA {
             return Step::Fail(Cause::Unexpected(close));
         }
-        c = d;
         c.at = close + 1;
         if k == kind::DOT3 {
             kind = row::ARRAY_REST_COMMA;
@@ -616,39 +627,38 @@ fn property(
     requires { ⌜ PartFits (now kinds) (now rows) (cursor at made said) ⌝ }
     ensures { λ x. ⌜ Met (now (kinds .entry)) (now (flags .entry)) (now (rows .entry)) (now (records .entry)) (now (notes .entry)) (now (rows .exit)) (now (records .exit)) (now (notes .exit)) (Job.property at) made said x ⌝ }
 {
+    let mut d = Cursor {
+        at,
+        rows: made,
+        records: said,
+    };
+    let mut kind = row::PROPERTY;
+    let mut mark = at;
     if keys::is_shorthand(kinds, at) {
-        let d = leaf(rows, at, made, said, row::IDENTIFIER);
+        d = leaf(rows, at, made, said, row::IDENTIFIER);
         if tokens::kind_at(kinds, at + 1) != kind::EQ {
             return Step::Done(over(rows, d, row::SHORTHAND, at, at, at + 1, 1, made));
         }
-        return init(
-            kinds,
-            flags,
-            rows,
-            records,
-            notes,
-            d.at,
-            d.rows,
-            d.records,
-            row::SHORTHAND_INIT,
-            made,
-        );
+        kind = row::SHORTHAND_INIT;
+        mark = at + 1;
+    } else {
+        let got = key(kinds, flags, rows, records, notes, at, made, said);
+        let Step::Done(name) = got else { return got };
+        let colon = name.at;
+        if tokens::kind_at(kinds, colon) != kind::COLON {
+            return Step::Fail(Cause::Unexpected(colon));
+        }
+        d = name;
     }
-    let got = key(kinds, flags, rows, records, notes, at, made, said);
-    let Step::Done(d) = got else { return got };
-    let colon = d.at;
-    if tokens::kind_at(kinds, colon) != kind::COLON {
-        return Step::Fail(Cause::Unexpected(colon));
-    }
-    let start = colon + 1;
+    let start = d.at + 1;
     let single = singles::single_part(kinds, start);
     if single != 0 {
         let e = leaf(rows, start, d.rows, d.records, single);
-        return Step::Done(over(rows, e, row::PROPERTY, at, at, e.at, 2, made));
+        return Step::Done(over(rows, e, kind, mark, at, e.at, 2, made));
     }
     let more = assign(kinds, flags, rows, records, notes, start, d.rows, d.records);
     let Step::Done(e) = more else { return more };
-    Step::Done(over(rows, e, row::PROPERTY, at, at, e.at, 2, made))
+    Step::Done(over(rows, e, kind, mark, at, e.at, 2, made))
 }
 
 // A name's initializer, from its `=` on: the name's row stands at `from`, and its token just before.

@@ -5,7 +5,7 @@ use mathlib.Core.Bool.{Bool}
 use mathlib.Core.List.{List}
 use lib.ListN.{getD}
 use Rattle.tokens.specs.Bool.{_or_, _is_, between, if_then_else_}
-use Rattle.tokens.specs.Kind.{Async, This, LParen, RParen, LBrack, RBrack, RCurly, Comma, Colon, Dot}
+use Rattle.tokens.specs.Kind.{Async, This, Dot3, LParen, RParen, LBrack, RBrack, RCurly, Comma, Colon, Dot}
 use Rattle.tokens.specs.Token.{is-name, is-literal}
 use Rattle.rows.specs.Row as Row
 use Rattle.grammar.specs.Update.{is-update-operator}
@@ -29,3 +29,7 @@ single-operand ks at = if goes-on (getD ks (at + 1) 0) then 0 else single-row (g
 -- the row of an assignment expression of one token, and 0 where it may have more
 unfoldable pub single-part : List ℕ → ℕ → ℕ
 single-part ks at = if closes (getD ks (at + 1) 0) then (if getD ks at 0 is Async then 0 else single-row (getD ks at 0)) else 0
+
+-- where the assignment expression of an element or an argument begins: past the `...` of a spread
+unfoldable pub part-start : List ℕ → ℕ → ℕ
+part-start ks at = if getD ks at 0 is Dot3 then at + 1 else at

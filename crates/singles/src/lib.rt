@@ -1,6 +1,8 @@
 // Expressions of one token (13.2): a name, `this` or a literal from which nothing goes on.
+ghost use Prim.Native.Nat.{_≤_};
 ghost use mathlib.Core.Path.{_≡_};
-ghost use Rattle.singles.specs.Singles.{single-row, goes-on, closes, single-operand, single-part};
+ghost use lib.ListN.{length};
+ghost use Rattle.singles.specs.Singles.{single-row, goes-on, closes, single-operand, single-part, part-start};
 use rows::row;
 use tokens::kind;
 
@@ -71,4 +73,15 @@ pub fn single_part(kinds: &[u8], at: usize) -> u32
         return 0;
     }
     single_row(k)
+}
+
+// Where the AssignmentExpression of an element or an argument begins: past the `...` of a spread.
+pub fn part_start(kinds: &[u8], at: usize) -> usize
+    requires { ⌜ at ≤ length (now kinds) ⌝ }
+    ensures { λ r. ⌜ r ≡ part-start (now (kinds .entry)) at ⌝ }
+{
+    if tokens::kind_at(kinds, at) == kind::DOT3 {
+        return at + 1;
+    }
+    at
 }

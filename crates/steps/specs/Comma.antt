@@ -1,133 +1,143 @@
--- `comma`, 13.16: its loop, and each way out of it. The loop begins at `part`, with r₁, s₁ and m₁.
+-- `comma`, 13.16: its loop, and each way out of it.
 -- Assumes nothing.
-use Prim.Native.Nat.{ℕ, _+_, _≤_, _<_}
-use mathlib.Core.Path.{_≡_, refl, sym, _∙_}
-use mathlib.Core.List.{List, _++_}
+use Prim.Native.Nat.{ℕ, zero, suc, _+_, _≤_, _<_}
+use mathlib.Core.Path.{_≡_, refl, sym, subst, _∙_}
+use mathlib.Core.List.{List, [], _++_}
 use native.Mathlib.Omega.{arith}
 use lib.ListN.{length, getD}
 use Rattle.tokens.specs.Kind.{Comma}
 use Rattle.tokens.specs.declared.cause.Cause.{Cause}
 use Rattle.tokens.proofs.Stands.{stands}
-use Rattle.rows.specs.Tree.{Forest, join, count}
+use Rattle.rows.specs.Tree.{Forest, nil, join, count}
 use Rattle.rows.specs.Record.{Record}
 use Rattle.rows.specs.Row as Row
 use Rattle.rows.proofs.Rows.{count-join}
-use Rattle.grammar.specs.Sheet.{Out, after-records}
+use Rattle.grammar.specs.Sheet.{Out, done, fail, after-records}
 use Rattle.grammar.specs.Job.{expression, sequence, assignment}
-use Rattle.making.specs.Post.{Comes, Room, Made, Met, Topped}
+use Rattle.making.specs.Post.{cursor, Comes, Room, Made, Met, Topped}
 use Rattle.making.specs.declared.cursor.Cursor.{Cursor}
 use Rattle.making.specs.declared.cursor.Step.{Step}
 use Rattle.making.proofs.Rules.{expression-fails, expression-one, expression-more, sequence-ends, sequence-fails, sequence-more}
 use Rattle.making.proofs.Ends.{is-done, is-fail, moved, single}
-use Rattle.making.proofs.Makes.{made-then, unmade-after, count-one, is-topped}
-use Rattle.steps.specs.Shared.{after-done, said-then, comes-to}
+use Rattle.making.proofs.Makes.{made-none, made-then, made-at, unmade-after, count-one, is-topped}
+use Rattle.steps.specs.Shared.{after-done, after-fail, said-then, comes-to}
 
--- the parts so far stand, and the rest of the Sequence is what follows
-pub record PartsSoFar (ks fs r₀ s₀ m₀ : List ℕ) (c : Cursor) (mark : ℕ) (r s m : List ℕ) (here : Cursor) (kids : ℕ) : Type 0 where
+-- the Expression began at c; the parts so far stand, and the next one begins here. The first comma is at `mark`, once there is one
+pub record CommaSoFar (ks fs r₀ s₀ m₀ : List ℕ) (c : Cursor) (r s m : List ℕ) (here : Cursor) (kids mark : ℕ) : Type 0 where
+  pub marked : mark ≤ length ks
+  pub forward : c .at ≤ here .at
+  pub inside : here .at ≤ length ks
+  pub more : c .rows ≤ here .rows
+  pub few : here .rows + kids + c .at ≤ c .rows + here .at
+  pub few-records : here .records ≤ here .at
+  pub number : kids ≤ here .at
+  pub rows-long : length r ≡ length r₀
+  pub records-long : length s ≡ length s₀
   pub so-far : Forest
   pub said : List Record
   pub counted : kids ≡ count so-far
   pub made : Made r₀ s₀ (c .rows) (c .records) r s here so-far said
-  pub rest : (out : Out (List ℕ)) → Comes ks fs (sequence (c .at) mark (here .at) so-far) m out → Comes ks fs (expression (c .at)) m₀ (after-records said out)
+  -- the next part is refused
+  pub stops : {cause : Cause} {m′ : List ℕ} → Comes ks fs (assignment (here .at)) m (fail cause m′) → Comes ks fs (expression (c .at)) m₀ (fail cause m′)
+  -- the next part is the only one
+  pub only : {p : ℕ} {ts : Forest} {rs : List Record} {m′ : List ℕ} → kids ≡ 0 → Comes ks fs (assignment (here .at)) m (done p ts rs m′) → (getD ks p 0 ≡ Comma → ⊥)
+      → Comes ks fs (expression (c .at)) m₀ (done p (join so-far ts) (said ++ rs) m′)
+  -- after the next part the Sequence goes on
+  pub goes : {p comma : ℕ} {ts : Forest} {rs : List Record} {m′ : List ℕ} {out : Out (List ℕ)} → (kids ≡ 0 → comma ≡ p) → ((kids ≡ 0 → ⊥) → comma ≡ mark)
+      → Comes ks fs (assignment (here .at)) m (done p ts rs m′) → (kids ≡ 0 → getD ks p 0 ≡ Comma)
+      → Comes ks fs (sequence (c .at) comma p (join so-far ts)) m′ out → Comes ks fs (expression (c .at)) m₀ (after-records (said ++ rs) out)
 
-pub record CommaSoFar (ks fs r₁ s₁ m₁ : List ℕ) (c : Cursor) (mark : ℕ) (part : Cursor) (r s m : List ℕ) (here : Cursor) (kids : ℕ) : Type 0 where
-  pub marked : mark < length ks
-  pub forward : c .at < here .at
-  pub inside : here .at ≤ length ks
-  pub more : c .rows ≤ here .rows
-  pub few : here .rows + c .at ≤ c .rows + here .at
-  pub room : here .rows + c .at < c .rows + length ks
-  pub few-records : here .records ≤ here .at
-  pub number : kids ≤ here .at
-  pub rows-long : length r ≡ length r₁
-  pub records-long : length s ≡ length s₁
-  pub goes : (r₀ s₀ m₀ : List ℕ) → PartsSoFar ks fs r₀ s₀ m₀ c mark r₁ s₁ m₁ part 1 → PartsSoFar ks fs r₀ s₀ m₀ c mark r s m here kids
+pub comma-starts : {ks fs r s m : List ℕ} {c : Cursor} {mark : ℕ} → Room ks r s c → mark ≡ c .at → CommaSoFar ks fs r s m c r s m c 0 mark
+unfolding count join
+comma-starts {ks} {fs} {r} {s} {m} {c} {mark} room e =
+    record {
+      marked = omega (arith, room, e);
+      forward = omega arith;
+      inside = omega (arith, room);
+      more = omega arith;
+      few = omega arith;
+      few-records = omega (arith, room);
+      number = omega arith;
+      rows-long = refl;
+      records-long = refl;
+      so-far = nil;
+      said = [];
+      counted = refl;
+      made = made-at made-none refl refl;
+      stops = λ {cause} {m′} h. expression-fails h;
+      only = λ {p} {ts} {rs} {m′} z h n. expression-one h n;
+      goes = λ {p} {comma} {ts} {rs} {m′} {out} at-first later h k f.
+          expression-more h (k refl) (subst (λ (q : ℕ). Comes ks fs (sequence (c .at) q p ts) m′ out) (at-first refl) f);
+    }
 
-module _ {ks fs r₀ s₀ m₀ r₁ s₁ m₁ : List ℕ} {c : Cursor} {x : Step} (h : Met ks fs r₀ s₀ m₀ r₁ s₁ m₁ (assignment (c .at)) (c .rows) (c .records) x) where
-  pub comma-fails : {p : Cause} → x ≡ Step.Fail p → Met ks fs r₀ s₀ m₀ r₁ s₁ m₁ (expression (c .at)) (c .rows) (c .records) x
-  comma-fails e = let f = h .fail-at _ e in is-fail e record { comes = expression-fails (f .comes); unmade = f .unmade }
+pub comma-some : (kids : ℕ) → (kids + 1 ≡ 1 → ⊥) → 1 ≤ kids
+comma-some zero h = absurd (h refl)
+comma-some (suc kids) h = omega arith
 
-  module _ {part : Cursor} {y : ℕ} (e : x ≡ Step.Done part) (k : y ≡ getD ks (part .at) 0) where
-    pub comma-one : (y ≡ Comma → ⊥) → Met ks fs r₀ s₀ m₀ r₁ s₁ m₁ (expression (c .at)) (c .rows) (c .records) (Step.Done part)
-    comma-one t =
+module _ {ks fs r₀ s₀ m₀ r₁ s₁ m₁ r s m : List ℕ} {c here : Cursor} {kids mark : ℕ} {x : Step} (w : CommaSoFar ks fs r₀ s₀ m₀ c r₁ s₁ m₁ here kids mark)
+    (h : Met ks fs r₁ s₁ m₁ r s m (assignment (here .at)) (here .rows) (here .records) x) where
+  pub comma-stops : {p : Cause} → Room ks r₀ s₀ c → x ≡ Step.Fail p → Met ks fs r₀ s₀ m₀ r s m (expression (c .at)) (c .rows) (c .records) x
+  comma-stops room e =
+      let f = h .fail-at _ e in
+      is-fail e record { comes = w .stops (f .comes); unmade = unmade-after (omega (arith, room)) (omega (arith, room)) (w .made) (f .unmade) }
+
+  module _ {d : Cursor} {y : ℕ} (e : x ≡ Step.Done d) (k : y ≡ getD ks (d .at) 0) where
+    pub comma-one : (y ≡ Comma → ⊥) → kids + 1 ≡ 1 → Met ks fs r₀ s₀ m₀ r s m (expression (c .at)) (c .rows) (c .records) (Step.Done d)
+    comma-one t z =
         let a = h .done-to _ e in
-        is-done refl record { trees = a .trees; records = a .records; comes = expression-one (a .comes) (λ q. t (k ∙ q)); made = a .made }
+        is-done refl record {
+          trees = join (w .so-far) (a .trees);
+          records = w .said ++ a .records;
+          comes = w .only (omega (arith, z)) (a .comes) (λ q. t (k ∙ q));
+          made = made-then (w .made) (a .made);
+        }
 
-    pub comma-starts : Room ks r₀ s₀ c → y ≡ Comma → CommaSoFar ks fs r₁ s₁ m₁ c (part .at) part r₁ s₁ m₁ part 1
-    comma-starts room t =
+    pub comma-ends : {r′ : List ℕ} {u : Cursor} → (y ≡ Comma → ⊥) → (kids + 1 ≡ 1 → ⊥) → Topped r d Row.Sequence mark (c .at) (d .at) (kids + 1) (c .rows) r′ u
+        → Met ks fs r₀ s₀ m₀ r′ s m (expression (c .at)) (c .rows) (c .records) (Step.Done u)
+    comma-ends t some top =
+        let a = h .done-to _ e in
+        let one-a = count-one _ _ (single _ a refl) in
+        let more : kids ≡ 0 → ⊥ = λ z. some (omega (arith, z)) in
+        is-topped top (comes-to (w .goes (λ z. absurd (more z)) (λ n. refl) (a .comes) (λ z. absurd (more z)) (sequence-ends (λ q. t (k ∙ q)))) (after-done (w .said ++ a .records) _ _ _))
+        (made-then (w .made) (a .made)) (omega (arith, w .counted, one-a, count-join (w .so-far) (a .trees)))
+
+    comma-turns : {comma : ℕ} → y ≡ Comma → (kids ≡ 0 → comma ≡ d .at) → ((kids ≡ 0 → ⊥) → comma ≡ mark) → comma ≤ length ks → length r ≡ length r₁ → length s ≡ length s₁
+        → CommaSoFar ks fs r₀ s₀ m₀ c r s m (cursor (d .at + 1) (d .rows) (d .records)) (kids + 1) comma
+    comma-turns {comma} t at-first later small l l′ =
         let a = h .done-to _ e in
         let g = moved _ a refl in
         let st = stands ks (sym k ∙ t) in
+        let one-a = count-one _ _ (single _ a refl) in
         record {
-          marked = st;
-          forward = g .forward;
-          inside = g .inside;
-          more = g .more;
-          few = omega (arith, room, g);
-          room = omega (arith, room, g);
-          few-records = omega (arith, room, g);
-          number = omega (arith, g);
-          rows-long = refl;
-          records-long = refl;
-          goes = λ r₀ s₀ m₀ v. v;
+          marked = small;
+          forward = omega (arith, w, g);
+          inside = omega (arith, st);
+          more = omega (arith, w, g);
+          few = omega (arith, w, g);
+          few-records = omega (arith, w, g);
+          number = omega (arith, w, g);
+          rows-long = omega (arith, w);
+          records-long = omega (arith, w);
+          so-far = join (w .so-far) (a .trees);
+          said = w .said ++ a .records;
+          counted = omega (arith, w .counted, one-a, count-join (w .so-far) (a .trees));
+          made = made-at (made-then (w .made) (a .made)) refl refl;
+          stops = λ {cause} {m′} f.
+              comes-to (w .goes at-first later (a .comes) (λ z. sym k ∙ t) (sequence-fails (sym k ∙ t) f)) (after-fail (w .said ++ a .records) _ _);
+          only = λ {p} {ts} {rs} {m′} z f n. absurd (omega (arith, z));
+          goes = λ {p} {comma = comma′} {ts} {rs} {m′} {out} none same f q f′.
+              said-then (w .said ++ a .records) rs out
+              (w .goes at-first later (a .comes) (λ z. sym k ∙ t) (sequence-more (sym k ∙ t) f
+              (subst (λ (v : ℕ). Comes ks fs (sequence (c .at) v p (join (join (w .so-far) (a .trees)) ts)) m′ out) (same (λ z. omega (arith, z))) f′)));
         }
 
-    module _ (t : y ≡ Comma) {r₂ s₂ m₂ : List ℕ} {here : Cursor} {kids : ℕ} (w : CommaSoFar ks fs r₁ s₁ m₁ c (part .at) part r₂ s₂ m₂ here kids) where
-      parts : PartsSoFar ks fs r₀ s₀ m₀ c (part .at) r₂ s₂ m₂ here kids
-      parts =
-          let a = h .done-to _ e in
-          w .goes r₀ s₀ m₀
-          record {
-            so-far = a .trees;
-            said = a .records;
-            counted = sym (count-one _ _ (single _ a refl));
-            made = a .made;
-            rest = λ out f. expression-more (a .comes) (sym k ∙ t) f;
-          }
+    -- the first comma, and any other
+    pub comma-marks : y ≡ Comma → kids + 1 ≡ 1 → length r ≡ length r₁ → length s ≡ length s₁
+        → CommaSoFar ks fs r₀ s₀ m₀ c r s m (cursor (d .at + 1) (d .rows) (d .records)) (kids + 1) (d .at)
+    comma-marks t z l l′ =
+        let st = stands ks (sym k ∙ t) in
+        comma-turns t (λ q. refl) (λ n. absurd (n (omega (arith, z)))) (omega (arith, st)) l l′
 
-      pub comma-ends : {r : List ℕ} {u : Cursor} {z : ℕ} → z ≡ getD ks (here .at) 0 → (z ≡ Comma → ⊥)
-          → Topped r₂ here Row.Sequence (part .at) (c .at) (here .at) kids (c .rows) r u → Met ks fs r₀ s₀ m₀ r s₂ m₂ (expression (c .at)) (c .rows) (c .records) (Step.Done u)
-      comma-ends l n top =
-          let v = parts in
-          is-topped top (comes-to (v .rest _ (sequence-ends (λ q. n (l ∙ q)))) (after-done (v .said) _ _ _)) (v .made) (v .counted)
-
-      pub comma-stops : {r s m : List ℕ} {z : ℕ} {x′ : Step} {p : Cause} → Room ks r₀ s₀ c → z ≡ getD ks (here .at) 0 → z ≡ Comma
-          → Met ks fs r₂ s₂ m₂ r s m (assignment (here .at + 1)) (here .rows) (here .records) x′ → x′ ≡ Step.Fail p
-          → Met ks fs r₀ s₀ m₀ r s m (expression (c .at)) (c .rows) (c .records) x′
-      unfolding after-records
-      comma-stops room l n h′ e′ =
-          let v = parts in
-          let f = h′ .fail-at _ e′ in
-          is-fail e′ record {
-            comes = v .rest _ (sequence-fails (sym l ∙ n) (f .comes));
-            unmade = unmade-after (omega (arith, room)) (omega (arith, room)) (v .made) (f .unmade);
-          }
-
-pub comma-turns : {ks fs r₁ s₁ m₁ r₂ s₂ m₂ r s m : List ℕ} {c part here d : Cursor} {mark kids z : ℕ} {x : Step} → CommaSoFar ks fs r₁ s₁ m₁ c mark part r₂ s₂ m₂ here kids
-    → z ≡ getD ks (here .at) 0 → z ≡ Comma → Met ks fs r₂ s₂ m₂ r s m (assignment (here .at + 1)) (here .rows) (here .records) x → x ≡ Step.Done d
-    → length r ≡ length r₂ → length s ≡ length s₂ → CommaSoFar ks fs r₁ s₁ m₁ c mark part r s m d (kids + 1)
-comma-turns w k t h e l l′ =
-    let a = h .done-to _ e in
-    let g = moved _ a refl in
-    let one-a = count-one _ _ (single _ a refl) in
-    record {
-      marked = w .marked;
-      forward = omega (arith, w, g);
-      inside = g .inside;
-      more = omega (arith, w, g);
-      few = omega (arith, w, g);
-      room = omega (arith, w, g);
-      few-records = omega (arith, w, g);
-      number = omega (arith, w, g);
-      rows-long = omega (arith, w);
-      records-long = omega (arith, w);
-      goes = λ r₀ s₀ m₀ before.
-          let v = w .goes r₀ s₀ m₀ before in
-          record {
-            so-far = join (v .so-far) (a .trees);
-            said = v .said ++ a .records;
-            counted = omega (arith, v .counted, one-a, count-join (v .so-far) (a .trees));
-            made = made-then (v .made) (a .made);
-            rest = λ out f. said-then (v .said) (a .records) out (v .rest _ (sequence-more (sym k ∙ t) (a .comes) f));
-          };
-    }
+    pub comma-again : y ≡ Comma → (kids + 1 ≡ 1 → ⊥) → length r ≡ length r₁ → length s ≡ length s₁
+        → CommaSoFar ks fs r₀ s₀ m₀ c r s m (cursor (d .at + 1) (d .rows) (d .records)) (kids + 1) mark
+    comma-again t some l l′ = comma-turns t (λ z. absurd (some (omega (arith, z)))) (λ n. refl) (w .marked) l l′

@@ -16,7 +16,7 @@ use Rattle.laws.specs.Bounds.{Limits, Bound, bounded, limits, reads}
 use Rattle.making.specs.Post.{cursor, Comes, ReadTo, Refused, Made, Unmade, Leafed, ClosedTo, NotClosed, not-read, no-token}
 use Rattle.making.specs.declared.cursor.Cursor.{Cursor}
 use Rattle.making.proofs.Makes.{made-none, made-then, made-at, made-leaf, unmade-past, unmade-after, count-one}
-use Rattle.steps.specs.Shared.{after-none, after-after, comes-to}
+use Rattle.steps.specs.Shared.{after-none, after-fail, after-after, comes-to}
 
 -- the loop began at the cursor c; now it is here, with so many kids
 pub record SoFar (ks fs r₀ s₀ m₀ : List ℕ) (start : Job) (job : ℕ → Forest → Job) (c : Cursor) (r s m : List ℕ) (here : Cursor) (kids : ℕ) : Type 0 where
@@ -73,10 +73,6 @@ parted {ks} {fs} {job = job} {n} {k} {d} at slack g le e =
 after-done : {N : Type 0} (rs : List Record) (p : ℕ) (ts : Forest) (rs′ : List Record) (m : N) → after-records rs (done p ts rs′ m) ≡ done p ts (rs ++ rs′) m
 unfolding after-records
 after-done rs p ts rs′ m = refl
-
-after-fail : {N : Type 0} (rs : List Record) (c : Cause) (m : N) → after-records rs (fail c m) ≡ fail c m
-unfolding after-records
-after-fail rs c m = refl
 
 module _ {ks fs r₀ s₀ m₀ : List ℕ} {start : Job} {job : ℕ → Forest → Job} {c : Cursor} {r s m : List ℕ} {here : Cursor} {kids : ℕ} (w : SoFar ks fs r₀ s₀ m₀ start job c r s m here kids) where
   -- what the rest of the list comes to, the whole list comes to

@@ -1,26 +1,45 @@
 -- `property`, 13.2.5: each way out of it.
 -- Assumes nothing.
-use Prim.Native.Nat.{ℕ, _+_, _-_}
+use Prim.Native.Nat.{ℕ, _+_, _≤_, _<_}
 use mathlib.Core.Path.{_≡_, refl, sym, subst, _∙_}
 use mathlib.Core.Bool.{Bool, true, false}
-use mathlib.Core.List.{List}
+use mathlib.Core.List.{List, [], _++_}
 use native.Mathlib.Omega.{arith}
-use lib.ListN.{getD}
+use lib.ListN.{length, getD}
 use Rattle.tokens.specs.declared.cause.Cause.{Cause}
-use Rattle.rows.specs.Tree.{node, cons, one, join, count}
+use Rattle.tokens.proofs.Stands.{stands}
+use Rattle.rows.specs.Tree.{Forest, node, one, join, count}
+use Rattle.rows.specs.Record.{Record}
 use Rattle.rows.specs.Row as Row
 use Rattle.rows.proofs.Rows.{count-join}
 use Rattle.grammar.specs.Sheet.{done, fail, leaf}
 use Rattle.grammar.specs.Job.{assignment, key, property}
-use Rattle.laws.specs.Bounds.{bounded}
 use Rattle.making.specs.Keys.{is-shorthand}
-use Rattle.making.specs.Post.{Room, Comes, Met, MetInit, Leafed, Topped}
+use Rattle.making.specs.Post.{Room, Comes, Made, Met, Leafed, Topped}
 use Rattle.making.specs.declared.cursor.Cursor.{Cursor}
 use Rattle.making.specs.declared.cursor.Step.{Step}
 use Rattle.making.proofs.Rules.{property-shorthand, property-init-fails, property-init, property-key-fails, property-no-colon, property-value-fails, property-done}
-use Rattle.making.proofs.Ends.{is-fail, single}
-use Rattle.making.proofs.Makes.{made-leaf, made-then, made-top, unmade-past, unmade-after, count-one, is-topped}
+use Rattle.making.proofs.Ends.{is-fail, moved, single}
+use Rattle.making.proofs.Makes.{made-leaf, made-then, unmade-past, unmade-after, count-one, is-topped}
 use Rattle.steps.specs.Cursors.{leafed-now}
+
+-- the property that began at c has its name or key, and its `=` or `:` stands at d: what follows makes the property
+pub record Keyed (ks fs r₀ s₀ m₀ : List ℕ) (c : Cursor) (r s m : List ℕ) (d : Cursor) (kind mark : ℕ) : Type 0 where
+  pub next : d .at < length ks
+  pub forward : c .at < d .at
+  pub more : c .rows ≤ d .rows
+  pub few : d .rows + c .at ≤ c .rows + d .at
+  pub few-records : d .records ≤ d .at
+  pub marked : mark < length ks
+  pub rows-long : length r ≡ length r₀
+  pub records-long : length s ≡ length s₀
+  pub trees : Forest
+  pub records : List Record
+  pub lone : count trees ≡ 1
+  pub made : Made r₀ s₀ (c .rows) (c .records) r s d trees records
+  pub fails : {cause : Cause} {m′ : List ℕ} → Comes ks fs (assignment (d .at + 1)) m (fail cause m′) → Comes ks fs (property (c .at)) m₀ (fail cause m′)
+  pub goes : {e : ℕ} {ts : Forest} {rs : List Record} {m′ : List ℕ} → Comes ks fs (assignment (d .at + 1)) m (done e ts rs m′)
+      → Comes ks fs (property (c .at)) m₀ (done e (one (node kind mark (c .at) e (join trees ts))) (records ++ rs) m′)
 
 module _ {ks fs r₀ s₀ m₀ : List ℕ} {c : Cursor} {b : Bool} (room : Room ks r₀ s₀ c) (n : b ≡ is-shorthand ks (c .at)) where
   pub property-shorthands : {r₁ r : List ℕ} {d u : Cursor} {y : ℕ} → b ≡ true → Leafed r₀ c Row.Identifier r₁ d → y ≡ getD ks (c .at + 1) 0 → (y ≡ 63 → ⊥)
@@ -28,36 +47,6 @@ module _ {ks fs r₀ s₀ m₀ : List ℕ} {c : Cursor} {b : Bool} (room : Room 
       → Met ks fs r₀ s₀ m₀ r s₀ m₀ (property (c .at)) (c .rows) (c .records) (Step.Done u)
   unfolding count
   property-shorthands t low k o top = is-topped top (property-shorthand (sym n ∙ t) (λ q. o (k ∙ q))) (made-leaf low) refl
-
-  pub property-inits : {r₁ r s m : List ℕ} {x : Step} {d : Cursor} {y : ℕ} → b ≡ true → Leafed r₀ c Row.Identifier r₁ d → y ≡ getD ks (c .at + 1) 0 → y ≡ 63
-      → MetInit ks fs r₁ s₀ m₀ r s m (d .at) Row.ShorthandInit (c .rows) (d .rows) (d .records) x
-      → Met ks fs r₀ s₀ m₀ r s m (property (c .at)) (c .rows) (c .records) x
-  unfolding count join
-  property-inits {r = r} {m = m} {d = d} t low k o h =
-      let now = leafed-now low in
-      let past : d .at + 1 ≡ c .at + 2 = omega (arith, now) in
-      let mark : d .at ≡ c .at + 1 = now .at-is in
-      let back : d .at - 1 ≡ c .at = omega (arith, now) in
-      record {
-        done-to = λ e q.
-            let i = h .init-to e q in
-            let over-name = subst (λ (p : ℕ). Topped (i .rows) (i .before) Row.ShorthandInit (c .at + 1) p (e .at) 2 (c .rows) r e) back
-            (subst (λ (p : ℕ). Topped (i .rows) (i .before) Row.ShorthandInit p (d .at - 1) (e .at) 2 (c .rows) r e) mark (i .topped)) in
-            let comes = subst (λ (p : ℕ). Comes ks fs (assignment p) m₀ (done (e .at) (i .trees) (i .records) m)) past (i .comes) in
-            let b = bounded (i .comes .settles) in
-            record {
-              trees = one (node Row.ShorthandInit (c .at + 1) (c .at) (e .at) (cons (leaf Row.Identifier (c .at)) (i .trees)));
-              records = i .records;
-              comes = property-init (sym n ∙ t) (sym k ∙ o) comes;
-              made = made-top (made-then (made-leaf low) (i .made)) over-name (omega (arith, count-one _ _ (b .single)));
-            };
-        fail-at = λ p q.
-            let f = h .init-fail p q in
-            record {
-              comes = property-init-fails (sym n ∙ t) (sym k ∙ o) (subst (λ (w : ℕ). Comes ks fs (assignment w) m₀ (fail p m)) past (f .comes));
-              unmade = unmade-after (omega (arith, room)) (omega (arith, room)) (made-leaf low) (f .unmade);
-            };
-      }
 
   pub property-refuses : {r s m : List ℕ} {x : Step} {p : Cause} → b ≡ false → Met ks fs r₀ s₀ m₀ r s m (key (c .at)) (c .rows) (c .records) x → x ≡ Step.Fail p
       → Met ks fs r₀ s₀ m₀ r s m (property (c .at)) (c .rows) (c .records) x
@@ -69,24 +58,69 @@ module _ {ks fs r₀ s₀ m₀ : List ℕ} {c : Cursor} {b : Bool} (room : Room 
       let a = h .done-to _ e in
       is-fail refl record { comes = property-no-colon (sym n ∙ t) (a .comes) (λ q. o (k ∙ q)); unmade = unmade-past (omega (arith, room)) (omega (arith, room)) (a .made) }
 
-  pub property-fails-after : {r₁ s₁ m₁ r s m : List ℕ} {x z : Step} {d : Cursor} {p : Cause} {y : ℕ} → b ≡ false → Met ks fs r₀ s₀ m₀ r₁ s₁ m₁ (key (c .at)) (c .rows) (c .records) x → x ≡ Step.Done d
-      → y ≡ getD ks (d .at) 0 → y ≡ 25 → Met ks fs r₁ s₁ m₁ r s m (assignment (d .at + 1)) (d .rows) (d .records) z → z ≡ Step.Fail p
-      → Met ks fs r₀ s₀ m₀ r s m (property (c .at)) (c .rows) (c .records) z
-  property-fails-after t h e k o h′ e′ =
-      let a = h .done-to _ e in
-      let f = h′ .fail-at _ e′ in
-      is-fail e′ record {
-        comes = property-value-fails (sym n ∙ t) (a .comes) (sym k ∙ o) (f .comes);
-        unmade = unmade-after (omega (arith, room)) (omega (arith, room)) (a .made) (f .unmade);
+  -- a name and its `=`; a key and its `:`
+  pub keyed-name : {r₁ : List ℕ} {d : Cursor} {y : ℕ} → b ≡ true → Leafed r₀ c Row.Identifier r₁ d → y ≡ getD ks (c .at + 1) 0 → y ≡ 63 → length r₁ ≡ length r₀
+      → Keyed ks fs r₀ s₀ m₀ c r₁ s₀ m₀ d Row.ShorthandInit (c .at + 1)
+  unfolding count join
+  keyed-name {d = d} t low k o l =
+      let now = leafed-now low in
+      let st = stands ks (sym k ∙ o) in
+      let past : d .at + 1 ≡ c .at + 2 = omega (arith, now) in
+      record {
+        next = omega (arith, now, st);
+        forward = omega (arith, now);
+        more = omega (arith, now);
+        few = omega (arith, now);
+        few-records = omega (arith, now, room);
+        marked = st;
+        rows-long = l;
+        records-long = refl;
+        trees = one (leaf Row.Identifier (c .at));
+        records = [];
+        lone = refl;
+        made = made-leaf low;
+        fails = λ {cause} {m′} h. property-init-fails (sym n ∙ t) (sym k ∙ o) (subst (λ (p : ℕ). Comes ks fs (assignment p) m₀ (fail cause m′)) past h);
+        goes = λ {e} {ts} {rs} {m′} h. property-init (sym n ∙ t) (sym k ∙ o) (subst (λ (p : ℕ). Comes ks fs (assignment p) m₀ (done e ts rs m′)) past h);
       }
 
-  pub property-dones : {r₁ s₁ m₁ r₂ r s m : List ℕ} {x z : Step} {d e u : Cursor} {y : ℕ} → b ≡ false → Met ks fs r₀ s₀ m₀ r₁ s₁ m₁ (key (c .at)) (c .rows) (c .records) x → x ≡ Step.Done d
-      → y ≡ getD ks (d .at) 0 → y ≡ 25 → Met ks fs r₁ s₁ m₁ r₂ s m (assignment (d .at + 1)) (d .rows) (d .records) z → z ≡ Step.Done e
-      → Topped r₂ e Row.Property (c .at) (c .at) (e .at) 2 (c .rows) r u
-      → Met ks fs r₀ s₀ m₀ r s m (property (c .at)) (c .rows) (c .records) (Step.Done u)
-  property-dones t h q k o h′ q′ top =
-      let a = h .done-to _ q in
-      let g = h′ .done-to _ q′ in
-      let one-a = count-one _ _ (single _ a refl) in
+  pub keyed-key : {r₁ s₁ m₁ : List ℕ} {x : Step} {d : Cursor} {y : ℕ} → b ≡ false → Met ks fs r₀ s₀ m₀ r₁ s₁ m₁ (key (c .at)) (c .rows) (c .records) x → x ≡ Step.Done d
+      → y ≡ getD ks (d .at) 0 → y ≡ 25 → length r₁ ≡ length r₀ → length s₁ ≡ length s₀ → Keyed ks fs r₀ s₀ m₀ c r₁ s₁ m₁ d Row.Property (c .at)
+  keyed-key t h e k o l l′ =
+      let a = h .done-to _ e in
+      let g = moved _ a refl in
+      let st = stands ks (sym k ∙ o) in
+      record {
+        next = st;
+        forward = g .forward;
+        more = g .more;
+        few = omega (arith, g);
+        few-records = omega (arith, g, room);
+        marked = omega (arith, g, st);
+        rows-long = l;
+        records-long = l′;
+        trees = a .trees;
+        records = a .records;
+        lone = count-one _ _ (single _ a refl);
+        made = a .made;
+        fails = λ {cause} {m′} f. property-value-fails (sym n ∙ t) (a .comes) (sym k ∙ o) f;
+        goes = λ {e} {ts} {rs} {m′} f. property-done (sym n ∙ t) (a .comes) (sym k ∙ o) f;
+      }
+
+-- the same where the two ways meet
+pub keyed-as : {ks fs r₀ s₀ m₀ r′ s′ m′ r s m : List ℕ} {c d d′ : Cursor} {kind kind′ mark mark′ : ℕ} → r ≡ r′ → s ≡ s′ → m ≡ m′ → d ≡ d′ → kind ≡ kind′ → mark ≡ mark′
+    → Keyed ks fs r₀ s₀ m₀ c r′ s′ m′ d′ kind′ mark′ → Keyed ks fs r₀ s₀ m₀ c r s m d kind mark
+keyed-as e e′ e″ q q′ q″ h = rw (e, e′, e″, q, q′, q″) h
+
+module _ {ks fs r₀ s₀ m₀ r₁ s₁ m₁ : List ℕ} {c d : Cursor} {kind mark : ℕ} (w : Keyed ks fs r₀ s₀ m₀ c r₁ s₁ m₁ d kind mark) where
+  pub property-fails-after : {r s m : List ℕ} {x : Step} {p : Cause} → Room ks r₀ s₀ c → Met ks fs r₁ s₁ m₁ r s m (assignment (d .at + 1)) (d .rows) (d .records) x → x ≡ Step.Fail p
+      → Met ks fs r₀ s₀ m₀ r s m (property (c .at)) (c .rows) (c .records) x
+  property-fails-after room h e =
+      let f = h .fail-at _ e in
+      is-fail e record { comes = w .fails (f .comes); unmade = unmade-after (omega (arith, room)) (omega (arith, room)) (w .made) (f .unmade) }
+
+  pub property-dones : {r₂ r s m : List ℕ} {x : Step} {e u : Cursor} → Met ks fs r₁ s₁ m₁ r₂ s m (assignment (d .at + 1)) (d .rows) (d .records) x → x ≡ Step.Done e
+      → Topped r₂ e kind mark (c .at) (e .at) 2 (c .rows) r u → Met ks fs r₀ s₀ m₀ r s m (property (c .at)) (c .rows) (c .records) (Step.Done u)
+  property-dones h q top =
+      let g = h .done-to _ q in
       let one-g = count-one _ _ (single _ g refl) in
-      is-topped top (property-done (sym n ∙ t) (a .comes) (sym k ∙ o) (g .comes)) (made-then (a .made) (g .made)) (omega (arith, one-a, one-g, count-join (a .trees) (g .trees)))
+      is-topped top (w .goes (g .comes)) (made-then (w .made) (g .made)) (omega (arith, w .lone, one-g, count-join (w .trees) (g .trees)))

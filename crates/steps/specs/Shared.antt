@@ -3,6 +3,7 @@
 use Prim.Native.Nat.{ℕ}
 use mathlib.Core.Path.{_≡_, refl, sym, ap, subst}
 use mathlib.Core.List.{List, [], _++_, append-nil, append-assoc}
+use Rattle.tokens.specs.declared.cause.Cause.{Cause}
 use Rattle.rows.specs.Tree.{Forest}
 use Rattle.rows.specs.Record.{Record}
 use Rattle.grammar.specs.Sheet.{Out, done, fail, stuck, after-records}
@@ -34,6 +35,11 @@ comes-as {ks} {fs} {m} {out = out} h e = subst (λ (x : Job). Comes ks fs x m ou
 pub after-done : {N : Type 0} (rs : List Record) (end : ℕ) (trees : Forest) (notes : N) → after-records rs (done end trees [] notes) ≡ done end trees rs notes
 unfolding after-records
 after-done rs end trees notes = ap (λ (l : List Record). done end trees l notes) (append-nil rs)
+
+-- records before an outcome that is a failure
+pub after-fail : {N : Type 0} (rs : List Record) (cause : Cause) (notes : N) → after-records rs (fail cause notes) ≡ fail cause notes
+unfolding after-records
+after-fail rs cause notes = refl
 
 -- a loop that has said records goes on with a part that says more
 pub said-then : {ks fs m₀ : List ℕ} {job : Job} (rs rs′ : List Record) (out : Out (List ℕ)) → Comes ks fs job m₀ (after-records rs (after-records rs′ out))

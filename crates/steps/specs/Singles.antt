@@ -10,13 +10,13 @@ use lib.Dec.{leb}
 use lib.ListN.{length, getD}
 use borrow.Author.Tests.{eqb-true, eqb-false, leb-true, leb-false, le-leb, lt-leb, ne-eqb}
 use Rattle.tokens.specs.Bool.{_or_, _and_, _is_, between, if_then_else_}
-use Rattle.tokens.specs.Kind.{Async, This, LParen, RParen, LBrack, RBrack, RCurly, Comma, Colon, Question, Dot, Arrow}
+use Rattle.tokens.specs.Kind.{Async, This, Dot3, LParen, RParen, LBrack, RBrack, RCurly, Comma, Colon, Question, Dot, Arrow}
 use Rattle.tokens.specs.Token.{is-name, is-literal}
 use Rattle.operators.specs.Precedence.{level, expression-level}
 use Rattle.rows.specs.Tree.{one, kind-of}
 use Rattle.rows.specs.Row as Row
 use Rattle.grammar.specs.Sheet.{Out, done, leaf, after-records}
-use Rattle.grammar.specs.Job.{primary, unary, binary, value, assignment}
+use Rattle.grammar.specs.Job.{primary, unary, binary, value, assignment, spread}
 use Rattle.grammar.specs.Assignment.{is-assignment-operator, is-async-name}
 use Rattle.grammar.specs.Update.{is-unary-operator, is-update-operator}
 use Rattle.laws.specs.Good.{and-left, and-right}
@@ -57,6 +57,9 @@ single-no-unary k h = let s = single-small k h in rw (lt-leb 30 k (omega arith),
 single-no-update : (k : ℕ) → (single-row k ≡ 0 → ⊥) → is-update-operator k ≡ false
 unfolding is-update-operator
 single-no-update k h = let s = single-small k h in rw (ne-eqb k 36 (λ z. omega arith), ne-eqb k 37 (λ z. omega arith))
+
+single-no-dots : (k : ℕ) → (single-row k ≡ 0 → ⊥) → k is Dot3 ≡ false
+single-no-dots k h = let s = single-small k h in ne-eqb k Dot3 (λ z. omega (arith, s, z))
 
 single-no-paren : (k : ℕ) → (single-row k ≡ 0 → ⊥) → k ≡ LParen → ⊥
 unfolding single-row is-name is-literal
@@ -189,14 +192,17 @@ module _ (ks : List ℕ) (at : ℕ) where
       go true q = absurd (h q)
       go false q = single-stands (λ z. h (q ∙ z))
 
-  pub assign-stands : {x : ℕ} → x ≡ single-part ks at → (x ≡ 0 → ⊥) → at < length ks
+  pub part-single : {x : ℕ} → x ≡ single-part ks at → (x ≡ 0 → ⊥) → single-row (getD ks at 0) ≡ 0 → ⊥
   unfolding single-part
-  assign-stands {x} e h = go (closes (getD ks (at + 1) 0)) (getD ks at 0 is Async) e
+  part-single {x} e h = go (closes (getD ks (at + 1) 0)) (getD ks at 0 is Async) e
     where
-      go : (b a : Bool) → x ≡ (if b then (if a then 0 else single-row (getD ks at 0)) else 0) → at < length ks
+      go : (b a : Bool) → x ≡ (if b then (if a then 0 else single-row (getD ks at 0)) else 0) → single-row (getD ks at 0) ≡ 0 → ⊥
       go true true q = absurd (h q)
-      go true false q = single-stands (λ z. h (q ∙ z))
+      go true false q = λ z. h (q ∙ z)
       go false a q = absurd (h q)
+
+  pub assign-stands : {x : ℕ} → x ≡ single-part ks at → (x ≡ 0 → ⊥) → at < length ks
+  assign-stands e h = single-stands (part-single e h)
 
 leafed : {r₀ r : List ℕ} {c d : Cursor} {x y : ℕ} → Leafed r₀ c x r d → x ≡ y → Leafed r₀ c y r d
 leafed {r₀} {r} {c} {d} top e = subst (λ (z : ℕ). Leafed r₀ c z r d) e top
@@ -224,3 +230,8 @@ module _ {ks fs r₀ s₀ m₀ r : List ℕ} {c d : Cursor} {x : ℕ} (top : Lea
       go true true g i q = absurd (h q)
       go true false g i q = is-leafed (leafed top q) (assignment-single ks fs (c .at) m₀ (λ z. h (q ∙ z)) (follows _ g) i)
       go false a g i q = absurd (h q)
+
+  -- as an element or an argument
+  pub item-singles : x ≡ single-part ks (c .at)
+      → Met ks fs r₀ s₀ m₀ r s₀ m₀ (if getD ks (c .at) 0 is Dot3 then spread (c .at) else assignment (c .at)) (c .rows) (c .records) (Step.Done d)
+  item-singles e = rw (single-no-dots _ (part-single ks (c .at) e h)) (assign-singles e)

@@ -6,16 +6,18 @@ use mathlib.Core.Bool.{Bool, true, false}
 use mathlib.Core.List.{List}
 use native.Mathlib.Omega.{arith}
 use lib.ListN.{length, getD}
-use borrow.Author.Tests.{ne-eqb}
+use borrow.Author.Tests.{eqb-true, ne-eqb}
 use Rattle.tokens.specs.Bool.{_is_, if_then_else_}
 use Rattle.tokens.specs.Kind.{Dot3}
 use Rattle.tokens.specs.declared.cause.Cause.{Cause}
+use Rattle.tokens.proofs.Stands.{stands}
 use Rattle.rows.specs.Tree.{Forest, count}
 use Rattle.rows.specs.Row as Row
 use Rattle.grammar.specs.Job.{Job, assignment, spread, property}
 use Rattle.laws.specs.Bounds.{Limits, Bound, bounded, limits, reads}
 use Rattle.laws.specs.Owed.{oweds}
 use Rattle.grammar.specs.Sheet.{sheet-of}
+use Rattle.singles.specs.Singles.{part-start}
 use Rattle.making.specs.Post.{ReadTo, Met, Topped}
 use Rattle.making.specs.declared.cursor.Cursor.{Cursor}
 use Rattle.making.specs.declared.cursor.Step.{Step}
@@ -42,6 +44,66 @@ module _ {ks fs r₀ s₀ m₀ : List ℕ} {at n k : ℕ} where
 pub spreads-not : {ks fs r₀ s₀ m₀ : List ℕ} {n k : ℕ} {r s m : List ℕ} {x : Step} {y : ℕ} {other : Job} (at : ℕ) → y ≡ getD ks at 0 → (y ≡ Dot3 → ⊥) → Met ks fs r₀ s₀ m₀ r s m other n k x
     → Met ks fs r₀ s₀ m₀ r s m (if getD ks at 0 is Dot3 then spread at else other) n k x
 spreads-not at k t h = rw (ne-eqb _ _ (λ q. t (k ∙ q))) h
+
+-- how far the dots of a spread take
+pub record Starts (ks : List ℕ) (at start : ℕ) : Type 0 where
+  pub low : at ≤ start
+  pub high : start ≤ at + 1
+  pub inside : start ≤ length ks
+
+pub starts : (ks : List ℕ) (at : ℕ) {start : ℕ} → start ≡ part-start ks at → at ≤ length ks → Starts ks at start
+unfolding part-start
+starts ks at {start} p le = go (getD ks at 0 is Dot3) refl p
+  where
+    go : (b : Bool) → getD ks at 0 is Dot3 ≡ b → start ≡ (if b then at + 1 else at) → Starts ks at start
+    go true t e = let st = stands ks (eqb-true _ _ t) in record { low = omega (arith, e); high = omega (arith, e); inside = omega (arith, e, st) }
+    go false t e = record { low = omega (arith, e); high = omega (arith, e); inside = omega (arith, e, le) }
+
+-- an element or an argument: an assignment expression, past the dots if there are any
+module _ {ks fs r₀ s₀ m₀ r₁ s₁ m₁ : List ℕ} {n k start : ℕ} {x : Step} (at : ℕ) (p : start ≡ part-start ks at) (h : Met ks fs r₀ s₀ m₀ r₁ s₁ m₁ (assignment start) n k x) where
+  spread-start : getD ks at 0 is Dot3 ≡ true → start ≡ at + 1
+  unfolding part-start
+  spread-start e = p ∙ rw e refl
+
+  plain-start : getD ks at 0 is Dot3 ≡ false → start ≡ at
+  unfolding part-start
+  plain-start e = p ∙ rw e refl
+
+  met-at : {from : ℕ} → start ≡ from → Met ks fs r₀ s₀ m₀ r₁ s₁ m₁ (assignment from) n k x
+  met-at e = subst (λ (q : ℕ). Met ks fs r₀ s₀ m₀ r₁ s₁ m₁ (assignment q) n k x) e h
+
+  pub item-fails : {c : Cause} → x ≡ Step.Fail c → Met ks fs r₀ s₀ m₀ r₁ s₁ m₁ (if getD ks at 0 is Dot3 then spread at else assignment at) n k x
+  item-fails e = go (getD ks at 0 is Dot3) refl
+    where
+      go : (b : Bool) → getD ks at 0 is Dot3 ≡ b → Met ks fs r₀ s₀ m₀ r₁ s₁ m₁ (if b then spread at else assignment at) n k x
+      go true t = spread-refused (stands ks (eqb-true _ _ t)) (met-at (spread-start t)) e
+      go false t = met-at (plain-start t)
+
+  pub item-plain : {d : Cursor} → x ≡ Step.Done d → start ≡ at → Met ks fs r₀ s₀ m₀ r₁ s₁ m₁ (if getD ks at 0 is Dot3 then spread at else assignment at) n k (Step.Done d)
+  item-plain {d} done e = go (getD ks at 0 is Dot3) refl
+    where
+      go : (b : Bool) → getD ks at 0 is Dot3 ≡ b → Met ks fs r₀ s₀ m₀ r₁ s₁ m₁ (if b then spread at else assignment at) n k (Step.Done d)
+      go true t = let q = spread-start t in absurd (omega (arith, q, e))
+      go false t = rw (← done) (met-at e)
+
+  pub item-spreads : {r : List ℕ} {d u : Cursor} → x ≡ Step.Done d → (start ≡ at → ⊥) → Topped r₁ d Row.Spread at at (d .at) 1 n r u
+      → Met ks fs r₀ s₀ m₀ r s₁ m₁ (if getD ks at 0 is Dot3 then spread at else assignment at) n k (Step.Done u)
+  item-spreads {r} {d} {u} e some top = go (getD ks at 0 is Dot3) refl
+    where
+      go : (b : Bool) → getD ks at 0 is Dot3 ≡ b → Met ks fs r₀ s₀ m₀ r s₁ m₁ (if b then spread at else assignment at) n k (Step.Done u)
+      go true t = spread-read (stands ks (eqb-true _ _ t)) (met-at (spread-start t)) e top
+      go false t = absurd (some (plain-start t))
+
+-- an element or an argument was read up to d
+pub record ItemRead (ks fs r₀ s₀ m₀ : List ℕ) (at n k : ℕ) (r s m : List ℕ) (d : Cursor) : Type 0 where
+  pub met : Met ks fs r₀ s₀ m₀ r s m (if getD ks at 0 is Dot3 then spread at else assignment at) n k (Step.Done d)
+  pub rows-long : length r ≡ length r₀
+  pub records-long : length s ≡ length s₀
+
+pub item-read : {ks fs r₀ s₀ m₀ r′ s′ m′ r s m : List ℕ} {n k : ℕ} {d d′ : Cursor} {x : Step} (at : ℕ) → r ≡ r′ → s ≡ s′ → m ≡ m′ → d ≡ d′
+    → Met ks fs r₀ s₀ m₀ r′ s′ m′ (if getD ks at 0 is Dot3 then spread at else assignment at) n k x → x ≡ Step.Done d′ → length r′ ≡ length r₀ → length s′ ≡ length s₀
+    → ItemRead ks fs r₀ s₀ m₀ at n k r s m d
+item-read {ks} {fs} {r₀} {s₀} {m₀} {n = n} {k} at e e′ e″ q h done l l′ = rw (e, e′, e″, q) record { met = rw (← done) h; rows-long = l; records-long = l′ }
 
 -- how far an element or an argument, and a part of an object, moves the cursor; each gives one tree
 pub record Went (ks : List ℕ) (at n k : ℕ) (d : Cursor) (ts : Forest) (spare : ℕ) : Type 0 where

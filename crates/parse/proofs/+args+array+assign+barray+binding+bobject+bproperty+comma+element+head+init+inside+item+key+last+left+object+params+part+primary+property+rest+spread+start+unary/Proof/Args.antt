@@ -1,17 +1,22 @@
 -- `parse::args` meets its contract, at the measure t. The loop's invariant is `ArgsSoFar`.
 -- Made from answers/args.ans by tools/fill.py. Assumes nothing.
 use Prim.Native.Nat.{ℕ, _-_}
+use mathlib.Core.Logic.{⊎-elim}
 use mathlib.Core.Path.{refl, sym, _∙_}
 use native.Mathlib.Omega.{arith}
 use lib.ListN.{length}
 use borrow.Author.Needs.{needs}
 use Rattle.tokens.proofs.Stands.{stands}
+use Rattle.steps.specs.Singles.{assign-stands, item-singles}
+use Rattle.steps.specs.Spread.{item-read}
 use Rattle.steps.specs.Args.{ArgsSoFar, args-moves, args-starts, args-ends, args-fails, args-opens, args-closes, args-turns}
 use Rattle.parse.proofs.+args+array+assign+barray+binding+bobject+bproperty+comma+element+head+init+inside+item+key+last+left+object+params+part+primary+property+rest+spread+start+unary.Lts-args as lts
 use Rattle.parse.proofs.+args+array+assign+barray+binding+bobject+bproperty+comma+element+head+init+inside+item+key+last+left+object+params+part+primary+property+rest+spread+start+unary.Proof.Measures.{args-at, item-below}
+use Rattle.making.proofs.cursor.leaf.Reads as leaf
 use Rattle.making.proofs.cursor.over.Reads as over
 use Rattle.parse.proofs.args.Reads as args
 use Rattle.parse.proofs.item.Reads as item
+use Rattle.singles.proofs.single_part.Reads as single-part
 use Rattle.tokens.proofs.kind_at.Reads as kind-at
 
 abbrev Inv-loop : lts.InvT-loop
@@ -22,10 +27,10 @@ abbrev μ-loop : lts.MeasureT-loop
 
 module _ (t : ℕ) where
   abbrev K : lts.Claims
-  K = (kind-at.Asked, kind-at.Learnt, over.Asked, over.Learnt, item-below t, item.Post)
+  K = (kind-at.Asked, kind-at.Learnt, over.Asked, over.Learnt, single-part.Asked, single-part.Learnt, leaf.Asked, leaf.Learnt, item-below t, item.Post)
 
-  add-t19 : lts.Need-add-t19 K (args-at t) args.Post Inv-loop μ-loop
-  add-t19 c = omega (arith, c .before .before .before .before .pre)
+  add-t20 : lts.Need-add-t20 K (args-at t) args.Post Inv-loop μ-loop
+  add-t20 c = omega (arith, c .before .before .before .before .pre)
 
   loop-holds : lts.Need-loop-holds K (args-at t) args.Post Inv-loop μ-loop
   loop-holds c = args-starts (c .before .before .before .before .pre .1 .0) (c .before .before .before .before .pre .1 .1)
@@ -39,8 +44,14 @@ module _ (t : ℕ) where
   over-requires : lts.Need-over-requires K (args-at t) args.Post Inv-loop μ-loop
   over-requires c κs = omega (arith, c .before .before .before .loop .inv, c .before .before .before .before .before .before .before .before .pre, stands (c .before .before .before .before .before .before .before .before .args .kinds .now) (sym (c .before .before .kind-at .ensures) ∙ c .before .if1 .taken))
 
+  single-part-requires : lts.Need-single-part-requires K (args-at t) args.Post Inv-loop μ-loop
+  single-part-requires c κs = omega (arith, c .before .before .loop .inv, c .before .before .before .before .before .before .before .pre)
+
+  leaf-requires : lts.Need-leaf-requires K (args-at t) args.Post Inv-loop μ-loop
+  leaf-requires c κs = omega (arith, c .before .before .before .before .before .loop .inv, c .before .before .before .before .before .before .before .before .before .before .pre, assign-stands (c .before .before .before .before .before .before .before .before .before .before .args .kinds .now) _ (c .before .before .single-part .ensures) (c .before .if2 .taken))
+
   item-requires : lts.Need-item-requires K (args-at t) args.Post Inv-loop μ-loop
-  item-requires c κs = omega (arith, c .before .before .before .before .before .loop .inv, c .before .before .before .before .before .before .before .before .before .before .pre)
+  item-requires c κs = omega (arith, c .before .before .before .before .before .before .before .loop .inv, c .before .before .before .before .before .before .before .before .before .before .before .before .pre)
 
   enum-known-got : lts.Need-enum-known-got K (args-at t) args.Post Inv-loop μ-loop
   enum-known-got c = search needs
@@ -49,43 +60,43 @@ module _ (t : ℕ) where
   enum-told c = search needs
 
   same-length : lts.Need-same-length K (args-at t) args.Post Inv-loop μ-loop
-  same-length c = omega (arith, c .before .before .before .before .before .before .before .before .before .before .before .before .loop .inv, c .before .before .before .before .before .before .before .before .before .before .before .before .before .before .before .before .before .pre, c .before .before .before .before .before .before .item .kept)
+  same-length c = omega (arith, c .before .before .before .before .before .before .before .before .before .before .before .before .before .before .loop .inv, c .before .before .before .before .before .before .before .before .before .before .before .before .before .before .before .before .before .before .before .pre, c .before .before .before .before .before .before .item .kept)
 
   same-length-2 : lts.Need-same-length-2 K (args-at t) args.Post Inv-loop μ-loop
-  same-length-2 c = omega (arith, c .before .before .before .before .before .before .before .before .before .before .before .before .loop .inv, c .before .before .before .before .before .before .before .before .before .before .before .before .before .before .before .before .before .pre, c .before .before .before .before .before .before .item .kept)
+  same-length-2 c = omega (arith, c .before .before .before .before .before .before .before .before .before .before .before .before .before .before .loop .inv, c .before .before .before .before .before .before .before .before .before .before .before .before .before .before .before .before .before .before .before .pre, c .before .before .before .before .before .before .item .kept)
 
   returns : lts.Need-returns K (args-at t) args.Post Inv-loop μ-loop
-  returns c = args-fails (c .before .before .before .before .before .before .before .before .before .before .before .before .loop .inv) (c .before .before .before .before .before .before .before .before .before .before .before .kind-at .ensures) (c .before .before .before .before .before .before .before .before .before .before .if1 .left) (c .before .before .before .before .before .before .item .ensures) (c .enum-told .given .1)
+  returns c = args-fails (c .before .before .before .before .before .before .before .before .before .before .before .before .before .before .loop .inv) (c .before .before .before .before .before .before .before .before .before .before .before .before .before .kind-at .ensures) (c .before .before .before .before .before .before .before .before .before .before .before .before .if1 .left) (c .before .before .before .before .before .before .item .ensures) (c .enum-told .given .1)
 
   add-kids : lts.Need-add-kids K (args-at t) args.Post Inv-loop μ-loop
-  add-kids c = omega (arith, c .before .before .before .before .before .before .before .before .before .before .before .before .before .loop .inv, c .before .before .before .before .before .before .before .before .before .before .before .before .before .before .before .before .before .before .pre, c .before .before .before .before .before .before .before .item .kept, args-moves (c .before .before .before .before .before .before .before .before .before .before .before .before .before .loop .inv) (c .before .before .before .before .before .before .before .item .ensures) (c .before .got .given .1))
+  add-kids c = omega (arith, c .before .before .before .before .loop .inv, c .before .before .before .before .before .before .before .before .before .pre, args-moves (c .before .before .before .before .loop .inv) ((⊎-elim (λ w. item-read (c .before .before .before .before .loop .c .at) (w .5) (w .6) (w .7) (w .8) (item-singles (w .2 .ensures) (w .0 .taken) (c .before .single-part .ensures)) refl (omega (arith, w .2 .kept)) refl) (λ w. item-read (c .before .before .before .before .loop .c .at) (w .12) (w .13) (w .14) (w .15) (w .4 .ensures) (w .10 .given .1) (omega (arith, w .4 .kept)) (omega (arith, w .4 .kept))) (c .if2 .came)) .met) refl)
 
   kind-at-requires-2 : lts.Need-kind-at-requires-2 K (args-at t) args.Post Inv-loop μ-loop
   kind-at-requires-2 c κs = search needs
 
   add-over-2 : lts.Need-add-over-2 K (args-at t) args.Post Inv-loop μ-loop
-  add-over-2 c = omega (arith, c .before .before .before .before .before .before .before .before .before .before .before .before .before .before .before .before .loop .inv, c .before .before .before .before .before .before .before .before .before .before .before .before .before .before .before .before .before .before .before .before .before .pre, c .before .before .before .before .before .before .before .before .before .before .item .kept, args-moves (c .before .before .before .before .before .before .before .before .before .before .before .before .before .before .before .before .loop .inv) (c .before .before .before .before .before .before .before .before .before .before .item .ensures) (c .before .before .before .before .got .given .1), stands (c .before .before .before .before .before .before .before .before .before .before .before .before .before .before .before .before .before .before .before .before .before .args .kinds .now) (sym (c .before .before .kind-at2 .ensures) ∙ c .before .if2 .taken))
+  add-over-2 c = omega (arith, c .before .before .before .before .before .before .before .loop .inv, c .before .before .before .before .before .before .before .before .before .before .before .before .pre, args-moves (c .before .before .before .before .before .before .before .loop .inv) ((⊎-elim (λ w. item-read (c .before .before .before .before .before .before .before .loop .c .at) (w .5) (w .6) (w .7) (w .8) (item-singles (w .2 .ensures) (w .0 .taken) (c .before .before .before .before .single-part .ensures)) refl (omega (arith, w .2 .kept)) refl) (λ w. item-read (c .before .before .before .before .before .before .before .loop .c .at) (w .12) (w .13) (w .14) (w .15) (w .4 .ensures) (w .10 .given .1) (omega (arith, w .4 .kept)) (omega (arith, w .4 .kept))) (c .before .before .before .if2 .came)) .met) refl, (⊎-elim (λ w. item-read (c .before .before .before .before .before .before .before .loop .c .at) (w .5) (w .6) (w .7) (w .8) (item-singles (w .2 .ensures) (w .0 .taken) (c .before .before .before .before .single-part .ensures)) refl (omega (arith, w .2 .kept)) refl) (λ w. item-read (c .before .before .before .before .before .before .before .loop .c .at) (w .12) (w .13) (w .14) (w .15) (w .4 .ensures) (w .10 .given .1) (omega (arith, w .4 .kept)) (omega (arith, w .4 .kept))) (c .before .before .before .if2 .came)), stands (c .before .before .before .before .before .before .before .before .before .before .before .before .args .kinds .now) (sym (c .before .before .kind-at2 .ensures) ∙ c .before .if3 .taken))
 
   over-requires-2 : lts.Need-over-requires-2 K (args-at t) args.Post Inv-loop μ-loop
-  over-requires-2 c κs = omega (arith, c .before .before .before .before .before .before .before .before .before .before .before .before .before .before .before .before .loop .inv, c .before .before .before .before .before .before .before .before .before .before .before .before .before .before .before .before .before .before .before .before .before .pre, c .before .before .before .before .before .before .before .before .before .before .item .kept, args-moves (c .before .before .before .before .before .before .before .before .before .before .before .before .before .before .before .before .loop .inv) (c .before .before .before .before .before .before .before .before .before .before .item .ensures) (c .before .before .before .before .got .given .1), stands (c .before .before .before .before .before .before .before .before .before .before .before .before .before .before .before .before .before .before .before .before .before .args .kinds .now) (sym (c .before .before .kind-at2 .ensures) ∙ c .before .if2 .taken))
+  over-requires-2 c κs = omega (arith, c .before .before .before .before .before .before .before .loop .inv, c .before .before .before .before .before .before .before .before .before .before .before .before .pre, args-moves (c .before .before .before .before .before .before .before .loop .inv) ((⊎-elim (λ w. item-read (c .before .before .before .before .before .before .before .loop .c .at) (w .5) (w .6) (w .7) (w .8) (item-singles (w .2 .ensures) (w .0 .taken) (c .before .before .before .before .single-part .ensures)) refl (omega (arith, w .2 .kept)) refl) (λ w. item-read (c .before .before .before .before .before .before .before .loop .c .at) (w .12) (w .13) (w .14) (w .15) (w .4 .ensures) (w .10 .given .1) (omega (arith, w .4 .kept)) (omega (arith, w .4 .kept))) (c .before .before .before .if2 .came)) .met) refl, (⊎-elim (λ w. item-read (c .before .before .before .before .before .before .before .loop .c .at) (w .5) (w .6) (w .7) (w .8) (item-singles (w .2 .ensures) (w .0 .taken) (c .before .before .before .before .single-part .ensures)) refl (omega (arith, w .2 .kept)) refl) (λ w. item-read (c .before .before .before .before .before .before .before .loop .c .at) (w .12) (w .13) (w .14) (w .15) (w .4 .ensures) (w .10 .given .1) (omega (arith, w .4 .kept)) (omega (arith, w .4 .kept))) (c .before .before .before .if2 .came)), stands (c .before .before .before .before .before .before .before .before .before .before .before .before .args .kinds .now) (sym (c .before .before .kind-at2 .ensures) ∙ c .before .if3 .taken))
 
   same-length-3 : lts.Need-same-length-3 K (args-at t) args.Post Inv-loop μ-loop
-  same-length-3 c = omega (arith, c .before .before .before .before .before .before .before .before .before .before .before .before .before .before .before .before .loop .inv, c .before .before .before .before .before .before .before .before .before .before .before .before .before .before .before .before .before .before .before .before .before .pre, c .before .before .before .before .before .before .before .before .before .before .item .kept, args-moves (c .before .before .before .before .before .before .before .before .before .before .before .before .before .before .before .before .loop .inv) (c .before .before .before .before .before .before .before .before .before .before .item .ensures) (c .before .before .before .before .got .given .1))
+  same-length-3 c = omega (arith, c .before .before .before .before .before .before .before .loop .inv, c .before .before .before .before .before .before .before .before .before .before .before .before .pre, args-moves (c .before .before .before .before .before .before .before .loop .inv) ((⊎-elim (λ w. item-read (c .before .before .before .before .before .before .before .loop .c .at) (w .5) (w .6) (w .7) (w .8) (item-singles (w .2 .ensures) (w .0 .taken) (c .before .before .before .before .single-part .ensures)) refl (omega (arith, w .2 .kept)) refl) (λ w. item-read (c .before .before .before .before .before .before .before .loop .c .at) (w .12) (w .13) (w .14) (w .15) (w .4 .ensures) (w .10 .given .1) (omega (arith, w .4 .kept)) (omega (arith, w .4 .kept))) (c .before .before .before .if2 .came)) .met) refl, (⊎-elim (λ w. item-read (c .before .before .before .before .before .before .before .loop .c .at) (w .5) (w .6) (w .7) (w .8) (item-singles (w .2 .ensures) (w .0 .taken) (c .before .before .before .before .single-part .ensures)) refl (omega (arith, w .2 .kept)) refl) (λ w. item-read (c .before .before .before .before .before .before .before .loop .c .at) (w .12) (w .13) (w .14) (w .15) (w .4 .ensures) (w .10 .given .1) (omega (arith, w .4 .kept)) (omega (arith, w .4 .kept))) (c .before .before .before .if2 .came)))
 
   same-length-4 : lts.Need-same-length-4 K (args-at t) args.Post Inv-loop μ-loop
-  same-length-4 c = omega (arith, c .before .before .before .before .before .before .before .before .before .before .before .before .before .before .before .before .loop .inv, c .before .before .before .before .before .before .before .before .before .before .before .before .before .before .before .before .before .before .before .before .before .pre, c .before .before .before .before .before .before .before .before .before .before .item .kept, args-moves (c .before .before .before .before .before .before .before .before .before .before .before .before .before .before .before .before .loop .inv) (c .before .before .before .before .before .before .before .before .before .before .item .ensures) (c .before .before .before .before .got .given .1))
+  same-length-4 c = omega (arith, c .before .before .before .before .before .before .before .loop .inv, c .before .before .before .before .before .before .before .before .before .before .before .before .pre, args-moves (c .before .before .before .before .before .before .before .loop .inv) ((⊎-elim (λ w. item-read (c .before .before .before .before .before .before .before .loop .c .at) (w .5) (w .6) (w .7) (w .8) (item-singles (w .2 .ensures) (w .0 .taken) (c .before .before .before .before .single-part .ensures)) refl (omega (arith, w .2 .kept)) refl) (λ w. item-read (c .before .before .before .before .before .before .before .loop .c .at) (w .12) (w .13) (w .14) (w .15) (w .4 .ensures) (w .10 .given .1) (omega (arith, w .4 .kept)) (omega (arith, w .4 .kept))) (c .before .before .before .if2 .came)) .met) refl, (⊎-elim (λ w. item-read (c .before .before .before .before .before .before .before .loop .c .at) (w .5) (w .6) (w .7) (w .8) (item-singles (w .2 .ensures) (w .0 .taken) (c .before .before .before .before .single-part .ensures)) refl (omega (arith, w .2 .kept)) refl) (λ w. item-read (c .before .before .before .before .before .before .before .loop .c .at) (w .12) (w .13) (w .14) (w .15) (w .4 .ensures) (w .10 .given .1) (omega (arith, w .4 .kept)) (omega (arith, w .4 .kept))) (c .before .before .before .if2 .came)))
 
   returns-2 : lts.Need-returns-2 K (args-at t) args.Post Inv-loop μ-loop
-  returns-2 c = args-opens (c .before .before .before .before .before .before .before .before .before .before .before .before .before .before .before .before .loop .inv) (c .before .before .before .before .before .before .before .before .before .before .before .before .before .before .before .kind-at .ensures) (c .before .before .before .before .before .before .before .before .before .before .before .before .before .before .if1 .left) (c .before .before .before .before .before .before .before .before .before .before .item .ensures) (c .before .before .before .before .got .given .1) (c .before .before .kind-at2 .ensures) (c .before .if2 .left) (c .if3 .taken)
+  returns-2 c = args-opens (c .before .before .before .before .before .before .before .loop .inv) (c .before .before .before .before .before .before .kind-at .ensures) (c .before .before .before .before .before .if1 .left) ((⊎-elim (λ w. item-read (c .before .before .before .before .before .before .before .loop .c .at) (w .5) (w .6) (w .7) (w .8) (item-singles (w .2 .ensures) (w .0 .taken) (c .before .before .before .before .single-part .ensures)) refl (omega (arith, w .2 .kept)) refl) (λ w. item-read (c .before .before .before .before .before .before .before .loop .c .at) (w .12) (w .13) (w .14) (w .15) (w .4 .ensures) (w .10 .given .1) (omega (arith, w .4 .kept)) (omega (arith, w .4 .kept))) (c .before .before .before .if2 .came)) .met) refl (c .before .before .kind-at2 .ensures) (c .before .if3 .left) (c .if4 .taken)
 
-  add-t35 : lts.Need-add-t35 K (args-at t) args.Post Inv-loop μ-loop
-  add-t35 c = omega (arith, c .before .before .before .before .before .before .before .before .before .before .before .before .before .before .before .before .loop .inv, c .before .before .before .before .before .before .before .before .before .before .before .before .before .before .before .before .before .before .before .before .before .pre, c .before .before .before .before .before .before .before .before .before .before .item .kept, args-moves (c .before .before .before .before .before .before .before .before .before .before .before .before .before .before .before .before .loop .inv) (c .before .before .before .before .before .before .before .before .before .before .item .ensures) (c .before .before .before .before .got .given .1), stands (c .before .before .before .before .before .before .before .before .before .before .before .before .before .before .before .before .before .before .before .before .before .args .kinds .now) (sym (c .before .before .kind-at2 .ensures) ∙ c .if3 .left))
+  add-c : lts.Need-add-c K (args-at t) args.Post Inv-loop μ-loop
+  add-c c = omega (arith, c .before .before .before .before .before .before .before .loop .inv, c .before .before .before .before .before .before .before .before .before .before .before .before .pre, args-moves (c .before .before .before .before .before .before .before .loop .inv) ((⊎-elim (λ w. item-read (c .before .before .before .before .before .before .before .loop .c .at) (w .5) (w .6) (w .7) (w .8) (item-singles (w .2 .ensures) (w .0 .taken) (c .before .before .before .before .single-part .ensures)) refl (omega (arith, w .2 .kept)) refl) (λ w. item-read (c .before .before .before .before .before .before .before .loop .c .at) (w .12) (w .13) (w .14) (w .15) (w .4 .ensures) (w .10 .given .1) (omega (arith, w .4 .kept)) (omega (arith, w .4 .kept))) (c .before .before .before .if2 .came)) .met) refl, (⊎-elim (λ w. item-read (c .before .before .before .before .before .before .before .loop .c .at) (w .5) (w .6) (w .7) (w .8) (item-singles (w .2 .ensures) (w .0 .taken) (c .before .before .before .before .single-part .ensures)) refl (omega (arith, w .2 .kept)) refl) (λ w. item-read (c .before .before .before .before .before .before .before .loop .c .at) (w .12) (w .13) (w .14) (w .15) (w .4 .ensures) (w .10 .given .1) (omega (arith, w .4 .kept)) (omega (arith, w .4 .kept))) (c .before .before .before .if2 .came)), stands (c .before .before .before .before .before .before .before .before .before .before .before .before .args .kinds .now) (sym (c .before .before .kind-at2 .ensures) ∙ c .if4 .left))
 
   loop-less : lts.Need-loop-less K (args-at t) args.Post Inv-loop μ-loop
-  loop-less c = omega (arith, c .before .before .before .before .before .before .before .before .before .before .before .before .before .before .before .before .loop .inv, c .before .before .before .before .before .before .before .before .before .before .before .before .before .before .before .before .before .before .before .before .before .pre, c .before .before .before .before .before .before .before .before .before .before .item .kept, args-moves (c .before .before .before .before .before .before .before .before .before .before .before .before .before .before .before .before .loop .inv) (c .before .before .before .before .before .before .before .before .before .before .item .ensures) (c .before .before .before .before .got .given .1), stands (c .before .before .before .before .before .before .before .before .before .before .before .before .before .before .before .before .before .before .before .before .before .args .kinds .now) (sym (c .before .before .kind-at2 .ensures) ∙ c .if3 .left))
+  loop-less c = omega (arith, c .before .before .before .before .before .before .before .loop .inv, c .before .before .before .before .before .before .before .before .before .before .before .before .pre, args-moves (c .before .before .before .before .before .before .before .loop .inv) ((⊎-elim (λ w. item-read (c .before .before .before .before .before .before .before .loop .c .at) (w .5) (w .6) (w .7) (w .8) (item-singles (w .2 .ensures) (w .0 .taken) (c .before .before .before .before .single-part .ensures)) refl (omega (arith, w .2 .kept)) refl) (λ w. item-read (c .before .before .before .before .before .before .before .loop .c .at) (w .12) (w .13) (w .14) (w .15) (w .4 .ensures) (w .10 .given .1) (omega (arith, w .4 .kept)) (omega (arith, w .4 .kept))) (c .before .before .before .if2 .came)) .met) refl, (⊎-elim (λ w. item-read (c .before .before .before .before .before .before .before .loop .c .at) (w .5) (w .6) (w .7) (w .8) (item-singles (w .2 .ensures) (w .0 .taken) (c .before .before .before .before .single-part .ensures)) refl (omega (arith, w .2 .kept)) refl) (λ w. item-read (c .before .before .before .before .before .before .before .loop .c .at) (w .12) (w .13) (w .14) (w .15) (w .4 .ensures) (w .10 .given .1) (omega (arith, w .4 .kept)) (omega (arith, w .4 .kept))) (c .before .before .before .if2 .came)), stands (c .before .before .before .before .before .before .before .before .before .before .before .before .args .kinds .now) (sym (c .before .before .kind-at2 .ensures) ∙ c .if4 .left))
 
   loop-again : lts.Need-loop-again K (args-at t) args.Post Inv-loop μ-loop
-  loop-again c = args-turns (c .before .before .before .before .before .before .before .before .before .before .before .before .before .before .before .before .loop .inv) (c .before .before .before .before .before .before .before .before .before .before .before .before .before .before .before .kind-at .ensures) (c .before .before .before .before .before .before .before .before .before .before .before .before .before .before .if1 .left) (c .before .before .before .before .before .before .before .before .before .before .item .ensures) (c .before .before .before .before .got .given .1) (c .before .before .kind-at2 .ensures) (c .if3 .left) (c .before .before .before .before .before .before .before .before .before .before .item .kept .1 .1 .0) (c .before .before .before .before .before .before .before .before .before .before .item .kept .1 .1 .1 .0)
+  loop-again c = args-turns (c .before .before .before .before .before .before .before .loop .inv) (c .before .before .before .before .before .before .kind-at .ensures) (c .before .before .before .before .before .if1 .left) ((⊎-elim (λ w. item-read (c .before .before .before .before .before .before .before .loop .c .at) (w .5) (w .6) (w .7) (w .8) (item-singles (w .2 .ensures) (w .0 .taken) (c .before .before .before .before .single-part .ensures)) refl (omega (arith, w .2 .kept)) refl) (λ w. item-read (c .before .before .before .before .before .before .before .loop .c .at) (w .12) (w .13) (w .14) (w .15) (w .4 .ensures) (w .10 .given .1) (omega (arith, w .4 .kept)) (omega (arith, w .4 .kept))) (c .before .before .before .if2 .came)) .met) refl (c .before .before .kind-at2 .ensures) (c .if4 .left) ((⊎-elim (λ w. item-read (c .before .before .before .before .before .before .before .loop .c .at) (w .5) (w .6) (w .7) (w .8) (item-singles (w .2 .ensures) (w .0 .taken) (c .before .before .before .before .single-part .ensures)) refl (omega (arith, w .2 .kept)) refl) (λ w. item-read (c .before .before .before .before .before .before .before .loop .c .at) (w .12) (w .13) (w .14) (w .15) (w .4 .ensures) (w .10 .given .1) (omega (arith, w .4 .kept)) (omega (arith, w .4 .kept))) (c .before .before .before .if2 .came)) .rows-long) ((⊎-elim (λ w. item-read (c .before .before .before .before .before .before .before .loop .c .at) (w .5) (w .6) (w .7) (w .8) (item-singles (w .2 .ensures) (w .0 .taken) (c .before .before .before .before .single-part .ensures)) refl (omega (arith, w .2 .kept)) refl) (λ w. item-read (c .before .before .before .before .before .before .before .loop .c .at) (w .12) (w .13) (w .14) (w .15) (w .4 .ensures) (w .10 .given .1) (omega (arith, w .4 .kept)) (omega (arith, w .4 .kept))) (c .before .before .before .if2 .came)) .records-long)
 
   same-length-5 : lts.Need-same-length-5 K (args-at t) args.Post Inv-loop μ-loop
   same-length-5 c = omega (arith, c .before .before .before .before .before .before .loop .inv, c .before .before .before .before .before .before .before .before .before .before .before .pre, c .before .before .over .kept, stands (c .before .before .before .before .before .before .before .before .before .before .before .args .kinds .now) (sym (c .before .before .before .before .before .kind-at .ensures) ∙ c .before .before .before .before .if1 .taken))
@@ -97,13 +108,13 @@ module _ (t : ℕ) where
   returns-3 c = args-ends (c .before .before .before .before .before .before .loop .inv) (c .before .before .before .before .before .kind-at .ensures) (c .before .before .before .before .if1 .taken) (c .before .before .over .ensures)
 
   same-length-7 : lts.Need-same-length-7 K (args-at t) args.Post Inv-loop μ-loop
-  same-length-7 c = omega (arith, c .before .before .before .before .before .before .before .before .before .before .before .before .before .before .before .before .before .before .before .loop .inv, c .before .before .before .before .before .before .before .before .before .before .before .before .before .before .before .before .before .before .before .before .before .before .before .before .pre, c .before .before .over2 .kept, c .before .before .before .before .before .before .before .before .before .before .before .before .before .item .kept, args-moves (c .before .before .before .before .before .before .before .before .before .before .before .before .before .before .before .before .before .before .before .loop .inv) (c .before .before .before .before .before .before .before .before .before .before .before .before .before .item .ensures) (c .before .before .before .before .before .before .before .got .given .1), stands (c .before .before .before .before .before .before .before .before .before .before .before .before .before .before .before .before .before .before .before .before .before .before .before .before .args .kinds .now) (sym (c .before .before .before .before .before .kind-at2 .ensures) ∙ c .before .before .before .before .if2 .taken))
+  same-length-7 c = omega (arith, c .before .before .before .before .before .before .before .before .before .before .loop .inv, c .before .before .before .before .before .before .before .before .before .before .before .before .before .before .before .pre, c .before .before .over2 .kept, args-moves (c .before .before .before .before .before .before .before .before .before .before .loop .inv) ((⊎-elim (λ w. item-read (c .before .before .before .before .before .before .before .before .before .before .loop .c .at) (w .5) (w .6) (w .7) (w .8) (item-singles (w .2 .ensures) (w .0 .taken) (c .before .before .before .before .before .before .before .single-part .ensures)) refl (omega (arith, w .2 .kept)) refl) (λ w. item-read (c .before .before .before .before .before .before .before .before .before .before .loop .c .at) (w .12) (w .13) (w .14) (w .15) (w .4 .ensures) (w .10 .given .1) (omega (arith, w .4 .kept)) (omega (arith, w .4 .kept))) (c .before .before .before .before .before .before .if2 .came)) .met) refl, (⊎-elim (λ w. item-read (c .before .before .before .before .before .before .before .before .before .before .loop .c .at) (w .5) (w .6) (w .7) (w .8) (item-singles (w .2 .ensures) (w .0 .taken) (c .before .before .before .before .before .before .before .single-part .ensures)) refl (omega (arith, w .2 .kept)) refl) (λ w. item-read (c .before .before .before .before .before .before .before .before .before .before .loop .c .at) (w .12) (w .13) (w .14) (w .15) (w .4 .ensures) (w .10 .given .1) (omega (arith, w .4 .kept)) (omega (arith, w .4 .kept))) (c .before .before .before .before .before .before .if2 .came)), stands (c .before .before .before .before .before .before .before .before .before .before .before .before .before .before .before .args .kinds .now) (sym (c .before .before .before .before .before .kind-at2 .ensures) ∙ c .before .before .before .before .if3 .taken))
 
   same-length-8 : lts.Need-same-length-8 K (args-at t) args.Post Inv-loop μ-loop
-  same-length-8 c = omega (arith, c .before .before .before .before .before .before .before .before .before .before .before .before .before .before .before .before .before .before .before .loop .inv, c .before .before .before .before .before .before .before .before .before .before .before .before .before .before .before .before .before .before .before .before .before .before .before .before .pre, c .before .before .over2 .kept, c .before .before .before .before .before .before .before .before .before .before .before .before .before .item .kept, args-moves (c .before .before .before .before .before .before .before .before .before .before .before .before .before .before .before .before .before .before .before .loop .inv) (c .before .before .before .before .before .before .before .before .before .before .before .before .before .item .ensures) (c .before .before .before .before .before .before .before .got .given .1), stands (c .before .before .before .before .before .before .before .before .before .before .before .before .before .before .before .before .before .before .before .before .before .before .before .before .args .kinds .now) (sym (c .before .before .before .before .before .kind-at2 .ensures) ∙ c .before .before .before .before .if2 .taken))
+  same-length-8 c = omega (arith, c .before .before .before .before .before .before .before .before .before .before .loop .inv, c .before .before .before .before .before .before .before .before .before .before .before .before .before .before .before .pre, c .before .before .over2 .kept, args-moves (c .before .before .before .before .before .before .before .before .before .before .loop .inv) ((⊎-elim (λ w. item-read (c .before .before .before .before .before .before .before .before .before .before .loop .c .at) (w .5) (w .6) (w .7) (w .8) (item-singles (w .2 .ensures) (w .0 .taken) (c .before .before .before .before .before .before .before .single-part .ensures)) refl (omega (arith, w .2 .kept)) refl) (λ w. item-read (c .before .before .before .before .before .before .before .before .before .before .loop .c .at) (w .12) (w .13) (w .14) (w .15) (w .4 .ensures) (w .10 .given .1) (omega (arith, w .4 .kept)) (omega (arith, w .4 .kept))) (c .before .before .before .before .before .before .if2 .came)) .met) refl, (⊎-elim (λ w. item-read (c .before .before .before .before .before .before .before .before .before .before .loop .c .at) (w .5) (w .6) (w .7) (w .8) (item-singles (w .2 .ensures) (w .0 .taken) (c .before .before .before .before .before .before .before .single-part .ensures)) refl (omega (arith, w .2 .kept)) refl) (λ w. item-read (c .before .before .before .before .before .before .before .before .before .before .loop .c .at) (w .12) (w .13) (w .14) (w .15) (w .4 .ensures) (w .10 .given .1) (omega (arith, w .4 .kept)) (omega (arith, w .4 .kept))) (c .before .before .before .before .before .before .if2 .came)), stands (c .before .before .before .before .before .before .before .before .before .before .before .before .before .before .before .args .kinds .now) (sym (c .before .before .before .before .before .kind-at2 .ensures) ∙ c .before .before .before .before .if3 .taken))
 
   returns-4 : lts.Need-returns-4 K (args-at t) args.Post Inv-loop μ-loop
-  returns-4 c = args-closes (c .before .before .before .before .before .before .before .before .before .before .before .before .before .before .before .before .before .before .before .loop .inv) (c .before .before .before .before .before .before .before .before .before .before .before .before .before .before .before .before .before .before .kind-at .ensures) (c .before .before .before .before .before .before .before .before .before .before .before .before .before .before .before .before .before .if1 .left) (c .before .before .before .before .before .before .before .before .before .before .before .before .before .item .ensures) (c .before .before .before .before .before .before .before .got .given .1) (c .before .before .before .before .before .kind-at2 .ensures) (c .before .before .before .before .if2 .taken) (c .before .before .over2 .ensures)
+  returns-4 c = args-closes (c .before .before .before .before .before .before .before .before .before .before .loop .inv) (c .before .before .before .before .before .before .before .before .before .kind-at .ensures) (c .before .before .before .before .before .before .before .before .if1 .left) ((⊎-elim (λ w. item-read (c .before .before .before .before .before .before .before .before .before .before .loop .c .at) (w .5) (w .6) (w .7) (w .8) (item-singles (w .2 .ensures) (w .0 .taken) (c .before .before .before .before .before .before .before .single-part .ensures)) refl (omega (arith, w .2 .kept)) refl) (λ w. item-read (c .before .before .before .before .before .before .before .before .before .before .loop .c .at) (w .12) (w .13) (w .14) (w .15) (w .4 .ensures) (w .10 .given .1) (omega (arith, w .4 .kept)) (omega (arith, w .4 .kept))) (c .before .before .before .before .before .before .if2 .came)) .met) refl (c .before .before .before .before .before .kind-at2 .ensures) (c .before .before .before .before .if3 .taken) (c .before .before .over2 .ensures)
 
   pub args-closed : {M : Type 1} → lts.Closed K (args-at t) args.Post M
-  args-closed = lts.spec K (args-at t) args.Post Inv-loop μ-loop add-t19 loop-holds kind-at-requires add-over over-requires item-requires enum-known-got enum-told same-length same-length-2 returns add-kids kind-at-requires-2 add-over-2 over-requires-2 same-length-3 same-length-4 returns-2 add-t35 loop-less loop-again same-length-5 same-length-6 returns-3 same-length-7 same-length-8 returns-4
+  args-closed = lts.spec K (args-at t) args.Post Inv-loop μ-loop add-t20 loop-holds kind-at-requires add-over over-requires single-part-requires leaf-requires item-requires enum-known-got enum-told same-length same-length-2 returns add-kids kind-at-requires-2 add-over-2 over-requires-2 same-length-3 same-length-4 returns-2 add-c loop-less loop-again same-length-5 same-length-6 returns-3 same-length-7 same-length-8 returns-4
