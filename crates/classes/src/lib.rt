@@ -11,14 +11,14 @@ pub fn between(low: u8, high: u8, k: u8) -> bool
     low <= k && k <= high
 }
 
-// A name: kinds 1 to 5.
+// A name: kinds 1 to 5. Stands for `is_identifier_reference`.
 pub fn is_name(k: u8) -> bool
     ensures { λ r. ⌜ r ≡ is-name k ⌝ }
 {
     between(kind::IDENT, kind::MODIFIER, k)
 }
 
-// A word: what may stand as a key or after a dot. 1 to 10, 14 to 17, 32 to 35, 52, 53.
+// A word: what may stand as a key or after a dot. 1 to 10, 14 to 17, 32 to 35, 52, 53. Stands for `parse_identifier_name`.
 pub fn is_word(k: u8) -> bool
     ensures { λ r. ⌜ r ≡ is-word k ⌝ }
 {
@@ -34,14 +34,14 @@ pub fn is_word(k: u8) -> bool
     between(kind::INSTANCEOF, kind::IN, k)
 }
 
-// A literal: kinds 8 to 13.
+// A literal: kinds 8 to 13. Stands for `is_literal`.
 pub fn is_literal(k: u8) -> bool
     ensures { λ r. ⌜ r ≡ is-literal k ⌝ }
 {
     between(kind::NULL, kind::REG_EXP, k)
 }
 
-// What the three-way answer takes for a name: 1 to 5, 14, 15.
+// What the three-way answer takes for a name: 1 to 5, 14, 15. Stands for `is_binding_identifier`.
 pub fn is_binding_identifier(k: u8) -> bool
     ensures { λ r. ⌜ r ≡ is-binding-identifier k ⌝ }
 {
@@ -51,7 +51,7 @@ pub fn is_binding_identifier(k: u8) -> bool
     between(kind::AWAIT, kind::YIELD, k)
 }
 
-// What the three-way answer takes for a modifier: 2, 5, 6, 53.
+// What the three-way answer takes for a modifier: 2, 5, 6, 53. Stands for `is_modifier_kind`.
 pub fn is_modifier_kind(k: u8) -> bool
     ensures { λ r. ⌜ r ≡ is-modifier-kind k ⌝ }
 {

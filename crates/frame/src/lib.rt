@@ -83,6 +83,7 @@ fn noted(notes: &[u8; 2048], tokens: usize) -> usize
 }
 
 // Record 8 of a row: a ShorthandInit that was never converted, at its mark. The answer is how many records there are then.
+// Follows a part of `check_unfinished_errors`.
 fn unconverted_row(rows: &[u32], records: &mut [u32], n: usize, used: usize) -> usize
     requires { ⌜ LastRowRoom (now rows) (length (now records)) n used ⌝ }
     ensures { λ x. ⌜ GrownRecords (now (records .entry)) used (now (records .exit)) x (unconverted-row (now (rows .entry)) n) ⌝ }
@@ -96,7 +97,7 @@ fn unconverted_row(rows: &[u32], records: &mut [u32], n: usize, used: usize) -> 
     used + 1
 }
 
-// Record 8 of the first n rows, in row order.
+// Record 8 of the first n rows, in row order. Follows `check_unfinished_errors`.
 fn unconverted(rows: &[u32], records: &mut [u32], n: usize, used: usize) -> usize
     requires { ⌜ LastRoom (now rows) (length (now records)) n used ⌝ }
     ensures { λ x. ⌜ GrownRecords (now (records .entry)) used (now (records .exit)) x (unconverted-rows (now (rows .entry)) 0 n) ⌝ }
@@ -120,6 +121,7 @@ fn refuse(rows: &mut [u32], records: &mut [u32], cause: Cause) -> Answer
 }
 
 // What is left when a reading ends: refused, every word of both buffers is 0; read, the words past the used ones are 0.
+// Follows a part of `parse_expression`.
 pub fn finish(
     kinds: &[u8],
     rows: &mut [u32],

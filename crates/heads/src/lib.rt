@@ -38,7 +38,7 @@ pub fn is_commit(way: Way) -> bool
     }
 }
 
-// `(` and Async may open a head.
+// `(` and Async may open a head. Follows a part of `is_parenthesized_arrow_function_expression`.
 fn may_open(k: u8) -> bool
     ensures { λ r. ⌜ r ≡ may-open k ⌝ }
 {
@@ -46,6 +46,7 @@ fn may_open(k: u8) -> bool
 }
 
 // The three-way answer with both flags off, at `(` or Async; a place whose head failed is passed.
+// Follows `try_parse_parenthesized_arrow_function_expression` and a part of `parse_possible_parenthesized_arrow_function_expression`.
 pub fn way_at(kinds: &[u8], flags: &[u8], notes: &[u8; 2048], at: usize) -> Way
     requires { ⌜ length (now kinds) ≤ 2048 ⌝ }
     ensures { λ r. ⌜ way-of r ≡ way-at (now (kinds .entry)) (now (flags .entry)) (now (notes .entry)) at ⌝ }
@@ -73,6 +74,7 @@ pub fn way_at(kinds: &[u8], flags: &[u8], notes: &[u8; 2048], at: usize) -> Way
 }
 
 // Drops a head that failed: its place is noted, and none of its records stays. The answer is how many records there are then.
+// Follows a part of `parse_possible_parenthesized_arrow_function_expression`.
 pub fn drop_head(notes: &mut [u8; 2048], at: usize, said: usize) -> usize
     requires { ⌜ at < 2048 ⌝ }
     ensures { λ r. ⌜ Dropped (now (notes .entry)) at said (now (notes .exit)) r ⌝ }
@@ -82,6 +84,7 @@ pub fn drop_head(notes: &mut [u8; 2048], at: usize, said: usize) -> usize
 }
 
 // A head that was read: the kind of its arrow, where it begins, the row of its first parameter, and how many parameters it has.
+// Follows `ArrowFunctionHead`.
 pub struct Head {
     pub kind: u32,
     pub first: usize,
@@ -89,7 +92,7 @@ pub struct Head {
     pub kids: usize,
 }
 
-// The head that began at a place.
+// The head that began at a place. Follows a part of `parse_parenthesized_arrow_function_head`.
 pub fn head_of(kinds: &[u8], first: usize, from: usize, kids: usize) -> Head
     ensures { λ r. ⌜ r ≡ record { kind = arrow-kind (now (kinds .entry)) first; first = first; from = from; kids = kids } ⌝ }
 {
@@ -109,7 +112,7 @@ pub fn head_of(kinds: &[u8], first: usize, from: usize, kids: usize) -> Head
     }
 }
 
-// Async, a name on its line, and `=>`.
+// Async, a name on its line, and `=>`. Follows `is_un_parenthesized_async_arrow_function_worker`.
 pub fn is_async_name(kinds: &[u8], flags: &[u8], at: usize) -> bool
     ensures { λ r. ⌜ r ≡ is-async-name (sheet-of (now (kinds .entry)) (now (flags .entry))) at ⌝ }
 {
@@ -125,7 +128,7 @@ pub fn is_async_name(kinds: &[u8], flags: &[u8], at: usize) -> bool
     false
 }
 
-// Whether a body that begins at the place is a block, which the box does not read.
+// Whether a body that begins at the place is a block, which the box does not read. Follows a part of `parse_arrow_function_expression_body`.
 pub fn is_block(kinds: &[u8], at: usize) -> bool
     ensures { λ r. ⌜ r ≡ is-block (now (kinds .entry)) at ⌝ }
 {

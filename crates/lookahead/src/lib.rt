@@ -7,7 +7,7 @@ use tokens::cause::Cause;
 use tokens::check::Checked;
 use tokens::kind;
 
-// What the next tokens say of a head: it is none, it is one, or it has to be tried.
+// What the next tokens say of a head: it is none, it is one, or it has to be tried. Follows `Tristate`.
 pub enum Tristate {
     False,
     True,
@@ -20,7 +20,7 @@ pub enum ThreeWay {
     Refused(Cause),
 }
 
-// `()`: what stands after it decides.
+// `()`: what stands after it decides. Follows a part of `is_parenthesized_arrow_function_expression_worker`.
 fn no_parameters(is_ts: bool, is_async: bool, third: u8) -> Tristate
     ensures { λ r. ⌜ r ≡ no-parameters «is_ts» «is_async» third ⌝ }
 {
@@ -39,7 +39,7 @@ fn no_parameters(is_ts: bool, is_async: bool, third: u8) -> Tristate
     }
 }
 
-// `(...`: a plain name makes it a head, a literal none.
+// `(...`: a plain name makes it a head, a literal none. Follows a part of `is_parenthesized_arrow_function_expression_worker`.
 fn rest_parameter(third: u8) -> Tristate
     ensures { λ r. ⌜ r ≡ rest-parameter third ⌝ }
 {
@@ -52,7 +52,7 @@ fn rest_parameter(third: u8) -> Tristate
     Tristate::Maybe
 }
 
-// `(` a name or `this`, and what stands after it.
+// `(` a name or `this`, and what stands after it. Follows a part of `is_parenthesized_arrow_function_expression_worker`.
 fn after_name(third: u8, fourth: u8) -> Tristate
     ensures { λ r. ⌜ r ≡ after-name third fourth ⌝ }
 {
@@ -70,7 +70,7 @@ fn after_name(third: u8, fourth: u8) -> Tristate
     }
 }
 
-// `(` and two words, a modifier but no Async and a name.
+// `(` and two words, a modifier but no Async and a name. Follows a part of `is_parenthesized_arrow_function_expression_worker`.
 fn modified_name(second: u8, third: u8) -> bool
     ensures { λ r. ⌜ r ≡ modified-name second third ⌝ }
 {
@@ -83,7 +83,7 @@ fn modified_name(second: u8, third: u8) -> bool
     false
 }
 
-// `(` and then neither `)`, `[`, `{` nor `...`.
+// `(` and then neither `)`, `[`, `{` nor `...`. Follows a part of `is_parenthesized_arrow_function_expression_worker`.
 fn first_parameter(second: u8, third: u8, fourth: u8) -> Tristate
     ensures { λ r. ⌜ r ≡ first-parameter second third fourth ⌝ }
 {
@@ -102,7 +102,7 @@ fn first_parameter(second: u8, third: u8, fourth: u8) -> Tristate
     Tristate::False
 }
 
-// `(` at the place.
+// `(` at the place. Follows a part of `is_parenthesized_arrow_function_expression_worker`.
 fn after_paren(kinds: &[u8], is_ts: bool, is_async: bool, at: usize) -> Tristate
     ensures { λ r. ⌜ r ≡ after-paren (now (kinds .entry)) «is_ts» «is_async» at ⌝ }
 {
@@ -116,7 +116,7 @@ fn after_paren(kinds: &[u8], is_ts: bool, is_async: bool, at: usize) -> Tristate
     }
 }
 
-// `<` and a name, with JSX.
+// `<` and a name, with JSX. Follows a part of `is_parenthesized_arrow_function_expression_worker`.
 fn type_parameter(third: u8, fourth: u8) -> Tristate
     ensures { λ r. ⌜ r ≡ type-parameter third fourth ⌝ }
 {
@@ -135,7 +135,7 @@ fn type_parameter(third: u8, fourth: u8) -> Tristate
     }
 }
 
-// Whether a kind may stand after `<`: a name or Const.
+// Whether a kind may stand after `<`: a name or Const. Follows a part of `is_parenthesized_arrow_function_expression_worker`.
 fn names_type(second: u8) -> bool
     ensures { λ r. ⌜ r ≡ names-type second ⌝ }
 {
@@ -145,7 +145,7 @@ fn names_type(second: u8) -> bool
     classes::is_binding_identifier(second)
 }
 
-// `<` at the place.
+// `<` at the place. Follows a part of `is_parenthesized_arrow_function_expression_worker`.
 fn after_angle(kinds: &[u8], is_jsx: bool, at: usize) -> Tristate
     ensures { λ r. ⌜ r ≡ after-angle (now (kinds .entry)) «is_jsx» at ⌝ }
 {
@@ -168,7 +168,7 @@ fn after_angle(kinds: &[u8], is_jsx: bool, at: usize) -> Tristate
     Tristate::False
 }
 
-// `(` or `<` at the place, and False at any other start.
+// `(` or `<` at the place, and False at any other start. Follows a part of `is_parenthesized_arrow_function_expression_worker`.
 fn after_open(kinds: &[u8], is_ts: bool, is_jsx: bool, is_async: bool, at: usize) -> Tristate
     ensures { λ r. ⌜ r ≡ after-open (now (kinds .entry)) «is_ts» «is_jsx» «is_async» at ⌝ }
 {
@@ -180,7 +180,7 @@ fn after_open(kinds: &[u8], is_ts: bool, is_jsx: bool, is_async: bool, at: usize
     }
 }
 
-// The worker of arrow.rs: an Async is eaten, and what opens must stand on its line.
+// The worker of arrow.rs: an Async is eaten, and what opens must stand on its line. Follows `is_parenthesized_arrow_function_expression_worker`.
 fn is_parenthesized_arrow_function_expression_worker(
     kinds: &[u8],
     flags: &[u8],
@@ -200,7 +200,7 @@ fn is_parenthesized_arrow_function_expression_worker(
     after_open(kinds, is_ts, is_jsx, true, at + 1)
 }
 
-// The three-way answer at any place, with the short cut for `(` before a literal.
+// The three-way answer at any place, with the short cut for `(` before a literal. Follows `is_parenthesized_arrow_function_expression`.
 pub fn is_parenthesized_arrow_function_expression(
     kinds: &[u8],
     flags: &[u8],

@@ -58,7 +58,7 @@ pub fn over(
     }
 }
 
-// A record is added.
+// A record is added. Stands for `error`.
 pub fn say(records: &mut [u32], c: Cursor, number: u32, place: usize) -> Cursor
     requires { ⌜ SayRoom (length (now records)) c place ⌝ }
     ensures { λ d. ⌜ Said (now (records .entry)) c number place (now (records .exit)) d ⌝ }

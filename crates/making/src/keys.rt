@@ -4,6 +4,7 @@ ghost use Rattle.making.specs.Keys.{is-shorthand, is-key};
 use tokens::kind;
 
 // Whether a name stands at the place and no `:` after it: a shorthand.
+// Follows a part of `parse_object_literal_element` and of `parse_binding_property`.
 pub fn is_shorthand(kinds: &[u8], at: usize) -> bool
     ensures { λ r. ⌜ r ≡ is-shorthand (now (kinds .entry)) at ⌝ }
 {
@@ -13,7 +14,7 @@ pub fn is_shorthand(kinds: &[u8], at: usize) -> bool
     false
 }
 
-// A key of one token.
+// A key of one token. Follows a part of `parse_property_name`.
 pub fn is_key(k: u8) -> bool
     ensures { λ r. ⌜ r ≡ is-key k ⌝ }
 {

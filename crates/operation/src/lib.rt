@@ -13,7 +13,7 @@ use rows::row;
 use targets::Conversion;
 use tokens::kind;
 
-// The level above which an operator's right operand reads on: its own, but for `**`.
+// The level above which an operator's right operand reads on: its own, but for `**`. Stands for a part of `parse_binary_expression_or_higher`.
 pub fn right_floor(operator: u8) -> u8
     ensures { λ r. ⌜ r ≡ Binary.right-floor operator ⌝ }
 {
@@ -24,7 +24,7 @@ pub fn right_floor(operator: u8) -> u8
     level
 }
 
-// `??`, `||` and `&&` make a Logical row, all other operators a Binary one.
+// `??`, `||` and `&&` make a Logical row, all other operators a Binary one. Stands for a part of `parse_binary_expression_or_higher`.
 pub fn operation_kind(operator: u8) -> u32
     ensures { λ r. ⌜ r ≡ Binary.operation-kind operator ⌝ }
 {
@@ -41,7 +41,7 @@ fn place_of(word: u32) -> usize
     word as usize
 }
 
-// Whether the row is a Logical one whose own operator is `||` or `&&`.
+// Whether the row is a Logical one whose own operator is `||` or `&&`. Stands for a part of `parse_binary_expression_or_higher`.
 fn is_or_and(kinds: &[u8], rows: &[u32], root: usize) -> bool
     ensures { λ r. ⌜ r ≡ Operation.or-and (now (kinds .entry)) (now (rows .entry)) root ⌝ }
 {
@@ -52,6 +52,7 @@ fn is_or_and(kinds: &[u8], rows: &[u32], root: usize) -> bool
 }
 
 // 6 for `??` with a bare `||` or `&&` operand, 7 for a bare Unary left of `**`, 0 for no record.
+// Stands for a part of `parse_binary_expression_or_higher`.
 fn record_number(kinds: &[u8], rows: &[u32], at: usize, left: usize, right: usize) -> u32
     ensures { λ r. ⌜ r ≡ Operation.record-number (now (kinds .entry)) (now (rows .entry)) at left right ⌝ }
 {
@@ -74,7 +75,7 @@ fn record_number(kinds: &[u8], rows: &[u32], at: usize, left: usize, right: usiz
     0
 }
 
-// A binary row over the operands that stand from `from` and from `left`, and its record.
+// A binary row over the operands that stand from `from` and from `left`, and its record. Stands for a part of `parse_binary_expression_or_higher`.
 pub fn finish(
     kinds: &[u8],
     rows: &mut [u32],
@@ -98,7 +99,7 @@ pub fn finish(
     say(records, done, number, at)
 }
 
-// 13.15: = and the compound operators.
+// 13.15: = and the compound operators. Stands for a part of `parse_assignment_expression_or_higher_impl`.
 pub fn is_assignment_operator(k: u8) -> bool
     ensures { λ r. ⌜ r ≡ Assignment.is-assignment-operator k ⌝ }
 {

@@ -5,7 +5,7 @@ ghost use Rattle.operators.specs.Precedence.{level, expression-level};
 ghost use Rattle.operators.specs.Operator.{binary-operator, unary-operator, logical-operator, update-operator, assignment-operator};
 use tokens::kind;
 
-// The precedence level of each kind byte, 0 for none: `??` 1, .., `**` 12.
+// The precedence level of each kind byte, 0 for none: `??` 1, .., `**` 12. Follows `PRECEDENCE_TABLE`.
 const PRECEDENCE_TABLE: [u8; 256] = [
     0,
     0,
@@ -265,7 +265,7 @@ const PRECEDENCE_TABLE: [u8; 256] = [
     0,
 ];
 
-// The level of a kind, and 0 for a kind that is no operator.
+// The level of a kind, and 0 for a kind that is no operator. Follows `kind_to_precedence`.
 pub fn kind_to_precedence(k: u8) -> u8
     ensures { λ r. ⌜ r ≡ level k ⌝ }
 {
@@ -285,7 +285,7 @@ const COALESCE_TO_IN_LEVELS: u64 = 0x8888_8877_7765_4321;
 // The levels of the operators from `<<` to `**`, four bits each, the lowest first: three shifts 9, two of sums 10, three of products 11, `**` 12.
 const SHIFT_TO_POWER_LEVELS: u64 = 0xc_bbba_a999;
 
-// The level of a kind in an expression: As and Satisfies are no operators there.
+// The level of a kind in an expression: As and Satisfies are no operators there. Follows `kind_to_precedence`.
 pub fn expression_precedence(k: u8) -> u8
     ensures { λ r. ⌜ r ≡ expression-level k ⌝ }
 {
@@ -336,7 +336,7 @@ pub enum BinaryOperator {
     Exponential,
 }
 
-// The binary operator that a kind stands for.
+// The binary operator that a kind stands for. Follows `map_binary_operator`.
 pub fn map_binary_operator(k: u8) -> BinaryOperator
     ensures { λ r. ⌜ r ≡ binary-operator k ⌝ }
 {
@@ -379,7 +379,7 @@ pub enum UnaryOperator {
     Delete,
 }
 
-// The unary operator that a kind stands for.
+// The unary operator that a kind stands for. Follows `map_unary_operator`.
 pub fn map_unary_operator(k: u8) -> UnaryOperator
     ensures { λ r. ⌜ r ≡ unary-operator k ⌝ }
 {
@@ -403,7 +403,7 @@ pub enum LogicalOperator {
     Coalesce,
 }
 
-// The logical operator that a kind stands for.
+// The logical operator that a kind stands for. Follows `map_logical_operator`.
 pub fn map_logical_operator(k: u8) -> LogicalOperator
     ensures { λ r. ⌜ r ≡ logical-operator k ⌝ }
 {
@@ -422,7 +422,7 @@ pub enum UpdateOperator {
     Decrement,
 }
 
-// The update operator that a kind stands for.
+// The update operator that a kind stands for. Follows `map_update_operator`.
 pub fn map_update_operator(k: u8) -> UpdateOperator
     ensures { λ r. ⌜ r ≡ update-operator k ⌝ }
 {
@@ -454,7 +454,7 @@ pub enum AssignmentOperator {
     Exponential,
 }
 
-// The assignment operator that a kind stands for.
+// The assignment operator that a kind stands for. Follows `map_assignment_operator`.
 pub fn map_assignment_operator(k: u8) -> AssignmentOperator
     ensures { λ r. ⌜ r ≡ assignment-operator k ⌝ }
 {

@@ -25,21 +25,21 @@ fn keep(seen: Seen, kind: u32) -> usize
     holding(plan::KEEP, roles::wide(kind))
 }
 
-// 9, at the row's first token.
+// 9, at the row's first token. Stands for `invalid_assignment`.
 fn no_target(seen: Seen) -> usize
     ensures { λ r. ⌜ means.plan (seen .begins) r ≡ def.refuse (NoTarget (seen .first)) ⌝ }
 {
     holding(plan::NO_TARGET, roles::wide(seen.first))
 }
 
-// 10, at the row's first token.
+// 10, at the row's first token. Stands for `spread_last_element`.
 fn not_last(seen: Seen) -> usize
     ensures { λ r. ⌜ means.plan (seen .begins) r ≡ def.refuse (SpreadNotLast (seen .first)) ⌝ }
 {
     holding(plan::NOT_LAST, roles::wide(seen.first))
 }
 
-// An Array or Object, with or without a comma after its closing spread.
+// An Array or Object, with or without a comma after its closing spread. Follows a part of `SimpleAssignmentTarget::cover`.
 fn is_array_or_object(kind: u32) -> bool
     ensures { λ r. ⌜ r ≡ def.is-array-or-object kind ⌝ }
 {
@@ -53,14 +53,14 @@ fn is_with(seen: Seen, kind: u32, kids: u32) -> bool
     seen.kind == kind && seen.kids == kids
 }
 
-// The row is of a kind and its last kid is a Spread.
+// The row is of a kind and its last kid is a Spread. Follows a part of `ArrayAssignmentTarget::cover` and of `ObjectAssignmentTarget::cover`.
 fn is_closed(seen: Seen, kind: u32) -> bool
     ensures { λ r. ⌜ r ≡ def.is-closed (means.seen seen) kind ⌝ }
 {
     seen.kind == kind && seen.last == row::SPREAD
 }
 
-// Name, Member, Index, or a Paren over a simple target; all else is 9.
+// Name, Member, Index, or a Paren over a simple target; all else is 9. Follows `SimpleAssignmentTarget::cover`.
 fn as_simple(seen: Seen) -> usize
     ensures { λ r. ⌜ means.plan (seen .begins) r ≡ def.as-simple (means.seen seen) ⌝ }
 {
@@ -82,7 +82,7 @@ fn as_simple(seen: Seen) -> usize
     no_target(seen)
 }
 
-// An Array or Object; otherwise a simple target.
+// An Array or Object; otherwise a simple target. Follows `AssignmentTarget::cover`.
 fn as_any(seen: Seen) -> usize
     ensures { λ r. ⌜ means.plan (seen .begins) r ≡ def.as-any (means.seen seen) ⌝ }
 {
@@ -102,6 +102,7 @@ fn as_any(seen: Seen) -> usize
 }
 
 // Assign becomes TargetDefault; CompoundAssign too, with record 5 at its operator.
+// Follows `AssignmentTargetMaybeDefault::cover` and `AssignmentTargetWithDefault::cover`.
 fn as_value(seen: Seen) -> usize
     ensures { λ r. ⌜ means.plan (seen .begins) r ≡ def.as-value (means.seen seen) ⌝ }
 {
@@ -114,7 +115,7 @@ fn as_value(seen: Seen) -> usize
     as_any(seen)
 }
 
-// A Hole stays; a Spread that is not last is 10.
+// A Hole stays; a Spread that is not last is 10. Follows a part of `ArrayAssignmentTarget::cover`.
 fn as_element(seen: Seen) -> usize
     ensures { λ r. ⌜ means.plan (seen .begins) r ≡ def.as-element (means.seen seen) ⌝ }
 {
@@ -128,6 +129,7 @@ fn as_element(seen: Seen) -> usize
 }
 
 // A last Spread is a rest: the argument, then record 4. An argument that is a target is never a wrong one here.
+// Follows a part of `ArrayAssignmentTarget::cover`.
 fn as_last_element(comma: usize, seen: Seen) -> usize
     requires { ⌜ comma < 2 ^ 60 ⌝ }
     ensures { λ r. ⌜ means.plan (seen .begins) r ≡ def.as-last-element (means.commas comma) (means.seen seen) ⌝ }
@@ -139,6 +141,7 @@ fn as_last_element(comma: usize, seen: Seen) -> usize
 }
 
 // A shorthand, a shorthand with an initializer, or a key with its value; a Spread that is not last is 10.
+// Follows `AssignmentTargetProperty::cover` and a part of `ObjectAssignmentTarget::cover`.
 fn as_property(seen: Seen) -> usize
     ensures { λ r. ⌜ means.plan (seen .begins) r ≡ def.as-property (means.seen seen) ⌝ }
 {
@@ -158,6 +161,7 @@ fn as_property(seen: Seen) -> usize
 }
 
 // A last Spread is a rest: record 3 where its argument is an Array or Object, record 4, the argument.
+// Follows a part of `ObjectAssignmentTarget::cover`.
 fn as_last_property(comma: usize, seen: Seen) -> usize
     requires { ⌜ comma < 2 ^ 60 ⌝ }
     ensures { λ r. ⌜ means.plan (seen .begins) r ≡ def.as-last-property (means.commas comma) (means.seen seen) ⌝ }
@@ -171,7 +175,7 @@ fn as_last_property(comma: usize, seen: Seen) -> usize
     as_property(seen)
 }
 
-// The name of a shorthand.
+// The name of a shorthand. Follows a part of `AssignmentTargetProperty::cover`.
 fn as_name(seen: Seen) -> usize
     ensures { λ r. ⌜ means.plan (seen .begins) r ≡ def.as-name (means.seen seen) ⌝ }
 {
@@ -181,7 +185,7 @@ fn as_name(seen: Seen) -> usize
     no_target(seen)
 }
 
-// What a row becomes as a kid, the last one or not, of a row of the plan `under`.
+// What a row becomes as a kid, the last one or not, of a row of the plan `under`. Follows `CoverGrammar::cover`.
 pub fn plan_of(under: usize, last: bool, seen: Seen) -> usize
     ensures { λ r. ⌜ means.plan (seen .begins) r ≡ def.change (means.kid under «last») (means.seen seen) ⌝ }
 {

@@ -5,7 +5,7 @@ ghost use Rattle.frame.specs.Entry.{Answers};
 use tokens::cause::Answer;
 use tokens::check::Checked;
 
-// The reader: the list is one Expression, then end.
+// The reader: the list is one Expression, then end. Follows `parse_expression`.
 pub fn read(kinds: &[u8], flags: &[u8], rows: &mut [u32], records: &mut [u32]) -> Answer
     ensures { λ x. ⌜ Answers (read-entry (sheet-of (now (kinds .entry)) (now (flags .entry))) (now (rows .entry)) (now (records .entry))) (now (rows .exit)) (now (records .exit)) x ⌝ }
 {

@@ -25,7 +25,7 @@ pub fn wide(x: u32) -> usize
     x as usize
 }
 
-// A name, a Member or an Index: a simple target by itself.
+// A name, a Member or an Index: a simple target by itself. Follows a part of `SimpleAssignmentTarget::cover`.
 pub fn is_reference(kind: u32) -> bool
     ensures { λ r. ⌜ r ≡ def.is-reference kind ⌝ }
 {

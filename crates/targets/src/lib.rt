@@ -182,7 +182,7 @@ fn turn_name(rows: &mut [u32], root: usize, name: usize)
     set_kind(rows, root, kind);
 }
 
-// Whether the row can become what the row over it asks, and with how many records. It changes nothing.
+// Whether the row can become what the row over it asks, and with how many records. It changes nothing. Follows `CoverGrammar::cover`.
 fn judge(rows: &[u32], root: usize, under: usize, last: bool) -> usize
     requires { ⌜ Subtree (now rows) root ⌝ }
     ensures { λ r. ⌜ Judged (now (rows .entry)) root (means.kid under «last») r ⌝ }
@@ -203,7 +203,7 @@ fn judge(rows: &[u32], root: usize, under: usize, last: bool) -> usize
     found
 }
 
-// Writes a record before the record `end`, and returns where it stands.
+// Writes a record before the record `end`, and returns where it stands. Stands for `error`.
 fn write_record(records: &mut [u32], end: usize, number: u32, place: u32) -> usize
     requires { ⌜ NoteFits (length (now records)) end (says number place ∷ []) ⌝ }
     ensures { λ r. ⌜ Written (now (records .entry)) end (says number place ∷ []) (now (records .exit)) r ⌝ }
@@ -215,6 +215,7 @@ fn write_record(records: &mut [u32], end: usize, number: u32, place: u32) -> usi
 }
 
 // Writes the record of the comma after a rest, if there is one.
+// Follows a part of `ArrayAssignmentTarget::cover` and of `ObjectAssignmentTarget::cover`.
 fn write_comma(records: &mut [u32], end: usize, comma: usize) -> usize
     requires { ⌜ NoteFits (length (now records)) end (means.commas comma) ⌝ }
     ensures { λ r. ⌜ Written (now (records .entry)) end (means.commas comma) (now (records .exit)) r ⌝ }
@@ -225,7 +226,7 @@ fn write_comma(records: &mut [u32], end: usize, comma: usize) -> usize
     write_record(records, end, 4, ((comma - 1) % 4294967296) as u32)
 }
 
-// Writes the record after those of the kids, if there is one.
+// Writes the record after those of the kids, if there is one. Follows a part of `ArrayAssignmentTarget::cover`.
 fn note_after(records: &mut [u32], end: usize, of: usize) -> usize
     requires { ⌜ NoteFits (length (now records)) end (means.after of) ⌝ }
     ensures { λ r. ⌜ Written (now (records .entry)) end (means.after of) (now (records .exit)) r ⌝ }
@@ -237,6 +238,7 @@ fn note_after(records: &mut [u32], end: usize, of: usize) -> usize
 }
 
 // Gives the row its kind, and writes the records before those of its kids.
+// Follows a part of `ObjectAssignmentTarget::cover` and of `AssignmentTargetMaybeDefault::cover`.
 fn finish(rows: &mut [u32], root: usize, of: usize, records: &mut [u32], start: usize) -> usize
     requires { ⌜ FinishFits (now rows) root of (length (now records)) start ⌝ }
     ensures { λ r. ⌜ Finished (now (rows .entry)) (now (records .entry)) root of start (now (rows .exit)) (now (records .exit)) r ⌝ }
@@ -257,6 +259,7 @@ fn finish(rows: &mut [u32], root: usize, of: usize, records: &mut [u32], start: 
 }
 
 // Makes a row that was judged fine what the row over it asks, and writes its records before the record `end`; returns where they begin.
+// Follows `CoverGrammar::cover`.
 fn turn(
     rows: &mut [u32],
     root: usize,
@@ -330,6 +333,7 @@ fn turn_plain_array(rows: &mut [u32], root: usize)
 }
 
 // Converts a row to any target or to a simple one: its kinds change and its records are added, or nothing changes.
+// Follows `AssignmentTarget::cover` and `SimpleAssignmentTarget::cover`.
 pub fn convert_row(
     rows: &mut [u32],
     root: usize,

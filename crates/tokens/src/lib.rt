@@ -30,28 +30,28 @@ fn byte_after(bytes: &[u8], at: usize, more: usize) -> u8
     }
 }
 
-// The kind of the token at a place, and 0 past the end.
+// The kind of the token at a place, and 0 past the end. Stands for `cur_kind`.
 pub fn kind_at(kinds: &[u8], at: usize) -> u8
     ensures { λ r. ⌜ r ≡ kind-at (now (kinds .entry)) at ⌝ }
 {
     byte_at(kinds, at)
 }
 
-// The kind of the token that stands `more` places after `at`, and 0 past the end.
+// The kind of the token that stands `more` places after `at`, and 0 past the end. Follows `peek_token`.
 pub fn kind_after(kinds: &[u8], at: usize, more: usize) -> u8
     ensures { λ r. ⌜ r ≡ kind-at (now (kinds .entry)) (at + more) ⌝ }
 {
     byte_after(kinds, at, more)
 }
 
-// The flag of the token at a place, 1 where a line break stands before it, and 0 past the end.
+// The flag of the token at a place, 1 where a line break stands before it, and 0 past the end. Stands for `is_on_new_line`.
 pub fn flag_at(flags: &[u8], at: usize) -> u8
     ensures { λ r. ⌜ r ≡ flag-at (now (flags .entry)) at ⌝ }
 {
     byte_at(flags, at)
 }
 
-// The flag of the token that stands `more` places after `at`, and 0 past the end.
+// The flag of the token that stands `more` places after `at`, and 0 past the end. Stands for `is_on_new_line`.
 pub fn flag_after(flags: &[u8], at: usize, more: usize) -> u8
     ensures { λ r. ⌜ r ≡ flag-at (now (flags .entry)) (at + more) ⌝ }
 {
