@@ -6,6 +6,7 @@ cd "$(dirname "${BASH_SOURCE[0]}")/.."
 source tests/need.sh
 need gcc gcc
 need cargo cargo
+export RUSTFLAGS='-D warnings'
 rt staticlib vuolmaset < /dev/null
 if [ "$(nm -u target/staticlib/libvuolmaset.a | sed -n 's/^ *U //p')" != memset ]; then
     echo "the archive wants other functions than include/vuolmaset.h says"
@@ -13,11 +14,11 @@ if [ "$(nm -u target/staticlib/libvuolmaset.a | sed -n 's/^ *U //p')" != memset 
 fi
 gcc -std=c11 -O2 -Wall -Wextra -Wpedantic -Werror bindings/c/sheets.c target/staticlib/libvuolmaset.a -o target/sheets_c
 target/sheets_c
-RUSTFLAGS='-D warnings' cargo test --quiet --offline --manifest-path bindings/rust/Cargo.toml --target-dir target/rust
+cargo test --quiet --offline --manifest-path bindings/rust/Cargo.toml --target-dir target/rust
 echo "Rust: all as expected"
 
 # The linked archive gives the answers that other parsers agreed on, and those of the sheets.
-(cd bench/harness && RUSTFLAGS='-D warnings' cargo build --quiet --offline --release --features archive --bin answer --bin search --target-dir ../../target/harness)
+(cd readers && cargo build --quiet --offline --release -p archive --target-dir ../target/harness)
 bash tests/judged/replay.sh target/harness/release/answer
 python3 -B tests/sheets.py target/harness/release/answer
 
@@ -31,6 +32,7 @@ if python3 -B tools/stack.py --uncut > target/stack_uncut || ! grep -q '^- vuolm
     echo "tools/stack.py: no cycle where no call is counted"
     exit 1
 fi
+(cd bench/harness && cargo build --quiet --offline --release --features archive --bin search --bin sheets --target-dir ../../target/harness)
 target/harness/release/search short target/stack_ways target/stack_lists 2> target/stack_progress || { cat target/stack_progress; exit 1; }
 gcc -std=c11 -O2 -Wall -Wextra -Wpedantic -Werror -pthread bindings/c/stack.c target/staticlib/libvuolmaset.a -o target/stack_c
 target/stack_c < target/stack_lists

@@ -15,7 +15,7 @@ pub static READERS: &[Reader] = &[
     ("plain twin", Twin::read as Entry),
     ("tuned twin", Tuned::read as Entry),
     #[cfg(feature = "archive")]
-    ("archive", crate::archive::Archive::read as Entry),
+    ("archive", archive::Archive::read as Entry),
 ];
 
 /// The readers' names.

@@ -1,6 +1,6 @@
 //! The trees for the conversion entry: rows over one another, each with the tree so far as a kid and at most one more, repeated.
 use crate::measure::{Bounds, Measure, Took, for_all};
-use harness::archive::Archive;
+use archive::Archive;
 use std::fmt::{Display, Formatter, Result};
 use twin::protocol::Entries;
 
