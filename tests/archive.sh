@@ -22,6 +22,11 @@ echo "Rust: all as expected"
 bash tests/judged/replay.sh target/harness/release/answer
 python3 -B tests/sheets.py target/harness/release/answer
 
+# What a reading and a conversion take grows as the list does: instructions, which are the same on a machine that does other work besides.
+need valgrind valgrind
+(cd bench/harness && cargo build --quiet --offline --release --features archive --bin count --bin search --bin sheets --target-dir ../../target/harness)
+target/harness/release/count growth
+
 # The stack. The bound from the object code is at most what the header and the crate name, and is lost where no call is counted. No list of a short
 # search takes more than the bound for its brackets. The lists that take the most run on as much stack as is named, and on less they are stopped.
 need objdump binutils
@@ -32,7 +37,6 @@ if python3 -B tools/stack.py --uncut > target/stack_uncut || ! grep -q '^- vuolm
     echo "tools/stack.py: no cycle where no call is counted"
     exit 1
 fi
-(cd bench/harness && cargo build --quiet --offline --release --features archive --bin search --bin sheets --target-dir ../../target/harness)
 target/harness/release/search short target/stack_ways target/stack_lists 2> target/stack_progress || { cat target/stack_progress; exit 1; }
 gcc -std=c11 -O2 -Wall -Wextra -Wpedantic -Werror -pthread bindings/c/stack.c target/staticlib/libvuolmaset.a -o target/stack_c
 target/stack_c < target/stack_lists

@@ -223,3 +223,20 @@ pub static FAMILIES: [Family; 26] = [
     family("refused at the end", Shape::Repeated("", "a +", "")),
     family("refused as a target", Shape::Repeated("[", "a, ", "1] = a")),
 ];
+
+/// A sum inside of what is given up, grouped or read at once. Only its growth is looked at.
+#[rustfmt::skip]
+pub static GROWING: [Family; 3] = [
+    family("a sum in heads that fail", Shape::Repeated("(a = (a = (a = (a = (a = (a =", "a +", "a))))))")),
+    family("a sum in parentheses", Shape::Repeated("((((((((", "a +", "a))))))))")),
+    family("a sum in arrows", Shape::Repeated("((a) => ((a) => ((a) => ((a) =>", "a +", "a))))")),
+];
+
+/// What is converted by the entry for that. Only its growth is looked at. At each size there are so many rows that the records, which are cleared, have
+/// more than 2,048 bytes: the C library clears fewer in another way.
+#[rustfmt::skip]
+pub static TURNED: [Family; 3] = [
+    family("array with holes", Shape::Repeated("[", "a, , ", "]")),
+    family("patterns in an array", Shape::Repeated("[", "[{a}, a], ", "]")),
+    family("object", Shape::Repeated("{", "a: a, ", "}")),
+];
