@@ -4,8 +4,8 @@
 //     sheets | node --no-compilation-cache context.js ROUNDS TIMES       TIMES: the table of `bench`, whose times of the archive are put beside
 'use strict';
 const fs = require('fs');
-const { spell } = require('../tools/judges/spell.js');
-const { byAcorn, byBabel, byV8, versions } = require('../tools/judges/parsers.js');
+const { spell } = require('../readers/spell.js');
+const { byAcorn, byBabel, byV8, versions } = require('../readers/parsers.js');
 
 const PARSERS = { acorn: byAcorn, babel: byBabel, V8: byV8 };
 

@@ -4,13 +4,18 @@
 #     bench/run.sh              all parts: times instructions stack size context
 #     bench/run.sh PART..       some of them
 #
-# VUOLMASET_ARCHIVE names the archive; without it, it is the one that `rt staticlib vuolmaset` writes. ROUNDS: how often is timed, 300.
+# VUOLMASET_ARCHIVE names the archive; without it, it is the one that `rt staticlib vuolmaset` writes. ROUNDS: how often is timed, 300. The part stack
+# also shows the bound of the archive's stack, and holds each list of its search to it, from two files that are made before, as tests/archive.sh does:
+#
+#     python3 -B tools/stack.py --ways target/stack_ways ARCHIVE > target/stack_table
 set -euo pipefail
 shopt -s inherit_errexit
 export VUOLMASET_ARCHIVE
 here=$(cd "$(dirname "${BASH_SOURCE[0]}")" && pwd)
 VUOLMASET_ARCHIVE=$(realpath -m "${VUOLMASET_ARCHIVE:-$here/../target/staticlib/libvuolmaset.a}")
 document=$here/../docs/PERFORMANCE.md
+bound=$here/../target/stack_table
+ways=$here/../target/stack_ways
 programs=$here/harness/target/release
 rounds=${ROUNDS:-300}
 
@@ -19,7 +24,6 @@ install_missing() {
     local need=()
     command -v valgrind > /dev/null || need+=(valgrind)
     command -v objdump > /dev/null || need+=(binutils)
-    command -v python3 > /dev/null || need+=(python3)
     command -v lscpu > /dev/null || need+=(util-linux)
     command -v node > /dev/null || need+=(nodejs)
     [ -e /usr/share/nodejs/acorn ] || need+=(node-acorn)
@@ -57,18 +61,19 @@ part_instructions() { "$programs/count"; }
 
 # The deepest byte of a painted stack that each reader writes to; the bound from the object code; and the lists that come nearest to it.
 part_stack() {
-    local ways
-    ways=$(mktemp)
+    local file
+    for file in "$bound" "$ways"; do
+        [ "$file" -nt "$VUOLMASET_ARCHIVE" ] || { echo "no bound of this archive in $file: the head of bench/run.sh says how it is made" >&2; return 1; }
+    done
     "$programs/stack"
     echo
     echo "The bound from the object code, by frames and calls in bytes."
     echo
-    python3 -B "$here/../tools/stack.py" --ways "$ways" "$VUOLMASET_ARCHIVE"
+    cat "$bound"
     echo
     echo "The lists and trees that take the most, of all that were tried."
     echo
     "$programs/search" "$ways"
-    rm "$ways"
 }
 
 # The bytes of the archive's sections, by what they hold.
@@ -98,7 +103,6 @@ part_context() {
 [ -e "$VUOLMASET_ARCHIVE" ] || { echo "no archive at $VUOLMASET_ARCHIVE: rt staticlib vuolmaset builds it" >&2; exit 1; }
 install_missing
 (cd "$here/harness" && cargo build --quiet --offline --release --features archive)
-"$programs/sheets" | node "$here/sheets.js"
 [ $# -gt 0 ] || set -- times instructions stack size context
 for part in "$@"; do
     echo "measuring: $part"

@@ -6,6 +6,7 @@ cd "$(dirname "${BASH_SOURCE[0]}")/.."
 source tests/need.sh
 need gcc gcc
 need cargo cargo
+export RUSTFLAGS='-D warnings'
 rt staticlib vuolmaset < /dev/null
 if [ "$(nm -u target/staticlib/libvuolmaset.a | sed -n 's/^ *U //p')" != memset ]; then
     echo "the archive wants other functions than include/vuolmaset.h says"
@@ -13,13 +14,18 @@ if [ "$(nm -u target/staticlib/libvuolmaset.a | sed -n 's/^ *U //p')" != memset 
 fi
 gcc -std=c11 -O2 -Wall -Wextra -Wpedantic -Werror bindings/c/sheets.c target/staticlib/libvuolmaset.a -o target/sheets_c
 target/sheets_c
-RUSTFLAGS='-D warnings' cargo test --quiet --offline --manifest-path bindings/rust/Cargo.toml --target-dir target/rust
+cargo test --quiet --offline --manifest-path bindings/rust/Cargo.toml --target-dir target/rust
 echo "Rust: all as expected"
 
 # The linked archive gives the answers that other parsers agreed on, and those of the sheets.
-(cd bench/harness && RUSTFLAGS='-D warnings' cargo build --quiet --offline --release --features archive --bin answer --bin search --target-dir ../../target/harness)
+(cd readers && cargo build --quiet --offline --release -p archive --target-dir ../target/harness)
 bash tests/judged/replay.sh target/harness/release/answer
 python3 -B tests/sheets.py target/harness/release/answer
+
+# What a reading and a conversion take grows as the list does: instructions, which are the same on a machine that does other work besides.
+need valgrind valgrind
+(cd bench/harness && cargo build --quiet --offline --release --features archive --bin count --bin search --bin sheets --target-dir ../../target/harness)
+target/harness/release/count growth
 
 # The stack. The bound from the object code is at most what the header and the crate name, and is lost where no call is counted. No list of a short
 # search takes more than the bound for its brackets. The lists that take the most run on as much stack as is named, and on less they are stopped.

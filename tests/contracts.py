@@ -14,7 +14,7 @@ import os
 import re
 import sys
 
-from kinds import ORDER
+from kinds import ORDER, ROWS
 
 ROOT = os.path.join(os.path.dirname(os.path.abspath(__file__)), '..')
 CONTRACTS = 'docs/CONTRACTS.md'
@@ -157,8 +157,7 @@ def row_names(text):
 
 
 held('T4', [(low, high, token_names(text)) for low, high, text in numbered('T4', 'T5')], dict(enumerate(ORDER, 1)))
-held('R5', [(low, high, row_names(text)) for low, high, text in numbered('R5', 'R6')],
-     {int(number): name for name, number in re.findall(r'^(\w+) = (\d+)$', text_of('crates/rows/specs/Row.antt'), re.M)})
+held('R5', [(low, high, row_names(text)) for low, high, text in numbered('R5', 'R6')], ROWS)
 
 # long lines
 for document in [CONTRACTS] + CITING:

@@ -1,38 +1,54 @@
 #!/usr/bin/env python3
-"""Holds the two lists of token kinds, that of the code and that of the definitions, to the list of RULES T4 (kinds.py).
+"""Holds the kinds of tokens and of rows, in the code and in the definitions, to the list that all scripts read (readers/kinds.txt).
 
-Each has a name for each number from 1 to 78; a name of the one is that of the other in its spelling (L_PAREN and LParen); and the comment
-beside a kind that is spelled by its text has that text.
+Each has a name for each number; a name of the definitions is that of the code in its spelling (L_PAREN and LParen); and the comment beside a kind of
+token has its text, or says which texts it can have.
 """
 import os
 import re
 import sys
 
-from kinds import LAST, ORDER
+from kinds import TOKENS, part
 
 ROOT = os.path.join(os.path.dirname(os.path.abspath(__file__)), '..')
-CODE = os.path.join(ROOT, 'crates/tokens/src/kind.rt')
-DEFINITIONS = os.path.join(ROOT, 'crates/tokens/specs/Kind.antt')
-WORDS = {'Async': 'async', 'As': 'as', 'Satisfies': 'satisfies', 'Const': 'const', 'This': 'this', 'Null': 'null', 'True': 'true',
-         'False': 'false', 'Await': 'await', 'Yield': 'yield', 'Extends': 'extends'}
-
-code = re.findall(r'^pub const ([A-Z0-9_]+): u8 = (\d+); // (.*)$', open(CODE, encoding='utf-8').read(), re.M)
-definitions = re.findall(r'^abbrev pub (\S+) : ℕ  -- (.*)\n\1 = (\d+)$', open(DEFINITIONS, encoding='utf-8').read(), re.M)
+# How the comment says a kind with many texts; those of a modifier are listed.
+MANY = {'IDENT': 'a name', 'STR': 'a string', 'NUMBER': 'a number', 'REG_EXP': 'a regular expression', 'RESERVED': 'another reserved word'}
 wrong = []
-if [int(number) for _, number, _ in code] != list(range(1, LAST + 1)):
-    wrong.append('crates/tokens/src/kind.rt does not number the kinds from 1 to %d' % LAST)
-if [int(number) for _, _, number in definitions] != list(range(1, LAST + 1)):
-    wrong.append('crates/tokens/specs/Kind.antt does not number the kinds from 1 to %d' % LAST)
-for (name, number, text), (other, same, _), word in zip(code, definitions, ORDER):
-    if name.replace('_', '').lower() != other.lower():
-        wrong.append('kind %s is %s in the code and %s in the definitions' % (number, name, other))
-    if text != same:
-        wrong.append('kind %s is "%s" in the code and "%s" in the definitions' % (number, text, same))
-    spelled = WORDS.get(word, word)
-    if word not in ('Ident', 'Modifier', 'Str', 'Number', 'RegExp', 'Reserved') and text != spelled:
-        wrong.append('kind %s is "%s", and RULES T4 has %s' % (number, text, spelled))
+
+
+def found(path, pattern):
+    """What a pattern finds in a file of the repository, line by line."""
+    return re.findall(pattern, open(os.path.join(ROOT, path), encoding='utf-8').read(), re.M)
+
+
+def said(name, texts):
+    """What the comment beside a kind of token says."""
+    return MANY.get(name) or ('a modifier name: ' if name == 'MODIFIER' else '') + ' '.join(texts)
+
+
+def held(path, there, wanted):
+    """A list of a file must be the one that is wanted."""
+    if there != wanted:
+        wrong.append('%s has other kinds than readers/kinds.txt: %s' % (path, sorted(set(there) ^ set(wanted))))
+
+
+def spelled(pairs):
+    """Names as both the code and the definitions have them, without their spelling."""
+    return [(int(number), name.replace('_', '').lower(), *more) for number, name, *more in pairs]
+
+
+tokens = [(str(number), name, said(name, texts)) for number, name, texts in TOKENS]
+rows = [(str(number), name) for number, name, _ in part('rows')]
+if [number for number, _, _ in TOKENS] != list(range(1, len(TOKENS) + 1)):
+    wrong.append('readers/kinds.txt does not number the tokens from 1 on')
+CODE, ROW_CODE = 'crates/tokens/src/kind.rt', 'crates/rows/src/row.rt'
+DEFINED, ROW_DEFINED = 'crates/tokens/specs/Kind.antt', 'crates/rows/specs/Row.antt'
+held(CODE, [(number, name, text) for name, number, text in found(CODE, r'^pub const ([A-Z0-9_]+): u8 = (\d+); // (.*)$')], tokens)
+held(ROW_CODE, [(number, name) for name, number in found(ROW_CODE, r'^pub const ([A-Z0-9_]+): u32 = (\d+);$')], rows)
+held(DEFINED, spelled((number, name, text) for name, text, number in found(DEFINED, r'^abbrev pub (\S+) : ℕ  -- (.*)\n\1 = (\d+)$')), spelled(tokens))
+held(ROW_DEFINED, spelled((number, name) for name, number in found(ROW_DEFINED, r'^(\w+) = (\d+)$')), spelled(rows))
 if wrong:
     print('\n'.join(wrong))
     print('0 passed, %d failed' % len(wrong))
     sys.exit(1)
-print('tests/names.py: %d kinds, by the same names and numbers in the code and in the definitions' % LAST)
+print('tests/names.py: %d kinds of tokens and %d of rows, by the same names and numbers in the list, the code and the definitions' % (len(tokens), len(rows)))

@@ -4,7 +4,7 @@
 const fs = require('fs');
 const path = require('path');
 const { load, judge } = require('../tools/judges/oxc.js');
-const { spell, balanced, twice } = require('../tools/judges/spell.js');
+const { spell, balanced, twice } = require('../readers/spell.js');
 
 const ACORN = process.env.ACORN || '/usr/share/nodejs/acorn';
 const { work, holds, ends } = require('./holds.js')('the judge oxc-parser', 'oxc-');

@@ -8,6 +8,8 @@ The sheets: P1 to P10 and G1 to G7 of docs/RULES.md, to the last word; those of 
 and the longest chains, whose rows are written out here by counting, one formula a family. Nothing here reads a sheet.
 """
 import sys
+
+from kinds import kinds as of
 from readings import cases, tokens
 
 KINDS, RECORDS, ABANDONED, WORDS, SUM = 1, 2, 4, 8, 16
@@ -87,7 +89,7 @@ for text, pattern, kinds, flags, want in cases():
     sheet(kinds, flags, 'read%s' % line, what, pattern)
 
 # the checks, in their order: each sheet fails one of them and all that come after it that it can
-NAME, NOT, EQUALS, ARROW, QUESTION, COLON, OPEN, CLOSE, LBRACK, RBRACK = 1, 30, 63, 29, 26, 25, 18, 19, 20, 21
+NAME, NOT, EQUALS, ARROW, QUESTION, COLON, OPEN, CLOSE, LBRACK, RBRACK = of('Ident ! = => ? : ( ) [ ]')
 refused([], 1, 0)
 refused([NAME] * 2049, 1, 0, flags=[2] * 3, rows=0, records=0)
 refused([0], 2, 0, flags=[], rows=0, records=0)
@@ -118,7 +120,7 @@ chain = lambda leaf, top: [(leaf, 2 * i, 2 * i, 2 * i + 1, 0, 1) for i in range(
     (top, 2 * i + 1, 2 * i, 2 * n + 1, 2, 2 * (n - i) + 1) for i in reversed(range(n))]
 whole(pairs(EQUALS), chain(40, 25), [], 0)
 whole(pairs(ARROW), chain(30, 28), [], 0)
-PLUS, POWER, COMMA = 57, 62, 24
+PLUS, POWER, COMMA = of('+ ** ,')
 whole(pairs(POWER), chain(1, 22), [], 0)
 whole(pairs(PLUS), [(1, 0, 0, 1, 0, 1)] + [row for i in range(1, n + 1) for row in ((1, 2 * i, 2 * i, 2 * i + 1, 0, 1), (22, 2 * i - 1, 0, 2 * i + 1, 2, 2 * i + 1))], [], 0)
 whole(pairs(COMMA), [(1, 2 * i, 2 * i, 2 * i + 1, 0, 1) for i in range(n + 1)] + [(27, 1, 0, 2 * n + 1, n + 1, n + 2)], [], 0)

@@ -4,17 +4,10 @@ or the number and place of the refusal. `p:` is the pattern entry; a line break 
 Spelled as text and turned into kinds and flags here, by a few lines that share nothing with the reader."""
 import re
 
-BREAK = '↵'
-KINDS = {'async': 2, 'as': 3, 'satisfies': 4, 'static': 5, 'const': 6, 'this': 7, 'null': 8, 'true': 9, 'false': 10, 'await': 14,
-         'yield': 15, 'extends': 16, 'typeof': 32, 'void': 33, 'delete': 34, 'new': 35, 'instanceof': 52, 'in': 53, 'class': 17}
-SIGNS = ['(', ')', '[', ']', '{', '}', ',', ':', '?', '.', '...', '=>', '!', '~', None, None, None, None, '++', '--', '??', '||', '&&',
-         '|', '^', '&', '==', '===', '!=', '!==', '<', '>', '<=', '>=', None, None, '<<', '>>', '>>>', '+', '-', '*', '/', '%', '**',
-         '=', '+=', '-=', '*=', '/=', '%=', '<<=', '>>=', '>>>=', '|=', '^=', '&=', '&&=', '||=', '??=', '**=']
-for i, sign in enumerate(SIGNS):
-    if sign:
-        KINDS[sign] = 18 + i
-WORDS = sorted((s for s in KINDS if not s[0].isalpha()), key=len, reverse=True)
-TOKEN = re.compile(r'\s*(?:(↵)|(/r/)|("s")|([A-Za-z]\w*)|(\d+)|(' + '|'.join(map(re.escape, WORDS)) + r'))')
+from kinds import KIND, KIND_OF
+
+SIGNS = sorted((text for text in KIND_OF if not text[0].isalpha()), key=len, reverse=True)
+TOKEN = re.compile(r'\s*(?:(↵)|(/r/)|("s")|([A-Za-z]\w*)|(\d+)|(' + '|'.join(map(re.escape, SIGNS)) + r'))')
 
 
 def tokens(text):
@@ -29,15 +22,15 @@ def tokens(text):
             brk = 1
             continue
         if m.group(2):
-            kinds.append(13)
+            kinds.append(KIND['RegExp'])
         elif m.group(3):
-            kinds.append(11)
+            kinds.append(KIND['Str'])
         elif m.group(4):
-            kinds.append(KINDS.get(m.group(4), 1))
+            kinds.append(KIND_OF.get(m.group(4), KIND['Ident']))
         elif m.group(5):
-            kinds.append(12)
+            kinds.append(KIND['Number'])
         else:
-            kinds.append(KINDS[m.group(6)])
+            kinds.append(KIND_OF[m.group(6)])
         flags.append(brk)
         brk = 0
     return kinds, flags

@@ -30,6 +30,7 @@ passes() { # SCRIPT
 python3 -B tests/names.py
 python3 -B tests/grammar.py
 python3 -B tests/contracts.py
+python3 -B tests/made.py
 made crates/tokens_test/stdin tests/tokens.py --input
 made crates/tokens_test/stdout tests/tokens.py
 made crates/operators_test/stdout tests/operators.py

@@ -14,15 +14,14 @@ import os
 import re
 import sys
 
-from readings import KINDS, WORDS, tokens
+from kinds import KIND, KIND_OF
+from readings import SIGNS, tokens
 import reader
 
 ROOT = os.path.dirname(os.path.dirname(os.path.abspath(__file__)))
-MODIFIERS = 'abstract accessor declare out override private protected public readonly static'.split()
-RESERVED = 'break case catch class continue debugger default do else enum export finally for function if import return super switch throw try var while with'.split()
 LARGEST = 4096
 ROOM = 196608
-TOKEN = re.compile(r'''(\s+)|("[^"\n]*"|'[^'\n]*')|(\d+(?:\.\d+)?)|([A-Za-z_$][\w$]*)|(''' + '|'.join(map(re.escape, WORDS)) + ')')
+TOKEN = re.compile(r'''(\s+)|("[^"\n]*"|'[^'\n]*')|(\d+(?:\.\d+)?)|([A-Za-z_$][\w$]*)|(''' + '|'.join(map(re.escape, SIGNS)) + ')')
 
 
 def javascript(text):
@@ -37,13 +36,7 @@ def javascript(text):
         if space:
             broken |= int('\n' in space)
             continue
-        if word in MODIFIERS:
-            kind = 5
-        elif word in RESERVED:
-            kind = 17
-        else:
-            kind = 11 if string else 12 if number else KINDS.get(word or sign, 1)
-        kinds.append(kind)
+        kinds.append(KIND['Str'] if string else KIND['Number'] if number else KIND_OF.get(word or sign, KIND['Ident']))
         flags.append(broken)
         broken = 0
     flags[0] = 0

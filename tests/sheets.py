@@ -1,5 +1,5 @@
 #!/usr/bin/env python3
-"""Holds a reader behind the lines of bench/twin/src/protocol.rs to the sheets of tests/readings.py, to P1 to P10 of docs/RULES.md, to the
+"""Holds a reader behind the lines of readers/twin/src/protocol.rs to the sheets of tests/readings.py, to P1 to P10 of docs/RULES.md, to the
 checks 1 to 7 with every limit from both sides, and to conversions and parts of trees.
 
     tests/sheets.py READER [WORD..]

@@ -33,16 +33,6 @@ const TEXTS = [
     'f(...as, static)[this.class]', '-- a in b instanceof c', 'a >>>= b ??= c', '!'.repeat(2047) + 'a',
 ];
 
-// The names of kinds and rows are those of the code and of the definitions.
-function names() {
-    const kinds = fs.readFileSync(path.join(ROOT, 'crates/tokens/src/kind.rt'), 'utf8').matchAll(/^pub const \w+: u8 = (\d+); \/\/ (.*)$/gm);
-    const spelledSo = [...kinds].filter(([, , text]) => !/^(a|another) /.test(text)).map(([, kind, text]) => spell(Number(kind)) === text);
-    holds('the spelling of kinds', spelledSo.length === 72 && spelledSo.every((same) => same));
-    const rows = fs.readFileSync(path.join(ROOT, 'crates/rows/specs/Row.antt'), 'utf8').matchAll(/^(\w+) = (\d+)$/gm);
-    const named = [...rows].map(([, name, kind]) => (ROWS[kind] ?? '').replace(', comma after its spread', 'RestComma') === name);
-    holds('the names of rows', named.length === Object.keys(ROWS).length && named.every((same) => same), named.join());
-}
-
 // The kinds that pack gives, each by itself; words of kinds 5 and 17; and the files of the examples, which another script makes.
 function packsKinds() {
     for (let kind = 1; kind <= 78; kind++) {
@@ -218,8 +208,9 @@ function saysWhy() {
     }
     const without = sheet(['pack', 't0.txt'], { env: { ...process.env, ACORN: '/none' } });
     holds('without acorn', without.stderr === 'the tokenizer acorn is not at /none; on Debian: apt-get install node-acorn\n', without.stderr);
-    fs.cpSync(path.join(ROOT, 'tools', 'desk'), path.join(work, 'clone', 'tools', 'desk'), { recursive: true });
-    fs.cpSync(path.join(ROOT, 'tools', 'sheet'), path.join(work, 'clone', 'tools', 'sheet'));
+    for (const name of ['tools/desk', 'tools/sheet', 'readers/kinds.js', 'readers/kinds.txt']) {
+        fs.cpSync(path.join(ROOT, name), path.join(work, 'clone', name), { recursive: true });
+    }
     const bare = (words) => spawnSync(path.join(work, 'clone', 'tools', 'sheet'), [...words, 't0.txt', ...(words[0] === 'pack' ? ['-o', 'bare.sheet'] : [])], { cwd: work, encoding: 'utf8' });
     const build = 'target/bin/sheet is not built yet; this builds it: rt check sheet\n';
     holds('show, not built', bare(['show']).stderr === build && bare(['show']).status === 2);
@@ -252,5 +243,5 @@ function guides() {
     }
 }
 
-[names, packsKinds, packsJudged, packsAndShows, packsWhatIsRead, explains, saysInRust, callsLibrary, draws, saysWhy, guides].forEach((part) => part());
+[packsKinds, packsJudged, packsAndShows, packsWhatIsRead, explains, saysInRust, callsLibrary, draws, saysWhy, guides].forEach((part) => part());
 ends();

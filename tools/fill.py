@@ -19,7 +19,7 @@ things are known); and for each need that is not closed by itself a block
 
 In a term `@thing` is the path to that thing, and `@@` all automatic facts. A need with no block gets `search needs`, or `omega` with the
 automatic facts where it is one of arithmetic. A cycle of calls is found by its folder proofs/+f+g+h, whose Proof/Measures.antt is
-written by hand.
+written by hand, or by tools/cycle.py.
 """
 import glob, os, re, subprocess, sys
 

@@ -1,5 +1,5 @@
 #!/usr/bin/env bash
-# Replays the fixed list on a reader: tests/judged/replay.sh READER [WORD..]. READER answers the lines of bench/twin/src/protocol.rs.
+# Replays the fixed list on a reader: tests/judged/replay.sh READER [WORD..]. READER answers the lines of readers/twin/src/protocol.rs.
 set -euo pipefail
 list=$(dirname "${BASH_SOURCE[0]}")/lists.txt
 count=$(grep -vc '^#' "$list")

@@ -7,7 +7,7 @@
 #     RUN        one of those that tools/crate/src/main.rs names
 #
 # FOLDER, or OXC_SOURCE, has arrow.rs, grammar.rs, operator.rs, binding.rs and object.rs of oxc_parser 0.156.0 (its src/js). They are compiled where they lie;
-# nothing of them is in this repository. ARCHIVE names another archive than that of `rt staticlib vuolmaset`; READER=twin asks bench/twin instead. JOBS says
+# nothing of them is in this repository. ARCHIVE names another archive than that of `rt staticlib vuolmaset`; READER=twin asks readers/twin instead. JOBS says
 # how many threads there are, SECONDS_EACH when a run is stopped (600). Fails on a difference of no known class (src/compare/classes.rs).
 set -euo pipefail
 here=$(cd "$(dirname "${BASH_SOURCE[0]}")" && pwd)

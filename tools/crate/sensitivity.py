@@ -1,6 +1,6 @@
 """Does the comparison see a fault? Each edit is put alone into a copy below target/, and the short runs must show a difference (with windows of 5 for the worker).
 
-    python3 -B tools/crate/sensitivity.py twin      faults in a copy of bench/twin, which is asked instead of the archive
+    python3 -B tools/crate/sensitivity.py twin      faults in a copy of readers/twin, which is asked instead of the archive
     python3 -B tools/crate/sensitivity.py files     edits of a copy of the crate's five files (the text of 0.156.0, by lines), the archive is asked
 
 OXC_SOURCE names the folder of the five files, as for tools/crate/run.sh. Prints a table; fails if a fault is not seen, or if without one something differs.
@@ -15,9 +15,9 @@ ROOT = os.path.dirname(os.path.dirname(os.path.dirname(os.path.abspath(__file__)
 WORK = os.path.join(ROOT, 'target', 'sensitivity')
 SOURCE = os.environ.get('OXC_SOURCE', os.path.join(ROOT, '..', 'shared', 'docs', 'src', 'src', 'js'))
 FILES = ['arrow.rs', 'grammar.rs', 'operator.rs', 'binding.rs', 'object.rs']
-COPIED = ['bench/twin', 'bench/tuned', 'bench/harness', 'tools/crate', 'tools/plain', 'tools/judges/lists', 'crates/operators_test']
+COPIED = ['readers', 'tools/crate', 'crates/operators_test']
 
-# What is wrong, the file of bench/twin/src, the text that stands there once, and what is put in its place.
+# What is wrong, the file of readers/twin/src, the text that stands there once, and what is put in its place.
 TWIN = [
     ('Maybe for True', 'arrow.rs', 'kind::IDENT => True', 'kind::IDENT => Maybe'),
     ('a rest accepted before others', 'parse.rs', 'if self.kind() != close {', 'if self.kind() != close && self.kind() != kind::COMMA {'),
@@ -104,7 +104,7 @@ def faults_in_twin():
         # With new times, so that what was built of an older copy is built again.
         shutil.copytree(os.path.join(ROOT, folder), os.path.join(copy, folder), copy_function=shutil.copyfile, ignore=shutil.ignore_patterns('target'))
     for what, name, old, new in [('no fault', 'lib.rs', '', '')] + TWIN:
-        path = os.path.join(copy, 'bench/twin/src', name)
+        path = os.path.join(copy, 'readers/twin/src', name)
         text = open(path).read()
         if old:
             open(path, 'w').write(edited(text, 0, old, new))

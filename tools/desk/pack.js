@@ -54,7 +54,7 @@ function tokenizer(acorn, text, taken) {
 // The kind of one of acorn's tokens, or a sentence that says why there is none.
 function kindOf(acorn, token, text) {
     const types = acorn.tokTypes;
-    const literal = new Map([[types.string, KIND.STR], [types.num, KIND.NUMBER], [types.regexp, KIND.REGEXP]]).get(token.type);
+    const literal = new Map([[types.string, KIND.STR], [types.num, KIND.NUMBER], [types.regexp, KIND.REG_EXP]]).get(token.type);
     if (literal) {
         return literal;
     }

@@ -1,9 +1,9 @@
 #!/usr/bin/env bash
-# Compares both twins and the plain reader of demand 3 within one process, by both entries (lists/src/bin/agree.rs): tools/judges/agree.sh [SEED [COUNT]].
+# Compares both twins and the plain reader of demand 3 within one process, by both entries (readers/lists/src/bin/agree.rs): tools/judges/agree.sh [SEED [COUNT]].
 # All lists to length 3, all bracket-matched ones of 4 to 6 over three alphabets, COUNT random ones to 2,048 tokens (a million), half as many bindings,
 # and half as many lists for the checks.
 set -euo pipefail
-cd "$(dirname "${BASH_SOURCE[0]}")/lists"
+cd "$(dirname "${BASH_SOURCE[0]}")/../../readers"
 CARGO_BUILD_JOBS=1 nice -n 10 cargo build --release --quiet
 seed=${1:-1} count=${2:-1000000}
 runs() {

@@ -1,8 +1,8 @@
 // The known classes of disagreement. docs/DIFFERENCES.md has each with its smallest sheet and the clause that decides it.
 'use strict';
-const { byAcorn } = require('./parsers.js');
+const { byAcorn } = require('../../readers/parsers.js');
 const { MENDS, CallsAsTargets } = require('./mended.js');
-const { isName, spell } = require('./spell.js');
+const { isName, spell } = require('../../readers/spell.js');
 
 // The rows as a tree: each has its kind, first and kids.
 function treeOf(words) {

@@ -5,23 +5,24 @@
 //                                                                                      random:SEED:COUNT:LONGEST |
 //                                                                                      pattern:SEED:COUNT:LONGEST (the pattern entry)
 //
-// COMMAND reads lines of bench/twin/src/protocol.rs from standard input. --jobs says how many processes judge, each its share of the batches.
+// COMMAND reads lines of readers/twin/src/protocol.rs from standard input. --jobs says how many processes judge, each its share of the batches.
 // --keep writes each list that was judged, with the answer that was agreed on.
 'use strict';
 const fs = require('fs');
 const path = require('path');
 const { execFileSync, fork } = require('child_process');
-const { spell, outside, outsidePattern, balanced, twice } = require('./spell.js');
+const { spell, outside, outsidePattern, balanced, twice } = require('../../readers/spell.js');
 const { rowsOf } = require('./estree.js');
-const parsers = require('./parsers.js');
+const parsers = require('../../readers/parsers.js');
 const { classOf } = require('./classes.js');
 const oxc = require('./oxc.js');
 
-const LISTS = path.join(__dirname, 'lists/target/release/lists');
-const PLAIN = path.join(__dirname, '../plain/target/release/plain');
+const PROGRAMS = path.join(__dirname, '../../readers/target/release');
+const LISTS = path.join(PROGRAMS, 'lists');
+const PLAIN = path.join(PROGRAMS, 'plain');
 const BIG = { maxBuffer: 1 << 30, encoding: 'latin1' };
 
-const options = { reader: path.join(__dirname, '../../bench/twin/target/release/twin'), batch: '20000', jobs: '1', keep: null, share: null };
+const options = { reader: path.join(PROGRAMS, 'twin'), batch: '20000', jobs: '1', keep: null, share: null };
 const runs = [];
 for (let i = 2; i < process.argv.length; i++) {
   if (process.argv[i].startsWith('--')) options[process.argv[i].slice(2)] = process.argv[++i];

@@ -1,6 +1,6 @@
 // acorn 8.8.1 with its known faults mended one by one. A disagreement with acorn that a mend takes away is of the class that the mend names.
 'use strict';
-const { acorn } = require('./parsers.js');
+const { acorn } = require('../../readers/parsers.js');
 
 const KEYS = ['shorthandAssign', 'trailingComma', 'parenthesizedAssign', 'parenthesizedBind', 'doubleProto'];
 

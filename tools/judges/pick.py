@@ -11,7 +11,7 @@ HEADER = '''# Token lists with the answers that were agreed on, to be replayed w
 # V8 11.3 (Node 20) and SpiderMonkey 102 all say what the answer says: clean (read, no record) or not. Of the clean ones each word of each row is that
 # of acorn's tree and of babel's. Records, the abandoned count, and a refusal's number and place are no parser's: they are docs/RULES.md's, as two
 # readers give them that share no code (the twin, and the plain reader where it comes to the same place).
-# A line: the question of bench/twin/src/protocol.rs, " > ", the answer. kinds and flags are hexadecimal.
+# A line: the question of readers/twin/src/protocol.rs, " > ", the answer. kinds and flags are hexadecimal.
 '''
 
 

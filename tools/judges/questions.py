@@ -1,5 +1,5 @@
 #!/usr/bin/env python3
-"""Prints questions of bench/twin/src/protocol.rs on trees, heads and operators: conversions and subtrees over trees that were read and then
+"""Prints questions of readers/twin/src/protocol.rs on trees, heads and operators: conversions and subtrees over trees that were read and then
 changed at random, well-formed or not; the three-way answer at random places; the lookup of every kind.
 
     questions.py SEED COUNT LISTS READER      LISTS makes lists, READER reads them into the trees

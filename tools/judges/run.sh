@@ -8,12 +8,12 @@
 #     tools/judges/run.sh RUN..                    small:LENGTH | matched:LENGTH:ALPHABET | random:SEED:COUNT:LONGEST | pattern:SEED:COUNT:LONGEST
 #
 # oxc-parser of npm is a judge too where OXC_PARSER names the folder that it is installed in (tools/judges/oxc.sh installs it and calls this).
-# READER names the reader: a program that answers the lines of bench/twin/src/protocol.rs. Without it the twin is asked.
+# READER names the reader: a program that answers the lines of readers/twin/src/protocol.rs. Without it the twin is asked.
 set -euo pipefail
 here=$(cd "$(dirname "${BASH_SOURCE[0]}")" && pwd)
-reader=$(realpath -m "${READER:-$here/../../bench/twin/target/release/twin}")
+readers=$here/../../readers
+reader=$(realpath -m "${READER:-$readers/target/release/twin}")
 cd "$here"
-root=../..
 
 # Debian's parsers, where they are not there yet. What cannot be installed is left out.
 need=()
@@ -27,9 +27,7 @@ if [ ${#need[@]} -gt 0 ]; then
     { apt-get update && DEBIAN_FRONTEND=noninteractive apt-get install -y --no-install-recommends "${need[@]}"; } > /dev/null || echo "not all could be installed"
 fi
 
-for crate in "$root/bench/twin" "$root/tools/plain" lists; do
-    (cd "$crate" && CARGO_BUILD_JOBS=1 nice -n 10 cargo build --release --quiet)
-done
+(cd "$readers" && CARGO_BUILD_JOBS=1 nice -n 10 cargo build --release --quiet)
 
 small=(small:1 small:2 small:3 matched:4:0 matched:4:1 matched:4:2 matched:5:0 matched:5:2)
 million=("random:${2:-1}:500000:100" "random:${2:-1}:500000:2048")

@@ -1,11 +1,12 @@
 #!/usr/bin/env bash
-# Holds one reader to another, answer by answer and word by word: tools/judges/same.sh [READER [OTHER]]. Both answer the lines of bench/twin/src/protocol.rs.
+# Holds one reader to another, answer by answer and word by word: tools/judges/same.sh [READER [OTHER]]. Both answer the lines of readers/twin/src/protocol.rs.
 # Without READER it is the tuned twin, without OTHER the plain one.
 set -euo pipefail
 here=$(cd "$(dirname "${BASH_SOURCE[0]}")" && pwd)
-lists=$here/lists/target/release/lists
-bench=$here/../../bench
-for crate in "$here/lists" "$bench/twin" "$bench/tuned"; do (cd "$crate" && CARGO_BUILD_JOBS=1 nice -n 10 cargo build --release --quiet); done
+readers=$here/../../readers
+programs=$readers/target/release
+lists=$programs/lists
+(cd "$readers" && CARGO_BUILD_JOBS=1 nice -n 10 cargo build --release --quiet)
 asked=$(mktemp)
 trap 'rm -f "$asked"' EXIT
 same() { # NAME COMMAND..
@@ -15,8 +16,8 @@ same() { # NAME COMMAND..
     cmp <(nice -n 10 "$reader" < "$asked") <(nice -n 10 "$other" < "$asked")
     echo "$(wc -l < "$asked") answers the same: $name"
 }
-reader=${1:-$bench/tuned/target/release/tuned}
-other=${2:-$bench/twin/target/release/twin}
+reader=${1:-$programs/tuned}
+other=${2:-$programs/twin}
 for length in 1 2 3; do same "all lists of $length" "$lists" small "$length"; done
 same "bracket-matched lists of 5" "$lists" matched 5 1
 same "bracket-matched lists of 6" "$lists" matched 6 0

@@ -1,5 +1,6 @@
 //! The sheets that are measured: those of engineers, and for each other family one sheet of a given size.
 use lists::List;
+use twin::kind;
 
 /// How large a sheet may be: tokens, and brackets open at once.
 #[derive(Clone, Copy)]
@@ -46,23 +47,6 @@ const REAL: [&str; 48] = texts![
     "thermocouple", "three_phases", "transient", "unbalance", "vote", "window",
 ];
 
-/// The signs, the longer ones first.
-#[rustfmt::skip]
-const SIGNS: [(&str, u8); 55] = [
-    (">>>=", 71), ("...", 28), ("===", 45), ("!==", 47), (">>>", 56), ("<<=", 69), (">>=", 70), ("**=", 78), ("&&=", 75), ("||=", 76), ("??=", 77),
-    ("=>", 29), ("++", 36), ("--", 37), ("??", 38), ("||", 39), ("&&", 40), ("==", 44), ("!=", 46), ("<=", 50), (">=", 51), ("<<", 54), (">>", 55),
-    ("**", 62), ("+=", 64), ("-=", 65), ("*=", 66), ("/=", 67), ("%=", 68), ("|=", 72), ("^=", 73), ("&=", 74), ("(", 18), (")", 19), ("[", 20),
-    ("]", 21), ("{", 22), ("}", 23), (",", 24), (":", 25), ("?", 26), (".", 27), ("!", 30), ("~", 31), ("|", 41), ("^", 42), ("&", 43), ("<", 48),
-    (">", 49), ("+", 57), ("-", 58), ("*", 59), ("/", 60), ("%", 61), ("=", 63),
-];
-
-/// The words that are no plain names.
-#[rustfmt::skip]
-const WORDS: [(&str, u8); 12] = [
-    ("async", 2), ("this", 7), ("null", 8), ("true", 9), ("false", 10), ("typeof", 32), ("void", 33), ("delete", 34), ("instanceof", 52), ("in", 53),
-    ("for", 17), ("class", 17),
-];
-
 /// How long a number is: digits with a point, an exponent with its sign, or hexadecimal ones.
 fn number(text: &str) -> usize {
     let is_part = |(at, c): (usize, char)| c.is_ascii_alphanumeric() || c == '.' || matches!(c, '+' | '-') && text[..at].ends_with('e');
@@ -81,36 +65,26 @@ fn next(text: &str) -> (&str, bool) {
 
 /// The tokens of a text in plain JavaScript.
 pub fn tokens(text: &str) -> List {
+    let mut known = lists::kinds::texts();
+    known.sort_by_key(|(text, _)| std::cmp::Reverse(text.len()));
     let mut list = List::default();
     let (mut rest, mut broken) = (next(text).0, false);
     while let Some(first) = rest.chars().next() {
         let (kind, used) = if first.is_ascii_alphabetic() || first == '_' {
             let used = rest.find(|c: char| !c.is_ascii_alphanumeric() && c != '_').unwrap_or(rest.len());
-            (WORDS.iter().find(|(word, _)| *word == &rest[..used]).map_or(1, |(_, kind)| *kind), used)
+            (known.iter().find(|(word, _)| *word == &rest[..used]).map_or(kind::IDENT, |(_, kind)| *kind), used)
         } else if first.is_ascii_digit() {
-            (12, number(rest))
+            (kind::NUMBER, number(rest))
         } else if first == '\'' {
-            (11, 2 + rest[1..].find('\'').expect("a closing quote"))
+            (kind::STR, 2 + rest[1..].find('\'').expect("a closing quote"))
         } else {
-            let (sign, kind) = SIGNS.iter().find(|(sign, _)| rest.starts_with(sign)).expect("a sign");
+            let (sign, kind) = known.iter().find(|(sign, _)| rest.starts_with(sign)).expect("a sign");
             (*kind, sign.len())
         };
         list.push(kind, broken as u8);
         (rest, broken) = next(&rest[used..]);
     }
     list
-}
-
-/// A text of a kind.
-pub fn spelled(kind: u8) -> &'static str {
-    let known = SIGNS.iter().chain(&WORDS).find(|(_, one)| *one == kind);
-    match (kind, known) {
-        (1, _) => "a",
-        (11, _) => "''",
-        (12, _) => "1",
-        (_, Some((text, _))) => text,
-        _ => "?",
-    }
 }
 
 /// The kinds of three texts.
@@ -222,4 +196,21 @@ pub static FAMILIES: [Family; 26] = [
     family("random, refused", Shape::Random(false)),
     family("refused at the end", Shape::Repeated("", "a +", "")),
     family("refused as a target", Shape::Repeated("[", "a, ", "1] = a")),
+];
+
+/// A sum inside of what is given up, grouped or read at once. Only its growth is looked at.
+#[rustfmt::skip]
+pub static GROWING: [Family; 3] = [
+    family("a sum in heads that fail", Shape::Repeated("(a = (a = (a = (a = (a = (a =", "a +", "a))))))")),
+    family("a sum in parentheses", Shape::Repeated("((((((((", "a +", "a))))))))")),
+    family("a sum in arrows", Shape::Repeated("((a) => ((a) => ((a) => ((a) =>", "a +", "a))))")),
+];
+
+/// What is converted by the entry for that. Only its growth is looked at. At each size there are so many rows that the records, which are cleared, have
+/// more than 2,048 bytes: the C library clears fewer in another way.
+#[rustfmt::skip]
+pub static TURNED: [Family; 3] = [
+    family("array with holes", Shape::Repeated("[", "a, , ", "]")),
+    family("patterns in an array", Shape::Repeated("[", "[{a}, a], ", "]")),
+    family("object", Shape::Repeated("{", "a: a, ", "}")),
 ];

@@ -1,6 +1,4 @@
-//! What the programs share: the sheets of each family, the readers, the archive's entries, and tables.
-#[cfg(feature = "archive")]
-pub mod archive;
+//! What the programs share: the sheets of each family, the readers, and tables.
 pub mod families;
 pub mod painted;
 pub mod readers;

@@ -15,7 +15,17 @@ pub static READERS: &[Reader] = &[
     ("plain twin", Twin::read as Entry),
     ("tuned twin", Tuned::read as Entry),
     #[cfg(feature = "archive")]
-    ("archive", crate::archive::Archive::read as Entry),
+    ("archive", archive::Archive::read as Entry),
+];
+
+pub type Converter = fn(&mut [u32], usize, &mut [u32]) -> Result<Read, Refused>;
+
+/// The entries of the same readers that convert.
+pub static CONVERTERS: &[Converter] = &[
+    Twin::convert as Converter,
+    Tuned::convert as Converter,
+    #[cfg(feature = "archive")]
+    (archive::Archive::convert as Converter),
 ];
 
 /// The readers' names.
@@ -62,6 +72,44 @@ fn agree(readers: &[Reader], sheet: &List) -> bool {
 pub fn compared(readers: &[Reader], family: &Family, size: Size) -> Vec<List> {
     let sheets = family.sheets(size);
     assert!(sheets.iter().all(|sheet| agree(readers, sheet)), "{}: the readers differ", family.name);
+    sheets
+}
+
+/// A tree that was read, with the words that a conversion of it is lent.
+#[derive(Clone, PartialEq, Eq)]
+pub struct Tree {
+    words: Vec<u32>,
+    records: Vec<u32>,
+}
+
+impl Tree {
+    /// The tree of a sheet, as the plain twin reads it.
+    pub fn of(sheet: &List) -> Tree {
+        let mut room = Room::new();
+        let [rows, ..] = room.read(Twin::read, sheet).expect("a sheet that is read");
+        room.rows.truncate(6 * rows);
+        room.records.truncate(2 * rows);
+        Tree { words: room.rows, records: room.records }
+    }
+
+    /// Converts the root.
+    pub fn convert(&mut self, entry: Converter) -> Result<Read, Refused> {
+        let root = self.words.len() / 6 - 1;
+        entry(&mut self.words, root, &mut self.records)
+    }
+}
+
+/// The sheets of a family, after all readers have converted the tree of each to the same words.
+pub fn compared_trees(family: &Family, size: Size) -> Vec<List> {
+    let turned = |sheet: &List, entry: Converter| {
+        let mut tree = Tree::of(sheet);
+        let answer = tree.convert(entry);
+        assert!(answer.is_ok(), "{}: no target", family.name);
+        (answer, tree)
+    };
+    let agree = |sheet: &List| CONVERTERS.iter().all(|entry| turned(sheet, *entry) == turned(sheet, CONVERTERS[0]));
+    let sheets = family.sheets(size);
+    assert!(sheets.iter().all(agree), "{}: the readers convert otherwise", family.name);
     sheets
 }
 

@@ -1,5 +1,6 @@
 //! Lists and trees by formula: layers around a core, each so many times.
-use crate::families::{LARGEST, spelled};
+use crate::families::LARGEST;
+use lists::kinds::spellings;
 use std::fmt::{Display, Formatter, Result};
 
 /// What opens and what closes a layer, from the inside out, and how often.
@@ -98,7 +99,8 @@ fn words(kinds: &[u8], times: usize) -> Option<String> {
     if kinds.is_empty() || times == 0 {
         return None;
     }
-    let text = kinds.iter().map(|kind| spelled(*kind)).collect::<Vec<_>>().join(" ");
+    let texts = spellings();
+    let text = kinds.iter().map(|kind| texts[*kind as usize]).collect::<Vec<_>>().join(" ");
     Some(if times == 1 { format!("`{text}`") } else { format!("{times} x `{text}`") })
 }
 

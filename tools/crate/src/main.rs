@@ -2,7 +2,7 @@
 //!
 //!     against [--jobs N] [--seconds N] [--printed FILE] RUN..           runs, a table at the end; fails on any difference of no known class
 //!     against guesses RUN..                                             the same runs under each guess of stand_in/guess.rs, a line for each
-//!     against one read|pattern KINDS FLAGS                              one list in hexadecimal, as in bench/twin/src/protocol.rs: what both sides say
+//!     against one read|pattern KINDS FLAGS                              one list in hexadecimal, as in readers/twin/src/protocol.rs: what both sides say
 //!
 //!     RUN: operators | three:windows:LENGTH | three:looked:LENGTH | three:wide:LENGTH | three:words:LENGTH | PART:small:LENGTH | PART:matched:LENGTH:ALPHABET |
 //!          PART:random:SEED:COUNT:LONGEST, where PART is read, pattern, object or convert

@@ -1,4 +1,4 @@
-//! Prints the sheets of each family: its name, a tab, and a line of bench/twin/src/protocol.rs.
+//! Prints the sheets of each family: its name, a tab, and a line of readers/twin/src/protocol.rs.
 use harness::families::{FAMILIES, LARGEST};
 
 fn main() {

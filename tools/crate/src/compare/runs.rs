@@ -43,7 +43,7 @@ pub enum Lists {
     Words(usize),
     /// All of a length over all kinds, with every break that counts.
     Small(usize),
-    /// All bracket-matched ones of a length over an alphabet of tools/judges/lists, with every break that counts.
+    /// All bracket-matched ones of a length over an alphabet of readers/lists, with every break that counts.
     Matched(usize, usize),
     /// Random ones: seed, count, the longest.
     Random(u64, u64, usize),

@@ -12,7 +12,7 @@ use twin::protocol::{Entries, Refused};
 
 /// The entries that are held to the crate: the archive's, or the twin's.
 #[cfg(feature = "archive")]
-pub type Here = harness::archive::Archive;
+pub type Here = archive::Archive;
 #[cfg(not(feature = "archive"))]
 pub type Here = twin::entries::Twin;
 

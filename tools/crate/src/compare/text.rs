@@ -1,18 +1,11 @@
 //! A list as it is shown: its tokens, and a sign where a break stands.
 use lists::List;
-
-/// The token of each kind.
-#[rustfmt::skip]
-const TOKENS: [&str; 79] = [
-    "<end>", "a", "async", "as", "satisfies", "static", "const", "this", "null", "true", "false", "\"s\"", "1", "/r/", "await", "yield",
-    "extends", "if", "(", ")", "[", "]", "{", "}", ",", ":", "?", ".", "...", "=>", "!", "~", "typeof", "void", "delete", "new", "++", "--",
-    "??", "||", "&&", "|", "^", "&", "==", "===", "!=", "!==", "<", ">", "<=", ">=", "instanceof", "in", "<<", ">>", ">>>", "+", "-", "*",
-    "/", "%", "**", "=", "+=", "-=", "*=", "/=", "%=", "<<=", ">>=", ">>>=", "|=", "^=", "&=", "&&=", "||=", "??=", "**=",
-];
+use lists::kinds::spellings;
 
 /// The tokens of a list, with `↵` before one on a new line.
 pub fn shown(kinds: &[u8], flags: &[u8]) -> String {
-    let token = |(&kind, &flag): (&u8, &u8)| format!("{}{}", if flag == 1 { "↵ " } else { "" }, TOKENS[kind as usize]);
+    let texts = spellings();
+    let token = |(&kind, &flag): (&u8, &u8)| format!("{}{}", if flag == 1 { "↵ " } else { "" }, texts[kind as usize]);
     kinds.iter().zip(flags).map(token).collect::<Vec<_>>().join(" ")
 }
 

@@ -6,10 +6,10 @@ mod lists;
 mod measure;
 mod trees;
 
+use crate::lists::Reach;
 use ::lists::{List, random, random_pattern};
 use harness::families::{FAMILIES, LARGEST};
 use harness::table::Table;
-use lists::Reach;
 use measure::{Bounds, Entry, Took, for_all};
 use std::fmt::Display;
 use std::fs;

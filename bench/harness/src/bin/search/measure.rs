@@ -1,5 +1,5 @@
 //! What calls of the archive take of the stack, to the byte, each held to its bound.
-use harness::archive::{CONVERT, Converts, PATTERN, READ, Reads};
+use archive::{CONVERT, Converts, PATTERN, READ, Reads};
 use harness::painted::{Meter, on_painted_stack};
 use harness::readers::black_box;
 use harness::shape::brackets;

@@ -1,15 +1,12 @@
 //! The trees for the conversion entry: rows over one another, each with the tree so far as a kid and at most one more, repeated.
 use crate::measure::{Bounds, Measure, Took, for_all};
-use harness::archive::Archive;
+use archive::Archive;
 use std::fmt::{Display, Formatter, Result};
 use twin::protocol::Entries;
 
 /// The most rows of a tree.
 const ROWS: usize = 2048;
 const KINDS: u32 = 50;
-
-/// The kinds of rows by name.
-const NAMES: &str = include_str!("../../../../../crates/rows/src/row.rt");
 
 /// A row over the tree so far: its kind, and the kinds of a kid before and of a kid after.
 #[derive(Clone, Copy, PartialEq, Eq)]
@@ -119,8 +116,7 @@ pub fn search(length: usize, bounds: &Bounds) -> Vec<Found> {
 
 /// The name of a kind of rows.
 fn name(kind: u32) -> String {
-    let line = NAMES.lines().find(|line| line.ends_with(&format!(": u32 = {kind};")));
-    line.and_then(|line| line.strip_prefix("pub const ")?.split(':').next()).map_or(kind.to_string(), str::to_lowercase)
+    lists::kinds::row_name(kind).to_lowercase()
 }
 
 impl Display for Tower {

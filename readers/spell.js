@@ -1,20 +1,15 @@
 // Spells token lists as JavaScript: a space between tokens, at flag 1 a line break. Names, numbers and reserved words vary by place, so that no
 // two parameters of an arrow bear one name by chance where the kinds leave a choice.
 'use strict';
+const { KIND, TEXTS } = require('./kinds.js');
 
-const MODIFIERS = ['static', 'readonly', 'public', 'abstract', 'declare', 'private', 'override', 'out', 'protected', 'accessor'];
+// Some of the reserved words: none that an expression can begin with.
 const RESERVED = ['while', 'if', 'return', 'switch', 'var', 'case', 'with', 'do', 'throw', 'else', 'for', 'break', 'default', 'try', 'debugger'];
 const STATEMENT = new Set(['while', 'if', 'with', 'for']); // words before whose parentheses a statement may stand
 const NUMBERS = ['1', '2.5', '0x1f', '10', '1e3'];
 const STRINGS = ['"s"', "'t'"];
-const FIXED = {
-  2: 'async', 3: 'as', 4: 'satisfies', 6: 'const', 7: 'this', 8: 'null', 9: 'true', 10: 'false', 13: '/r/', 14: 'await', 15: 'yield', 16: 'extends',
-  18: '(', 19: ')', 20: '[', 21: ']', 22: '{', 23: '}', 24: ',', 25: ':', 26: '?', 27: '.', 28: '...', 29: '=>', 30: '!', 31: '~', 32: 'typeof',
-  33: 'void', 34: 'delete', 35: 'new', 36: '++', 37: '--', 38: '??', 39: '||', 40: '&&', 41: '|', 42: '^', 43: '&', 44: '==', 45: '===', 46: '!=',
-  47: '!==', 48: '<', 49: '>', 50: '<=', 51: '>=', 52: 'instanceof', 53: 'in', 54: '<<', 55: '>>', 56: '>>>', 57: '+', 58: '-', 59: '*', 60: '/',
-  61: '%', 62: '**', 63: '=', 64: '+=', 65: '-=', 66: '*=', 67: '/=', 68: '%=', 69: '<<=', 70: '>>=', 71: '>>>=', 72: '|=', 73: '^=', 74: '&=',
-  75: '&&=', 76: '||=', 77: '??=', 78: '**=',
-};
+// The texts of these kinds; the others are spelled by those that kinds.txt has. A kind with several texts is spelled by them in turn.
+const VARIED = new Map([[KIND.STR, STRINGS], [KIND.NUMBER, NUMBERS], [KIND.REG_EXP, ['/r/']], [KIND.RESERVED, RESERVED]]);
 
 const isName = (k) => k >= 1 && k <= 5;
 
@@ -25,17 +20,14 @@ function spell(kinds, flags, { renamed, calm, pattern } = {}) {
   let length = pattern ? 2 : 0;
   const starts = new Map();
   const ends = new Map();
-  const reserved = calm ? RESERVED.filter((word) => !STATEMENT.has(word)) : RESERVED;
-  const counts = { 5: 0, 11: 0, 12: 0, 17: 0 };
+  const varied = calm ? new Map(VARIED).set(KIND.RESERVED, RESERVED.filter((word) => !STATEMENT.has(word))) : VARIED;
+  const counts = new Map();
   for (let i = 0; i < kinds.length; i++) {
-    const k = kinds[i];
-    const turn = (list) => list[counts[k]++ % list.length];
-    let word = FIXED[k];
-    if (k === 1 || (renamed && renamed.has(i))) word = 'x' + i;
-    else if (k === 5) word = turn(MODIFIERS);
-    else if (k === 11) word = turn(STRINGS);
-    else if (k === 12) word = turn(NUMBERS);
-    else if (k === 17) word = turn(reserved);
+    const kind = renamed && renamed.has(i) ? KIND.IDENT : kinds[i];
+    const texts = varied.get(kind) ?? TEXTS.get(kind);
+    const turn = counts.get(kind) ?? 0;
+    counts.set(kind, turn + 1);
+    const word = kind === KIND.IDENT ? 'x' + i : texts[turn % texts.length];
     if (i > 0 || flags[i]) {
       parts.push(flags[i] ? '\n' : ' ');
       length += 1;

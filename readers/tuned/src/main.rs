@@ -1,4 +1,4 @@
-//! The tuned twin behind the lines of `bench/twin/src/protocol.rs`.
+//! The tuned twin behind the lines of `readers/twin/src/protocol.rs`.
 fn main() -> std::io::Result<()> {
     twin::protocol::serve::<tuned::Tuned>()
 }

@@ -1,11 +1,8 @@
-//! Names the archive to link, where the feature `archive` asks for it.
+//! Names the archive to link.
 use std::path::PathBuf;
 
 fn main() {
     println!("cargo:rerun-if-env-changed=VUOLMASET_ARCHIVE");
-    if std::env::var_os("CARGO_FEATURE_ARCHIVE").is_none() {
-        return;
-    }
     let archive = match std::env::var_os("VUOLMASET_ARCHIVE") {
         Some(path) => PathBuf::from(path),
         None => PathBuf::from(std::env::var_os("CARGO_MANIFEST_DIR").unwrap()).join("../../target/staticlib/libvuolmaset.a"),

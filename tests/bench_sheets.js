@@ -1,12 +1,12 @@
 // Holds the sheets of bench/harness/sheets to JavaScript: each is an expression for V8, and the tokens that the harness sees are those of tools/sheet.
 //
-//     sheets | node sheets.js
+//     target/harness/release/sheets | node tests/bench_sheets.js       tests/archive.sh builds `sheets`
 'use strict';
 const fs = require('fs');
 const path = require('path');
 const { tokensOf } = require('../tools/desk/pack.js');
 
-const folder = path.join(__dirname, 'harness/sheets');
+const folder = path.join(__dirname, '../bench/harness/sheets');
 const hex = (bytes) => Buffer.from(bytes).toString('hex');
 
 // The line of `sheets` for the text of a file.

@@ -1,4 +1,4 @@
-//! The plain reader behind the lines `r KINDS FLAGS` and `p KINDS FLAGS` of bench/twin/src/protocol.rs. The third count is that of the places at
+//! The plain reader behind the lines `r KINDS FLAGS` and `p KINDS FLAGS` of readers/twin/src/protocol.rs. The third count is that of the places at
 //! which a head was given up, and these follow the records after one more colon. `long` is the answer where the plain way takes too many steps.
 use plain::{Outcome, read};
 use std::fmt::Write as _;

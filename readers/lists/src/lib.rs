@@ -1,5 +1,6 @@
 //! Token lists for comparisons: all short ones, all bracket-matched ones over an alphabet, and random ones made by the grammar, mutated, or
 //! with a fault put in on purpose. Every list depends on the seed and its number alone.
+pub mod kinds;
 pub mod make;
 
 /// A list of tokens: kinds and flags.

@@ -1,4 +1,0 @@
-//! The archive behind the lines of bench/twin/src/protocol.rs: `READER` for tools/judges/run.sh and tests/sheets.py.
-fn main() -> std::io::Result<()> {
-    twin::protocol::serve::<harness::archive::Archive>()
-}
