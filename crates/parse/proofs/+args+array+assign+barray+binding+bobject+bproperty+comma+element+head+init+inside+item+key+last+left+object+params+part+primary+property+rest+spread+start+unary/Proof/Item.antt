@@ -5,15 +5,15 @@ use mathlib.Core.Path.{refl, sym, _∙_}
 use native.Mathlib.Omega.{arith}
 use borrow.Author.Needs.{needs}
 use Rattle.tokens.proofs.Stands.{stands}
-use Rattle.steps.specs.Spread.{spreads, spreads-not}
-use Rattle.steps.specs.Singles.{assign-stands, assign-singles}
+use Rattle.parse.proofs.Steps.Spread.{spreads, spreads-not}
+use Rattle.parse.proofs.Steps.Singles.{assign-stands, assign-singles}
 use Rattle.parse.proofs.+args+array+assign+barray+binding+bobject+bproperty+comma+element+head+init+inside+item+key+last+left+object+params+part+primary+property+rest+spread+start+unary.Lts-item as lts
 use Rattle.parse.proofs.+args+array+assign+barray+binding+bobject+bproperty+comma+element+head+init+inside+item+key+last+left+object+params+part+primary+property+rest+spread+start+unary.Proof.Measures.{assign-below, item-at, spread-below}
-use Rattle.making.proofs.cursor.leaf.Reads as leaf
+use Rattle.build.proofs.cursor.leaf.Reads as leaf
 use Rattle.parse.proofs.assign.Reads as assign
 use Rattle.parse.proofs.item.Reads as item
 use Rattle.parse.proofs.spread.Reads as spread
-use Rattle.singles.proofs.single_part.Reads as single-part
+use Rattle.heads.proofs.singles.single_part.Reads as single-part
 use Rattle.tokens.proofs.kind_at.Reads as kind-at
 
 module _ (t : ℕ) where
