@@ -1,5 +1,5 @@
 #!/usr/bin/env python3
-"""Holds docs/GRAMMAR.md and the comments of crates/standard/specs/Derives.antt to the types of that file.
+"""Holds docs/GRAMMAR.md and the comments of crates/ecma262/specs/Derives.antt to the types of that file.
 
 The page is what tools/grammar.py prints. The comment above each constructor, each list, each line of operators and each class of tokens says, in
 the standard's words, exactly the productions or the members that the types have.

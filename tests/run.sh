@@ -31,6 +31,9 @@ python3 -B tests/names.py
 python3 -B tests/grammar.py
 python3 -B tests/contracts.py
 python3 -B tests/made.py
+python3 -B tools/believe.py --check
+python3 -B tools/map.py --check
+python3 -B tools/port.py
 made crates/tokens_test/stdin tests/tokens.py --input
 made crates/tokens_test/stdout tests/tokens.py
 made crates/operators_test/stdout tests/operators.py
@@ -50,6 +53,7 @@ export RT_JOBS=${RT_JOBS:-$(($(nproc) + 1))}
 log=$(mktemp)
 trap 'rm -f "$log"' EXIT
 rt ci </dev/null | tee "$log"
+python3 -B tests/wrong.py
 passes tests/sheet.sh
 passes tests/archive.sh
 passes tests/crate.sh

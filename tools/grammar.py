@@ -1,5 +1,5 @@
 #!/usr/bin/env python3
-"""Prints docs/GRAMMAR.md: the grammar of crates/standard/specs/Derives.antt as BNF, made from the types of its constructors.
+"""Prints docs/GRAMMAR.md: the grammar of crates/ecma262/specs/Derives.antt as BNF, made from the types of its constructors.
 
     tools/grammar.py > docs/GRAMMAR.md
 
@@ -12,7 +12,7 @@ import sys
 from collections import namedtuple
 
 ROOT = os.path.join(os.path.dirname(os.path.abspath(__file__)), '..')
-DERIVES = 'crates/standard/specs/Derives.antt'
+DERIVES = 'crates/ecma262/specs/Derives.antt'
 KINDS = 'crates/tokens/specs/Kind.antt'
 ROWS = 'crates/rows/specs/Row.antt'
 CLAUSE = re.compile(r'\d+(?:\.\d+)+')

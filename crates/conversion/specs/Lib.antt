@@ -1,11 +1,4 @@
 pub mod Conversion
-pub mod KidRoles
 pub mod TargetRule
-pub mod RuleHolds
 pub mod Potential
-pub mod Potentials
-pub mod Shapes
-pub mod Relabelled
-pub mod Relabelling
-pub mod Examples
-pub mod NotJudgedAgain
+pub mod Entry

@@ -1,8 +1,7 @@
-pub mod Terms
-pub mod Words
-pub mod Checks
-pub mod Entries
-pub mod Converts
-pub mod Work
 pub mod Demands
-pub mod GivenWhenRead
+pub mod Promises
+pub mod ThreeWay
+pub mod Agreement
+pub mod Standard
+pub mod Conversion
+pub mod Examples

@@ -1,1 +1,3 @@
-pub mod Exact
+pub mod Terms
+pub mod Targets
+pub mod Terminals

@@ -1,1 +1,1 @@
-// Demand 2 of the entries: Read with no record is exactly a derivation of the standard's, in specs/. No code.
+// The definition of a reading is exactly the standard's grammar, and the three demands of the entries, in proofs/; the words of the demands in specs/. No code.

@@ -10,3 +10,5 @@ pub mod Binding
 pub mod Arrow
 pub mod Step
 pub mod Reading
+pub mod Lent
+pub mod Told

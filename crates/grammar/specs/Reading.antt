@@ -1,5 +1,5 @@
 -- A whole reading: one Expression up to the end of the list, and what is answered. The pattern entry's: one binding with an optional initializer
--- in the Expression's place. The checks before it, and what is left in lent memory after it, are in making/specs/Lent.antt.
+-- in the Expression's place. The checks before it, and what is left in lent memory after it, are in Lent.antt.
 -- Assumes nothing: these are definitions.
 use mathlib.Core.Bool.{false}
 use lib.ListN.{length, getD, set, replicate}

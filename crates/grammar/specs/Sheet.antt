@@ -1,4 +1,4 @@
--- What a reading is given, what comes of it, and the few words in which the productions are written. The files of the productions take from
+-- What comes of a reading, and the few words in which the productions are written. The files of the productions take from
 -- here also what they need of numbers, tests, tokens, trees and records.
 -- Assumes nothing: these are definitions.
 pub use Prim.Native.Nat.{ℕ, _+_}
@@ -9,27 +9,10 @@ pub use Rattle.tokens.specs.Token.{is-name, is-word, is-literal}
 pub use Rattle.tokens.specs.declared.cause.Cause.{Cause}
 pub use Rattle.rows.specs.Tree.{Tree, Forest, node, nil, cons, one, join, kind-of, mark-of, kids-of}
 pub use Rattle.rows.specs.Record.{Record, break-before-arrow, rest-initializer, mixed-coalesce, unary-power, shorthand-initializer}
+pub use Rattle.tokens.specs.Sheet.{Sheet, sheet-of, token, break-before}
 use Rattle.tokens.specs.Kind.{Comma}
-use Rattle.tokens.specs.Token.{kind-at, flag-at}
 
 infixl 10 _>>=_
--- what a reading is given: the tokens' kinds, and the flags, 1 where a line break stands before the token
-pub record Sheet : Type 0 where
-  pub kinds : List ℕ
-  pub flags : List ℕ
-
--- the sheet of two lists
-abbrev pub sheet-of : List ℕ → List ℕ → Sheet
-sheet-of ks fs = record { kinds = ks; flags = fs }
-
--- the kind at a place
-abbrev pub token : Sheet → ℕ → ℕ
-token sheet at = kind-at (sheet .kinds) at
-
--- a line break stands before the token at a place
-abbrev pub break-before : Sheet → ℕ → Bool
-break-before sheet at = flag-at (sheet .flags) at is 1
-
 -- What comes of reading with notes N: it is done, up to a place, with trees, records, and the notes after; or it fails for a cause,
 -- with the notes after. (It is stuck only where a bound on the steps was too small, which never happens in a reading.)
 pub data Out (N : Type 0) : Type 0 where

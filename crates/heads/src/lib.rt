@@ -7,7 +7,10 @@ ghost use Rattle.grammar.specs.Sheet.{sheet-of};
 ghost use Rattle.heads.specs.Heads.{Dropped, is-block, is-pass, is-commit, may-open, way-at, way-of, arrow-kind};
 use lookahead::Tristate;
 use rows::row;
+use tokens::classes;
 use tokens::kind;
+
+pub mod singles;
 
 // What to do where the assignment level starts: pass a head, try one, or read one for good.
 pub enum Way {

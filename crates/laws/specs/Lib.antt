@@ -1,13 +1,2 @@
 pub mod Settles
-pub mod Sheets
-pub mod Good
-pub mod Owed
-pub mod Bounds
-pub mod Rel
-pub mod Steady
-pub mod Places
-pub mod Abandoned
-pub mod Kinds
-pub mod Formed
-pub mod WellFormed
 pub mod Promises

@@ -1,34 +1,105 @@
--- The promises of the definition of a reading, each as a statement with a short name, and its proof from the law that has it.
--- Those of the box's reader are said of `box-reading` and `box-pattern`; the laws say the same of every policy.
--- Assumes nothing.
-use Prim.Native.Nat.{ℕ, _≤_}
+-- The promises of the definition of a reading: the words that they are said in (notes of heads that were given up, where rows lie and refusals stand, well-formed trees of a class),
+-- and each promise as a type with a short name. Those of the box's reader are said of `box-reading` and `box-pattern`.
+-- Assumes nothing: these are definitions.
+use Prim.Native.Nat.{ℕ, _+_, _≤_, _<_}
 use mathlib.Core.Path.{_≡_}
-use mathlib.Core.List.{List}
-use lib.ListN.{length}
-use native.Mathlib.Omega.{arith}
-use Rattle.tokens.specs.declared.cause.Cause.{Cause}
-use Rattle.rows.specs.Shape.{is-expression, is-parameter}
-use Rattle.rows.specs.Tree.{Forest, sizes}
+use mathlib.Core.List.{List, [], _∷_}
+use lib.ListN.{length, getD}
+use Rattle.tokens.specs.Bool.{_is_, if_then_else_, _and_}
+use Rattle.rows.specs.Tree.{Forest, Tree, node, nil, cons, kind-of, kids-of, one, sizes}
 use Rattle.rows.specs.Record.{Record}
 use Rattle.grammar.specs.Sheet.{Sheet, Out, stuck}
 use Rattle.grammar.specs.Job.{Job, expression, binding-element}
 use Rattle.grammar.specs.Arrow.{Policy}
+use Rattle.grammar.specs.Reading.{box, cleared, noted-places, whole, reading, refused, box-reading, box-pattern}
+use Rattle.tokens.specs.Cause.{number, place}
+use Rattle.tokens.specs.declared.cause.Cause.{Cause}
+use mathlib.Core.Bool.{Bool, true}
+use Rattle.rows.specs.Shape.{last-kind, well-formed, is-expression, is-parameter}
 use Rattle.grammar.specs.Step.{read, plenty}
-use Rattle.laws.specs.Settles.{μ, Settles, in-plenty}
-use Rattle.grammar.specs.Reading.{whole, refused, box, cleared, box-reading, box-pattern}
-use Rattle.laws.specs.Bounds as Bounds
-use Rattle.laws.specs.Rel.{looked-at}
-use Rattle.laws.specs.Steady as Steady
-use Rattle.laws.specs.Steady.{Comes}
-use Rattle.laws.specs.Places as Places
-use Rattle.laws.specs.Places.{Lie, Inside}
-use Rattle.laws.specs.Abandoned as Abandoned
-use Rattle.laws.specs.Abandoned.{Fine, Logged}
-use Rattle.laws.specs.Formed.{of}
-use Rattle.laws.specs.WellFormed as WellFormed
-use Rattle.laws.specs.WellFormed.{OneTree}
+use Rattle.laws.specs.Settles.{μ, Settles, looked-at, Comes}
 
--- OF EVERY READER
+-- the box's notes, and the places that were abandoned, the last first
+pub record Log : Type 0 where
+  pub notes : List ℕ
+  pub places : List ℕ
+
+-- the box's policy, which also logs each abandoned head
+abbrev pub logging : Sheet → Policy Log
+logging sheet =
+    record {
+      way = λ at log. box sheet .way at (log .notes);
+      mark = λ at log. record { notes = box sheet .mark at (log .notes); places = at ∷ log .places };
+    }
+
+-- how often a place stands in a list
+unfoldable pub times : ℕ → List ℕ → ℕ
+times place [] = 0
+times place (at ∷ places) = (if at is place then 1 else 0) + times place places
+
+-- no place stands in the log twice; it stands there exactly if it is noted; and the log is as long as the number of noted places
+pub record Once (notes places : List ℕ) : Type 0 where
+  pub once : (place : ℕ) → times place places ≤ 1
+  pub noted : (place : ℕ) → times place places ≡ getD notes place 0
+  pub counted : length places ≡ noted-places notes
+
+-- notes that cover 2,048 places, each 0 or 1
+pub record Fine (notes : List ℕ) : Type 0 where
+  pub long : length notes ≡ 2048
+  pub each : (place : ℕ) → getD notes place 0 ≤ 1
+
+-- what the reader with the log reads: the same, with the same notes, and a log in which no place stands twice
+pub record Logged (sheet : Sheet) (job : Job) (trees : Forest) (records : List Record) (notes : List ℕ) : Type 0 where
+  pub places : List ℕ
+  pub reads-too : reading (logging sheet) sheet job (record { notes = cleared; places = [] }) ≡ whole trees records (record { notes = notes; places = places })
+  pub log-once : Once notes places
+
+mutual
+  -- a tree lies between two places: so does its row, its mark is one of its tokens, and its kids lie inside it
+  pub data Lies : ℕ → ℕ → Tree → Type 0 where
+    row-lies : {low high kind mark first end : ℕ} {kids : Forest} → low ≤ first → first ≤ mark → mark < end → end ≤ high → Lie first end kids
+        → Lies low high (node kind mark first end kids)
+
+  -- trees lie between two places, one after the other
+  pub data Lie : ℕ → ℕ → Forest → Type 0 where
+    none : {low high : ℕ} → low ≤ high → Lie low high nil
+    next : {low high : ℕ} {t : Tree} {ts : Forest} (middle : ℕ) → Lies low middle t → Lie middle high ts → Lie low high (cons t ts)
+
+-- a cause stands at a token, or at the end, and is one of those that a reading has
+pub record Inside (sheet : Sheet) (cause : Cause) : Type 0 where
+  pub there : place cause ≤ length (sheet .kinds)
+  -- 8 to 12
+  pub from-eight : 8 ≤ number cause
+  pub to-twelve : number cause ≤ 12
+
+-- kinds of rows
+abbrev pub Kinds : Type 0
+Kinds = ℕ → Bool
+
+-- the kind of a kid, and that of its own last kid
+abbrev pub Ends : Type 0
+Ends = ℕ → ℕ → Bool
+
+-- what a place asks of a row: one of some kinds; or one of them, whose last kid may be there
+pub data Class : Type 0 where
+  of : Kinds → Class
+  within : Ends → Kinds → Class
+
+unfoldable pub in-class : Class → ℕ → ℕ → Bool
+in-class (of kinds) kind last = kinds kind
+in-class (within ends kinds) kind last = kinds kind and ends kind last
+
+-- a tree may stand where the class is asked
+pub record In (class : Class) (t : Tree) : Type 0 where
+  pub holds : in-class class (kind-of t) (last-kind 0 (kids-of t)) ≡ true
+
+-- one well-formed tree, of a class
+pub record OneTree (class : Class) (trees : Forest) : Type 0 where
+  pub root : Tree
+  pub is-root : trees ≡ one root
+  pub root-well-formed : well-formed root ≡ true
+  pub root-in-class : In class root
+
 -- each nonterminal comes to something, if the token stands at which it starts: it is done, or it fails
 abbrev pub EverySettles : Type 1
 EverySettles = (N : Type 0) (policy : Policy N) (sheet : Sheet) (job : Job) (notes : N) → looked-at job ≤ length (sheet .kinds) → Comes policy sheet job notes
@@ -49,7 +120,6 @@ abbrev pub PlentyIsEnough : Type 1
 PlentyIsEnough =
     (N : Type 0) (policy : Policy N) (sheet : Sheet) (job : Job) (notes : N) → looked-at job ≤ length (sheet .kinds) → read policy sheet (plenty sheet) job notes ≡ stuck → ⊥
 
--- OF THE BOX'S READER
 -- what is said of the reading of a list as a whole, as one Expression and as one pattern
 abbrev pub OfReadings : (Sheet → Forest → List Record → List ℕ → Type 0) → Type 0
 OfReadings P =
@@ -91,45 +161,3 @@ AbandonedOnce =
     → Logged sheet (expression 0) trees records notes)
     × ((sheet : Sheet) (trees : Forest) (records : List Record) (notes : List ℕ) → length (sheet .kinds) ≤ 2048 → box-pattern sheet ≡ whole trees records notes
     → Logged sheet (binding-element 0) trees records notes)
-
--- ALL OF THEM
-pub every-settles : EverySettles
-every-settles N policy sheet job notes there = Steady.settles policy sheet job there notes
-
-pub never-stuck : NeverStuck
-never-stuck N policy sheet job notes steps there enough e = Steady.never-stuck policy sheet job there notes steps enough e
-
-pub plenty-is-enough : PlentyIsEnough
-plenty-is-enough N policy sheet job notes there e = Steady.never-stuck policy sheet job there notes (plenty sheet) (in-plenty sheet job) e
-
-pub one-outcome : OneOutcome
-one-outcome N policy sheet job notes out out′ s s′ = Steady.one-outcome s s′
-
-pub rows-fit : RowsFit
-rows-fit = (λ sheet trees records notes e. Bounds.room (box sheet) sheet cleared e .rows, λ sheet trees records notes e. Bounds.room-of-pattern (box sheet) sheet cleared e .rows)
-
-pub records-fit : RecordsFit
-records-fit =
-    (λ sheet trees records notes e. Bounds.room (box sheet) sheet cleared e .records-too, λ sheet trees records notes e. Bounds.room-of-pattern (box sheet) sheet cleared e .records-too)
-
-pub trees-formed : TreesFormed
-trees-formed =
-    (λ sheet trees records notes e. WellFormed.whole-is-well-formed (box sheet) sheet cleared e, λ sheet trees records notes e. WellFormed.pattern-is-well-formed (box sheet) sheet cleared e)
-
-pub rows-lie : RowsLie
-rows-lie = (λ sheet trees records notes e. Places.whole-lies (box sheet) sheet cleared e, λ sheet trees records notes e. Places.pattern-lies (box sheet) sheet cleared e)
-
-pub notes-stay : NotesStay
-notes-stay = (
-  λ sheet trees records notes e. Abandoned.notes-stay-whole sheet (expression 0) (omega arith) e,
-  λ sheet trees records notes e. Abandoned.notes-stay-whole sheet (binding-element 0) (omega arith) e,
-)
-
-pub refusals-stand : RefusalsStand
-refusals-stand = (λ sheet cause e. Places.refusal-inside (box sheet) sheet cleared e, λ sheet cause e. Places.pattern-refusal-inside (box sheet) sheet cleared e)
-
-pub abandoned-once : AbandonedOnce
-abandoned-once = (
-  λ sheet trees records notes small e. Abandoned.logs-the-same sheet (expression 0) (omega arith) small e,
-  λ sheet trees records notes small e. Abandoned.logs-the-same sheet (binding-element 0) (omega arith) small e,
-)

@@ -1,13 +1,16 @@
 -- How many steps are enough for each nonterminal, and what it comes to. The definition of a reading needs none of this: it allows plenty of steps.
--- Assumes nothing.
+-- Assumes nothing: these are definitions.
 use Prim.Native.Nat.{ℕ, _+_, _-_, _*_, _≤_}
 use mathlib.Core.Path.{_≡_}
-use native.Mathlib.Omega.{arith}
 use lib.ListN.{length}
-use Rattle.grammar.specs.Sheet.{Sheet, Out}
+use Rattle.grammar.specs.Sheet.{Sheet, Out, done, fail}
 use Rattle.grammar.specs.Job.{Job, expression, sequence, assignment, value, assign, conditional, binary, operators, unary, postfix, left-hand-side, links, arguments, primary, elements, properties, property, key, spread, binding, binding-element, binding-elements, binding-properties, binding-property, binding-rest, head, parameters, body}
 use Rattle.grammar.specs.Arrow.{Policy}
-use Rattle.grammar.specs.Step.{read, plenty}
+use Rattle.grammar.specs.Step.{read}
+use mathlib.Core.List.{List}
+use Rattle.tokens.specs.declared.cause.Cause.{Cause}
+use Rattle.rows.specs.Tree.{Forest}
+use Rattle.rows.specs.Record.{Record}
 
 -- the place that a nonterminal is at, and among those at one place the order in which they ask each other
 abbrev pub place-of : Job → ℕ
@@ -78,33 +81,38 @@ abbrev pub μ : Sheet → Job → ℕ
 pub record Settles {N : Type 0} (policy : Policy N) (sheet : Sheet) (job : Job) (notes : N) (out : Out N) : Type 0 where
   pub with : (steps : ℕ) → μ sheet job ≤ steps → read policy sheet steps job notes ≡ out
 
--- plenty of steps are enough for each
-pub in-plenty : (sheet : Sheet) (job : Job) → μ sheet job ≤ plenty sheet
-in-plenty sheet (expression at) = omega arith
-in-plenty sheet (sequence first comma at so-far) = omega arith
-in-plenty sheet (assignment at) = omega arith
-in-plenty sheet (value at) = omega arith
-in-plenty sheet (assign first at left) = omega arith
-in-plenty sheet (conditional first at test) = omega arith
-in-plenty sheet (binary floor at) = omega arith
-in-plenty sheet (operators floor first at left) = omega arith
-in-plenty sheet (unary at) = omega arith
-in-plenty sheet (postfix at) = omega arith
-in-plenty sheet (left-hand-side at) = omega arith
-in-plenty sheet (links first at left) = omega arith
-in-plenty sheet (arguments first at so-far) = omega arith
-in-plenty sheet (primary at) = omega arith
-in-plenty sheet (elements first at kind so-far) = omega arith
-in-plenty sheet (properties first at kind so-far) = omega arith
-in-plenty sheet (property at) = omega arith
-in-plenty sheet (key at) = omega arith
-in-plenty sheet (spread at) = omega arith
-in-plenty sheet (binding at) = omega arith
-in-plenty sheet (binding-element at) = omega arith
-in-plenty sheet (binding-elements first at so-far) = omega arith
-in-plenty sheet (binding-properties first at so-far) = omega arith
-in-plenty sheet (binding-property at) = omega arith
-in-plenty sheet (binding-rest at) = omega arith
-in-plenty sheet (head at) = omega arith
-in-plenty sheet (parameters at so-far) = omega arith
-in-plenty sheet (body kind first at so-far) = omega arith
+-- Five nonterminals start at a token that whoever asks has looked at: one past it; the others may start anywhere.
+abbrev pub looked-at : Job → ℕ
+looked-at (expression at) = 0
+looked-at (sequence first comma at so-far) = 0
+looked-at (assignment at) = 0
+looked-at (value at) = 0
+looked-at (assign first at left) = at + 1
+looked-at (conditional first at left) = at + 1
+looked-at (binary floor at) = 0
+looked-at (operators floor first at left) = 0
+looked-at (unary at) = 0
+looked-at (postfix at) = 0
+looked-at (left-hand-side at) = 0
+looked-at (links first at left) = 0
+looked-at (arguments first at so-far) = 0
+looked-at (primary at) = 0
+looked-at (elements first at kind so-far) = 0
+looked-at (properties first at kind so-far) = 0
+looked-at (property at) = 0
+looked-at (key at) = 0
+looked-at (spread at) = at + 1
+looked-at (binding at) = 0
+looked-at (binding-element at) = 0
+looked-at (binding-elements first at so-far) = 0
+looked-at (binding-properties first at so-far) = 0
+looked-at (binding-property at) = 0
+looked-at (binding-rest at) = at + 1
+looked-at (head at) = 0
+looked-at (parameters at so-far) = 0
+looked-at (body kind first at so-far) = at + 1
+
+-- what a nonterminal comes to
+pub data Comes {N : Type 0} (policy : Policy N) (sheet : Sheet) (job : Job) (notes : N) : Type 0 where
+  comes-done : (end : ℕ) (trees : Forest) (records : List Record) (after : N) → Settles policy sheet job notes (done end trees records after) → Comes policy sheet job notes
+  comes-fail : (cause : Cause) (after : N) → Settles policy sheet job notes (fail cause after) → Comes policy sheet job notes

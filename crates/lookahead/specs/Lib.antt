@@ -1,3 +1,3 @@
 pub mod ThreeWay
 pub mod Entry
-pub mod Laws
+pub mod Cases

@@ -5,6 +5,8 @@ ghost use Rattle.lookahead.specs.ThreeWay.{three-way, after-open, after-
 ghost use Rattle.lookahead.specs.Entry.{three-way-entry, check-place};
 use tokens::cause::Cause;
 use tokens::check::Checked;
+use tokens::checks;
+use tokens::classes;
 use tokens::kind;
 
 // What the next tokens say of a head: it is none, it is one, or it has to be tried. Follows `Tristate`.

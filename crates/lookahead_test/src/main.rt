@@ -3,6 +3,7 @@
 // tests/lookahead.py makes `stdin` and `stdout`; it was written from the rules and arrow.rs and not from this program.
 use lookahead::ThreeWay;
 use lookahead::Tristate;
+use tokens::causes;
 use tokens::kind;
 
 // A row of 22 bytes describes a list: how many kinds and flags it has, the place (255: the largest), whether TypeScript and JSX are on,

@@ -5,9 +5,9 @@ use mathlib.Core.Path.{_≡_, sym, ap, _∙_}
 use mathlib.Core.List.{List}
 use lib.ListN.{length}
 use Rattle.grammar.specs.Sheet.{sheet-of}
-use Rattle.making.specs.Lent.{Given, read-entry}
-use Rattle.sheets.specs.Layout.{Sheet}
-use Rattle.sheets.proofs.Once.{kinds-once, flags-once}
+use Rattle.grammar.specs.Lent.{Given, read-entry}
+use Rattle.sheet_file.specs.Layout.{Sheet}
+use Rattle.sheet_file.proofs.Once.{kinds-once, flags-once}
 use Rattle.text.specs.Post.{laid-over, printed}
 use Rattle.text.specs.declared.Printed.{Printed}
 use Rattle.printout.specs.Printout.{text-of, reading-of, Shows, PrintsFile}

@@ -18,11 +18,11 @@ use Rattle.rows.specs.Tree.{sizes}
 use Rattle.grammar.specs.Job.{expression}
 use Rattle.grammar.specs.Reading.{Whole, whole, refused, reading, box, cleared, noted-places}
 use Rattle.grammar.specs.Sheet.{sheet-of}
-use Rattle.making.specs.Lent.{check-row-room, check-record-room, checks, answered, checked, entry, read-entry}
-use Rattle.laws.specs.Bounds as Bounds
-use Rattle.laws.specs.Places as Places
-use Rattle.laws.specs.Abandoned as Abandoned
-use Rattle.frame.proofs.Checked.{ready}
+use Rattle.grammar.specs.Lent.{check-row-room, check-record-room, checks, answered, checked, entry, read-entry}
+use Rattle.laws.proofs.Bounds as Bounds
+use Rattle.laws.proofs.Places as Places
+use Rattle.laws.proofs.Abandoned as Abandoned
+use Rattle.grammar.proofs.Checked.{ready}
 use Rattle.text.specs.Text.{text}
 use Rattle.text.proofs.Room.{Words, Few, read-room, refused-room}
 

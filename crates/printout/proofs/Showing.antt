@@ -6,11 +6,10 @@ use mathlib.Core.Path.{_≡_, refl, subst}
 use mathlib.Core.List.{List}
 use Rattle.tokens.specs.declared.cause.Answer.{Answer}
 use Rattle.grammar.specs.Sheet.{sheet-of}
-use Rattle.making.specs.Lent.{read-entry}
-use Rattle.frame.specs.Entry.{Answers}
-use Rattle.sheets.specs.Layout.{Sheet}
-use Rattle.sheets.specs.Post.{Handed}
-use Rattle.sheets.proofs.Once.{kinds-of-once, flags-of-once}
+use Rattle.grammar.specs.Lent.{read-entry, Answers}
+use Rattle.sheet_file.specs.Layout.{Sheet}
+use Rattle.sheet_file.specs.Post.{Handed}
+use Rattle.sheet_file.proofs.Once.{kinds-of-once, flags-of-once}
 use Rattle.text.specs.Text.{text, bad-file}
 use Rattle.text.specs.Post.{Prints}
 use Rattle.text.specs.declared.Printed.{Printed}

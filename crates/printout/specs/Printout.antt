@@ -5,8 +5,8 @@ use mathlib.Core.Path.{_≡_}
 use mathlib.Core.List.{List}
 use lib.ListN.{length}
 use Rattle.grammar.specs.Sheet.{sheet-of}
-use Rattle.making.specs.Lent.{Given, read-entry}
-use Rattle.sheets.specs.Layout.{Sheet}
+use Rattle.grammar.specs.Lent.{Given, read-entry}
+use Rattle.sheet_file.specs.Layout.{Sheet}
 use Rattle.text.specs.Text.{text, bad-file}
 use Rattle.text.specs.Post.{Prints}
 use Rattle.text.specs.declared.Printed.{Printed}

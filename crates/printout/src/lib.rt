@@ -6,11 +6,11 @@ use text::Printed;
 pub fn print_file(bytes: &[u8], rows: &mut [u32], records: &mut [u32], out: &mut [u8]) -> Printed
     ensures { λ r. ⌜ PrintsFile (now (bytes .entry)) (now (rows .entry)) (now (records .entry)) (now (out .entry)) (now (rows .exit)) (now (records .exit)) (now (out .exit)) r ⌝ }
 {
-    if !sheets::is_sheet(bytes) {
+    if !sheet_file::is_sheet(bytes) {
         return text::print_bad_file(out);
     }
-    let kinds = sheets::kinds_of(bytes);
-    let flags = sheets::flags_of(bytes);
+    let kinds = sheet_file::kinds_of(bytes);
+    let flags = sheet_file::flags_of(bytes);
     let answer = reader::read(kinds, flags, rows, records);
     text::print_answer(out, answer, rows, records)
 }

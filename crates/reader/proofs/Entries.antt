@@ -15,19 +15,18 @@ use Rattle.grammar.specs.Sheet.{sheet-of, Out, done}
 use Rattle.grammar.specs.Job.{Job}
 use Rattle.grammar.specs.Step as Step
 use Rattle.grammar.specs.Reading.{Whole, whole, refused, box, cleared, at-end, reading}
-use Rattle.making.specs.Lent.{answered, checked, entry}
-use Rattle.laws.specs.Settles.{in-plenty}
-use Rattle.laws.specs.Owed.{pays-lasts}
-use Rattle.laws.specs.Bounds.{limits, reads}
-use Rattle.laws.specs.Rel.{looked-at}
-use Rattle.laws.specs.Steady.{kept-if-done}
-use Rattle.laws.specs.Abandoned.{fine-cleared, notes-stay}
-use Rattle.making.specs.Post.{cursor, Room, Met}
-use Rattle.making.specs.declared.cursor.Step as Made
-use Rattle.making.proofs.Ends.{moved}
-use Rattle.frame.specs.Entry.{Answers}
-use Rattle.frame.specs.Post.{Within, Checks, Ready, Came, CameOut, Finished}
-use Rattle.frame.proofs.Checked.{ready}
+use Rattle.grammar.specs.Lent.{answered, checked, entry, Answers, Ready}
+use Rattle.laws.proofs.Settles.{in-plenty}
+use Rattle.laws.proofs.Owed.{pays-lasts}
+use Rattle.laws.proofs.Bounds.{limits, reads}
+use Rattle.laws.specs.Settles.{looked-at}
+use Rattle.laws.proofs.Steady.{kept-if-done}
+use Rattle.laws.proofs.Abandoned.{fine-cleared, notes-stay}
+use Rattle.build.specs.Post.{cursor, Room, Met}
+use Rattle.build.specs.declared.cursor.Step as Made
+use Rattle.build.proofs.Ends.{moved}
+use Rattle.reader.specs.Post.{Within, Checks, Came, CameOut, Finished}
+use Rattle.grammar.proofs.Checked.{ready}
 
 -- the list passes the checks: there is room to begin
 pub begins : {ks fs r s : List ℕ} {x : Checked} → Checks ks fs r s x → x ≡ Checked.Fine → Room ks r s (cursor 0 0 0)

@@ -1,2 +1,4 @@
+pub mod Last
+pub mod Finishing
 pub mod Entries
 pub mod Once

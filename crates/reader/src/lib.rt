@@ -1,9 +1,11 @@
 // The reader: a list of token bytes into a flat tree in lent memory (RULES X1, X2).
 ghost use Rattle.grammar.specs.Sheet.{sheet-of};
-ghost use Rattle.making.specs.Lent.{read-entry, pattern-entry};
-ghost use Rattle.frame.specs.Entry.{Answers};
+ghost use Rattle.grammar.specs.Lent.{read-entry, pattern-entry};
+ghost use Rattle.grammar.specs.Lent.{Answers};
 use tokens::cause::Answer;
 use tokens::check::Checked;
+
+pub mod frame;
 
 // The reader: the list is one Expression, then end. Follows `parse_expression`.
 pub fn read(kinds: &[u8], flags: &[u8], rows: &mut [u32], records: &mut [u32]) -> Answer

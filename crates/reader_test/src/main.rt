@@ -5,6 +5,7 @@
 ghost use Prim.Native.Nat.{_≤_, _<_};
 use tokens::cause::Answer;
 use tokens::cause::Counts;
+use tokens::causes;
 
 const STDOUT: i32 = 1;
 

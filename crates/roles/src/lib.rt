@@ -6,6 +6,7 @@ ghost use Rattle.roles.specs.ShortCut as short;
 use rows::row;
 
 pub mod plan;
+pub mod plans;
 
 // What conversion looks at in a row: three of its words, how many kids it has, and the last kid's kind and first token (0 where
 // there is none).

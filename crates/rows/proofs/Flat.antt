@@ -109,3 +109,7 @@ flat-injective t u e =
 -- so a list of words has at most one well-formed tree
 pub well-formed-once : {words : List ℕ} (v w : WellFormed words) → v .tree ≡ w .tree
 well-formed-once v w = flat-injective (v .tree) (w .tree) (sym (v .text) ∙ w .text)
+
+-- how long a well-formed tree is
+pub long : {w : List ℕ} (v : WellFormed w) → length w ≡ 6 * size (v .tree)
+long v = ap length (v .text) ∙ length-flat (v .tree)

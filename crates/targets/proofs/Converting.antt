@@ -9,7 +9,7 @@ use lib.ListN.{length}
 use Rattle.tokens.specs.declared.cause.Cause.{Cause}
 use Rattle.rows.specs.Tree.{Tree}
 use Rattle.conversion.specs.Conversion.{Outcome, is-reference, convert-as}
-use Rattle.conversion.specs.RuleHolds.{refused-turned}
+use Rattle.conversion.proofs.RuleHolds.{refused-turned}
 use Rattle.rows.specs.Post.{Word, KindSet}
 use Rattle.roles.specs.ShortCut.{named-kind}
 use Rattle.roles.specs.Meaning as means
@@ -17,7 +17,7 @@ use Rattle.targets.specs.Outcome as outcome
 use Rattle.targets.specs.Post.{Subtree, Judged, Ready, TurnedRow, Room, RowConverted}
 use Rattle.targets.specs.declared.Conversion.{Conversion}
 use Rattle.targets.specs.declared.Conversion.the-variants.{Turned, Refused}
-use Rattle.conversion.specs.Potentials.{comma-count, pays, turned-is, turned-records}
+use Rattle.conversion.proofs.Potentials.{comma-count, pays, turned-is, turned-records}
 use Rattle.targets.proofs.Records.{filled-none}
 use Rattle.targets.proofs.ShortCuts.{reference-turned, one-set}
 use Rattle.targets.proofs.Judging.{found-turned}

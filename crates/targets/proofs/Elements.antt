@@ -15,8 +15,8 @@ use Rattle.rows.specs.Record.{Record}
 use Rattle.rows.specs.Post.{Word, KindSet}
 use Rattle.conversion.specs.Conversion as def
 use Rattle.conversion.specs.Conversion.{Outcome, turned, refused, change, as-any, roles, over, both, convert-as, convert-kids}
-use Rattle.conversion.specs.RuleHolds.{refused-turned}
-use Rattle.conversion.specs.Potentials.{turned-is, turned-records}
+use Rattle.conversion.proofs.RuleHolds.{refused-turned}
+use Rattle.conversion.proofs.Potentials.{turned-is, turned-records}
 use Rattle.roles.specs.Plan as code
 use Rattle.roles.specs.Meaning as means
 use Rattle.roles.specs.ShortCut.{is-element, named-kind}

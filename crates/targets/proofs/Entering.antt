@@ -18,15 +18,16 @@ use Rattle.rows.specs.Words.{WellFormed}
 use Rattle.rows.specs.Part.{Rooted, subtree}
 use Rattle.rows.specs.Post.{Word, Cleared}
 use Rattle.rows.specs.Stands.{Decides}
-use Rattle.trees.proofs.Whole.{long, subtree-in}
+use Rattle.trees.proofs.Whole.{subtree-in}
+use Rattle.rows.proofs.Flat.{long}
 use Rattle.rows.proofs.Records.{length-record-words}
 use Rattle.conversion.specs.Conversion as def
 use Rattle.conversion.specs.Conversion.{Outcome, turned, refused, convert}
 use Rattle.targets.specs.Post.{Subtree, Filled, Room, RowConverted}
-use Rattle.targets.specs.Entry.{Result, holds, fails, Sized, unchanged, done, Entry, Answered}
+use Rattle.conversion.specs.Entry.{Result, holds, fails, Sized, unchanged, done, Entry, Answered}
 use Rattle.targets.specs.declared.Conversion.{Conversion}
 use Rattle.targets.specs.declared.Conversion.the-variants.{Turned, Refused}
-use Rattle.conversion.specs.Potentials.{potential-size, pays}
+use Rattle.conversion.proofs.Potentials.{potential-size, pays}
 use Rattle.targets.proofs.Looking.{reads-size}
 
 size-one : (t : Tree) → sizes (one t) ≡ size t

@@ -20,13 +20,13 @@ use Rattle.conversion.specs.Conversion.{Outcome, turned, refused, roles, over, 
 use Rattle.roles.specs.Meaning as means
 use Rattle.targets.specs.Outcome as outcome
 use Rattle.targets.specs.Post.{Subtree, SizeInside, FirstRow, begins-of, PlanAt, Own, Judged, Sums}
-use Rattle.conversion.specs.RuleHolds.{refused-turned}
+use Rattle.conversion.proofs.RuleHolds.{refused-turned}
 use Rattle.targets.specs.declared.Conversion.{Conversion}
 use Rattle.targets.specs.declared.Conversion.the-variants.{Turned, Refused}
 use Rattle.roles.specs.Plan as code
 use Rattle.targets.specs.Named.{NameUnder}
 use Rattle.targets.proofs.Near.{convert-near}
-use Rattle.conversion.specs.Potentials.{comma-count, pays, potential-size, turned-records}
+use Rattle.conversion.proofs.Potentials.{comma-count, pays, potential-size, turned-records}
 use Rattle.targets.proofs.Flat.{Walk, Next, some-rows, walk-start, walk-some, walk-next, walk-past, whole-next, root-inside, kid-tree, kid-size, kid-text, size-root}
 use Rattle.targets.proofs.Looking.{reads-size, no-kid}
 use Rattle.targets.proofs.Plans.{turning, Alone, kept, refuses, alone, few-notes}

@@ -1,4 +1,3 @@
--- What the proofs of several functions use.
 mod Near
 mod Flat
 mod Looking
@@ -13,5 +12,4 @@ mod Elements
 mod Converting
 mod Entering
 pub mod Once
-pub mod EntryRule
 mod Reading

@@ -17,7 +17,7 @@ use Rattle.conversion.specs.Conversion.{Outcome, turned, refused, Role, convert
 use Rattle.targets.specs.Post.{Subtree, Filled, Made, RowConverted}
 use Rattle.targets.specs.declared.Conversion.{Conversion}
 use Rattle.targets.specs.declared.Conversion.the-variants.{Turned, Refused}
-use Rattle.conversion.specs.Shapes.{same-size}
+use Rattle.conversion.proofs.Shapes.{same-size}
 
 flat-one : (t : Tree) → flats (one t) ≡ flat t
 unfolding flats

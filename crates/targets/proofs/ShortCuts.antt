@@ -16,17 +16,17 @@ use Rattle.rows.specs.Post.{Word, KindSet, RowInside}
 use Rattle.rows.proofs.Rows.{sizes-join, flats-join, count-join}
 use Rattle.conversion.specs.Conversion.{turned, is-reference, Role, any, simple, element, last-element, property, last-property, value, name, same, each, only, as-simple, as-any, as-value, as-element, as-last-element, as-property, as-last-property, as-name, change, roles, over, seen, both, convert-as, convert-kids}
 use Rattle.targets.specs.Post.{Subtree, WordInside, TurnedRow}
-use Rattle.conversion.specs.RuleHolds.{by-test, both-true, one-kid}
+use Rattle.conversion.proofs.RuleHolds.{by-test, both-true, one-kid}
 use Rattle.roles.specs.Plan as code
 use Rattle.roles.specs.Meaning.{commas, kid, aim}
 use Rattle.roles.specs.ShortCut.{is-value, is-element, is-initialized, ends-in-target, named-kind}
 use Rattle.targets.specs.Named.{Named, NameAt, NameBelow, NameUnder, NameInside, NameSet, named-at}
-use Rattle.conversion.specs.Potentials.{turned-is, turned-records}
+use Rattle.conversion.proofs.Potentials.{turned-is, turned-records}
 use Rattle.targets.proofs.Flat.{root-words, root-text, root-inside, Walk, Next, walk-start, walk-more, walk-next, kid-tree, kid-size, kid-text, whole-next}
 use Rattle.targets.proofs.Looking.{reads-kind, reads-kids, reads-size, no-kid}
 use Rattle.targets.proofs.Records.{filled-none}
 use Rattle.targets.proofs.Turning.{root-set, same-kids, place-root, more-flat, Step, step-turned}
-use Rattle.conversion.specs.Shapes.{SameShape}
+use Rattle.conversion.proofs.Shapes.{SameShape}
 
 false-true : {A : Type 0} → false ≡ true → A
 false-true e = let z : _≡_ {A = ℕ} 0 1 = cc in absurd (omega arith)

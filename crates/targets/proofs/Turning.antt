@@ -23,8 +23,8 @@ use Rattle.roles.specs.Meaning as means
 use Rattle.targets.specs.Post.{Subtree, SizeInside, FirstRow, begins-of, begins-before, PlanAt, Filled, NoteFits, Written, FinishFits, Finished, Ready, Made, TurnedRow}
 use Rattle.targets.specs.Named.{all-elements}
 use Rattle.roles.specs.ShortCut.{is-element}
-use Rattle.conversion.specs.RuleHolds.{refused-turned}
-use Rattle.conversion.specs.Potentials.{turned-is, turned-records}
+use Rattle.conversion.proofs.RuleHolds.{refused-turned}
+use Rattle.conversion.proofs.Potentials.{turned-is, turned-records}
 use Rattle.targets.proofs.Flat.{root-words, flat-root, root-text, root-inside, size-root, Walk, Next, walk-start, walk-some, walk-next, walk-none, walk-past, kid-tree, kid-size, whole-next}
 use Rattle.targets.proofs.Looking.{reads-kind, reads-size, last-begins, kid-before}
 use Rattle.targets.proofs.Records.{filled-none, filled-more}
@@ -32,7 +32,7 @@ use Rattle.targets.proofs.Judging.{by-change, last-kid}
 use Rattle.roles.specs.Plan as code
 use Rattle.targets.proofs.Plans.{turning, Alone, kept, refuses, alone, before-length, right-before}
 use Rattle.targets.proofs.Wrong.{wrong-kid}
-use Rattle.conversion.specs.Shapes.{SameShape, same-size, same-shape, Both, cons-parts, cons-turned, none-turned}
+use Rattle.conversion.proofs.Shapes.{SameShape, same-size, same-shape, Both, cons-parts, cons-turned, none-turned}
 
 -- elements of two forests, one after the other
 pub first-element : (b c : Bool) → (if b then c else false) ≡ true → b ≡ true

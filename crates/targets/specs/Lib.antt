@@ -1,4 +1,3 @@
 pub mod Outcome
 pub mod Post
 pub mod Named
-pub mod Entry

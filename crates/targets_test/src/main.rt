@@ -1,10 +1,10 @@
 // Conversions as their own entry, each on a line: the answer, the kinds of all rows after it, and the record words after it, which
 // were 7 before it.
 ghost use Prim.Native.Nat.{_≤_};
-use causes::number_of;
-use causes::place_of;
 use rows::row;
 use tokens::cause::Answer;
+use tokens::causes::number_of;
+use tokens::causes::place_of;
 
 const STDOUT: i32 = 1;
 

@@ -9,6 +9,7 @@ ghost use Rattle.text.specs.Post.{Prints, Adds, Told};
 use tokens::cause::Answer;
 use tokens::cause::Cause;
 use tokens::cause::Counts;
+use tokens::causes;
 
 // How long a printed text is, or that the buffer is shorter; it then holds the beginning of the text.
 pub enum Printed {

@@ -1,4 +1,4 @@
-// What a check of a list or a place finds. The checks of a list are the crate `checks`.
+// What a check of a list or a place finds. The checks of a list are in `checks`.
 use crate::cause::Cause;
 
 pub enum Checked {

@@ -6,7 +6,10 @@ ghost use lib.ListN.{getD};
 ghost use Rattle.tokens.specs.Token.{kind-at, flag-at};
 
 pub mod cause;
+pub mod causes;
 pub mod check;
+pub mod checks;
+pub mod classes;
 pub mod kind;
 
 // The byte at a place, and 0 past the end.

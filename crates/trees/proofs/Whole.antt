@@ -1,7 +1,7 @@
 -- Laws of whole trees: words whose rows stand, the last of them as large as all, are a well-formed tree, and no others are.
 -- Assumes nothing.
 use Prim.Native.Nat.{ℕ, _+_, _-_, _*_, _/_, _%_, _≤_, _<_}
-use mathlib.Core.Path.{_≡_, refl, sym, ap, _∙_, subst}
+use mathlib.Core.Path.{_≡_, sym, ap, _∙_, subst}
 use mathlib.Core.List.{List, [], append-nil}
 use native.Mathlib.Omega.{arith}
 use lib.Dec.{eqb}
@@ -14,14 +14,10 @@ use Rattle.rows.specs.Words.{WellFormed}
 use Rattle.rows.specs.Part.{Rooted, subtree}
 use Rattle.rows.specs.Stands.{Decides, Stands}
 use Rattle.rows.specs.Handed.{OwnFrom, Inside, Handed, own, empty, HandedBack}
-use Rattle.rows.proofs.Flat.{length-flat, some-row}
+use Rattle.rows.proofs.Flat.{some-row, long}
 use Rattle.rows.proofs.Parts.{part-whole}
 use Rattle.trees.proofs.Walks.{root-small}
 use Rattle.rows.proofs.Subtrees.{rooted, root-size, subtree-of, subtree-words, subtree-well-formed}
-
--- how long a well-formed tree is
-pub long : {w : List ℕ} (v : WellFormed w) → length w ≡ 6 * size (v .tree)
-long v = ap length (v .text) ∙ length-flat (v .tree)
 
 module _ {w : List ℕ} where
   pub no-words : length w ≡ 0 → WellFormed w → ⊥

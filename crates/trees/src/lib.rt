@@ -4,6 +4,7 @@ ghost use Rattle.rows.specs.Stands.{Decides};
 ghost use Rattle.rows.specs.Handed.{HandedBack};
 use rows::row_word;
 
+pub mod shape;
 mod walk;
 
 // Whether the words are a well-formed tree: at most 2,048 rows of listed kinds, with kids that may stand there and sizes that add up.

@@ -22,7 +22,7 @@ fn kid_fits(words: &[u32], row: usize, kind: u32, before: u64, after: u64) -> bo
 {
     let kid = row_word(words, row, 0);
     let last = last_kind(words, row);
-    shapes::fits(kind, before, after, kid, last)
+    crate::shape::fits(kind, before, after, kid, last)
 }
 
 // Whether the rows from low on, up to row, are so many trees that may stand as the kids of a row of this kind.
@@ -56,11 +56,11 @@ pub fn row_stands(words: &[u32], row: usize) -> bool
     ensures { λ r. ⌜ Decides (Stands (now (words .entry)) row) r ⌝ }
 {
     let kind = row_word(words, row, 0);
-    if !shapes::is_listed(kind) {
+    if !crate::shape::is_listed(kind) {
         return false;
     }
     let kids = row_word(words, row, 4) as u64;
-    if !shapes::is_enough(kind, kids) {
+    if !crate::shape::is_enough(kind, kids) {
         return false;
     }
     let size = row_word(words, row, 5) as usize;

@@ -3,10 +3,11 @@
 ghost use mathlib.Core.Path.{_≡_};
 ghost use Rattle.operators.specs.Precedence.{level, expression-level};
 ghost use Rattle.lookahead.specs.Entry.{three-way-entry};
-ghost use Rattle.vuolmaset.specs.Told.{Told, tristate-number, ToldThreeWay, ToldRead, ToldPattern, ToldConvert, ToldSubtree};
+ghost use Rattle.grammar.specs.Told.{Told, tristate-number, ToldThreeWay, ToldRead, ToldPattern, ToldConvert, ToldSubtree};
 use lookahead::ThreeWay;
 use lookahead::Tristate;
 use tokens::cause::Answer;
+use tokens::causes;
 
 // An answer as numbers: 0 and the counts of rows, records and abandoned heads; or the refusal's number, its place, 0 and 0.
 fn tell(answer: Answer, first: &mut usize, second: &mut usize, third: &mut usize) -> u32

@@ -10,11 +10,11 @@ use Rattle.rows.specs.Tree.{Forest, node, cons, one, flats, row}
 use Rattle.rows.specs.Post.{Pushed, Grown, Kept}
 use Rattle.grammar.specs.Job.{Job}
 use Rattle.grammar.specs.Binary.{operation-kind}
-use Rattle.operation.specs.Operation.{Finished}
-use Rattle.making.specs.Post.{Met}
-use Rattle.making.specs.declared.cursor.Cursor.{Cursor}
-use Rattle.making.specs.declared.cursor.Step.{Step}
-use Rattle.steps.specs.Root.{length-flats}
+use Rattle.build.specs.Operation.{Finished}
+use Rattle.build.specs.Post.{Met}
+use Rattle.build.specs.declared.cursor.Cursor.{Cursor}
+use Rattle.build.specs.declared.cursor.Step.{Step}
+use Rattle.waiting.proofs.Root.{length-flats}
 use Rattle.waiting.specs.Waiting.{Waiting, operation, part, choice, words, all-words, Held}
 
 -- rows that were added are inside

@@ -18,15 +18,14 @@ use Rattle.rows.specs.Row as Row
 use Rattle.targets.specs.declared.Conversion.{Conversion}
 use Rattle.grammar.specs.Assignment.{is-assignment-operator}
 use Rattle.grammar.specs.Binary.{operation-kind, right-floor}
-use Rattle.laws.specs.Good.{and-left, and-right}
-use Rattle.making.specs.Post.{HeadFits, Room, Operand}
-use Rattle.making.specs.declared.cursor.Cursor.{Cursor}
+use Rattle.laws.proofs.Good.{and-left, and-right}
+use Rattle.build.specs.Post.{HeadFits, Room, Operand}
+use Rattle.build.specs.declared.cursor.Cursor.{Cursor}
 use Rattle.heads.specs.declared.Head.{Head}
-use Rattle.operation.specs.Operation.{Finished}
-use Rattle.steps.specs.Assigned.{kind-for}
-use Rattle.steps.specs.Binary.{operator-stands}
-use Rattle.steps.specs.Value as Value
-use Rattle.waiting.specs.Waiting.{Waiting, operation, part, choice, Choice, is-operation, awaits-operand, floor-of, Whole, Held, Spare, Opens, Linked, Ends}
+use Rattle.build.specs.Operation.{Finished}
+use Rattle.waiting.specs.Waiting.{kind-for, Waiting, operation, part, choice, Choice, is-operation, awaits-operand, floor-of, Whole, Held, Spare, Opens, Linked, Ends}
+use Rattle.waiting.proofs.Binary.{operator-stands}
+use Rattle.waiting.proofs.Value as Value
 use Rattle.waiting.specs.Post.{word, end-of, ends-operand, OperationFits, FinishedOperation, WaitFits, WaitsOperand, WaitsChoice, WaitsRight, WaitsBody, opens-body, NameBody, Goes, PartAt, GroupAt}
 use Rattle.waiting.specs.declared.Group.{Group}
 use Rattle.waiting.specs.declared.Next.{Next}

@@ -20,18 +20,18 @@ use Rattle.grammar.specs.Binary.{right-floor}
 use Rattle.roles.specs.Meaning as means
 use Rattle.targets.specs.Post as Targets
 use Rattle.targets.specs.declared.Conversion.{Conversion}
-use Rattle.making.specs.Post.{cursor, Room, Met, MetOver, Leafed, Operand, HeadFits}
-use Rattle.making.specs.declared.cursor.Cursor.{Cursor}
-use Rattle.making.specs.declared.cursor.Step.{Step}
-use Rattle.making.proofs.Ends.{moved}
+use Rattle.build.specs.Post.{cursor, Room, Met, MetOver, Leafed, Operand, HeadFits}
+use Rattle.build.specs.declared.cursor.Cursor.{Cursor}
+use Rattle.build.specs.declared.cursor.Step.{Step}
+use Rattle.build.proofs.Ends.{moved}
 use Rattle.heads.specs.declared.Head.{Head}
-use Rattle.steps.specs.Binary.{Grouped, operator-stands, operand-rows, binary-ends, binary-stops, binary-operates}
-use Rattle.steps.specs.Value as Value
-use Rattle.steps.specs.Value.{value-refuses, value-operand, value-choices, value-ends, value-stays, value-assigned, value-arrows}
-use Rattle.steps.specs.Choice.{choice-fails, choice-opens, choice-fails-after, choice-done}
-use Rattle.steps.specs.Assigned.{kind-for, assigned-few, assigned-refuses, assigned-fails, assigned-done}
-use Rattle.steps.specs.Body.{Breaks, body-curlies, body-refused, body-dones}
-use Rattle.waiting.specs.Waiting.{Waiting, operation, part, choice, is-operation, Choice, awaits-operand, floor-of, begun, Whole, Spare, Comes-all, Outcome, Starts, Opens, Linked, Ends}
+use Rattle.waiting.proofs.Binary.{operator-stands, operand-rows, binary-ends, binary-stops, binary-operates}
+use Rattle.waiting.specs.Waiting.{Grouped, kind-for, Breaks, Waiting, operation, part, choice, is-operation, Choice, awaits-operand, floor-of, begun, Whole, Spare, Comes-all, Outcome, Starts, Opens, Linked, Ends}
+use Rattle.waiting.proofs.Value as Value
+use Rattle.waiting.proofs.Value.{value-refuses, value-operand, value-choices, value-ends, value-stays, value-assigned, value-arrows}
+use Rattle.waiting.proofs.Choice.{choice-fails, choice-opens, choice-fails-after, choice-done}
+use Rattle.waiting.proofs.Assigned.{assigned-few, assigned-refuses, assigned-fails, assigned-done}
+use Rattle.waiting.proofs.Body.{body-curlies, body-refused, body-dones}
 use Rattle.waiting.proofs.Cuts.{met-from, met-wider, grown-inside}
 
 -- room in words for what is read below the rows that wait

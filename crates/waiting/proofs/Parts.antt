@@ -11,9 +11,9 @@ use Rattle.tokens.specs.Kind.{Colon}
 use Rattle.tokens.proofs.Stands.{stands-not}
 use Rattle.tokens.specs.declared.cause.Cause.{Cause}
 use Rattle.rows.specs.Row as Row
-use Rattle.making.specs.Post.{Topped}
-use Rattle.making.specs.declared.cursor.Cursor.{Cursor}
-use Rattle.making.specs.declared.cursor.Step.{Step}
+use Rattle.build.specs.Post.{Topped}
+use Rattle.build.specs.declared.cursor.Cursor.{Cursor}
+use Rattle.build.specs.declared.cursor.Step.{Step}
 use Rattle.waiting.specs.Waiting.{Waiting, operation, part, choice, Choice, all-words, Whole, Comes-all, Ends, Awaits}
 use Rattle.waiting.specs.Post.{word, start-of, LastPartFits, PartAt, Otherwise, Goes}
 use Rattle.waiting.specs.declared.Next.{Next}

@@ -15,17 +15,17 @@ use Rattle.rows.specs.Row as Row
 use Rattle.grammar.specs.Sheet.{sheet-of}
 use Rattle.grammar.specs.Assignment.{is-async-name}
 use Rattle.grammar.specs.Job.{Job, assignment, value, binary, unary, head, body}
-use Rattle.making.specs.Post.{cursor, Room, Met, MetAfter, MetList, Refused, Leafed}
-use Rattle.making.specs.declared.cursor.Cursor.{Cursor}
-use Rattle.making.specs.declared.cursor.Step.{Step}
-use Rattle.making.specs.declared.cursor.Listed.{Listed}
+use Rattle.build.specs.Post.{cursor, Room, Met, MetAfter, MetList, Refused, Leafed}
+use Rattle.build.specs.declared.cursor.Cursor.{Cursor}
+use Rattle.build.specs.declared.cursor.Step.{Step}
+use Rattle.build.specs.declared.cursor.Listed.{Listed}
 use Rattle.heads.specs.Heads.{is-pass, way-at, way-of, arrow-kind}
 use Rattle.heads.specs.declared.Way.{Way}
-use Rattle.making.proofs.Ends.{is-fail, moved}
+use Rattle.build.proofs.Ends.{is-fail, moved}
 use Rattle.heads.specs.declared.Head.{Head}
-use Rattle.steps.specs.Assign.{Past, headed, head-fits, assign-arrows, assign-fails}
-use Rattle.steps.specs.Value.{async-stands, value-asyncs, value-refuses}
-use Rattle.steps.specs.Binary.{binary-grouped, binary-refuses}
+use Rattle.waiting.proofs.Assign.{Past, headed, head-fits, assign-arrows, assign-fails}
+use Rattle.waiting.proofs.Value.{async-stands, value-asyncs, value-refuses}
+use Rattle.waiting.proofs.Binary.{binary-grouped, binary-refuses}
 use Rattle.waiting.specs.Waiting.{Choice, is-operation, floor-of, begun, Whole, all-words, Spare, Comes-all, Outcome, Starts, Opens, Ends, Awaits}
 use Rattle.waiting.specs.Post.{spot, start-of, GroupAt, BodyFits, WaitsBody, Goes, StartFits, AfterStart}
 use Rattle.waiting.specs.Start.{OpenedTo, OperandTo, MetStart}

@@ -17,13 +17,11 @@ use Rattle.roles.specs.Meaning as means
 use Rattle.targets.specs.Post as Targets
 use Rattle.targets.specs.declared.Conversion.{Conversion}
 use Rattle.grammar.specs.Binary.{operation-kind, right-floor}
-use Rattle.making.specs.Post.{cursor, Topped}
-use Rattle.making.specs.declared.cursor.Cursor.{Cursor}
+use Rattle.build.specs.Post.{cursor, Topped}
+use Rattle.build.specs.declared.cursor.Cursor.{Cursor}
 use Rattle.heads.specs.declared.Head.{Head}
-use Rattle.operation.specs.Operation.{Finished}
-use Rattle.steps.specs.Assigned.{kind-for}
-use Rattle.steps.specs.Body.{Breaks}
-use Rattle.waiting.specs.Waiting.{is-operation}
+use Rattle.build.specs.Operation.{Finished}
+use Rattle.waiting.specs.Waiting.{kind-for, Breaks, is-operation}
 use Rattle.waiting.specs.Post.{word, spot, end-of, ends-operand, FinishedOperation, WaitsOperand, WaitsRight, WaitsBody, Otherwise, opens-body, operand-of, Followed, AfterStart}
 use Rattle.waiting.specs.declared.Group.{Group}
 use Rattle.waiting.specs.declared.Next.{Next}

@@ -16,14 +16,12 @@ use Rattle.roles.specs.Meaning as means
 use Rattle.targets.specs.Post as Targets
 use Rattle.targets.specs.declared.Conversion.{Conversion}
 use Rattle.grammar.specs.Binary.{operation-kind, right-floor}
-use Rattle.making.specs.Post.{cursor, TopRoom, Leafed}
-use Rattle.making.specs.declared.cursor.Cursor.{Cursor}
-use Rattle.making.specs.declared.cursor.Step.{Step}
+use Rattle.build.specs.Post.{cursor, TopRoom, Leafed}
+use Rattle.build.specs.declared.cursor.Cursor.{Cursor}
+use Rattle.build.specs.declared.cursor.Step.{Step}
 use Rattle.heads.specs.declared.Head.{Head}
-use Rattle.operation.specs.Operation.{Finished}
-use Rattle.steps.specs.Assigned.{kind-for}
-use Rattle.steps.specs.Body.{Breaks}
-use Rattle.waiting.specs.Waiting.{Waiting, is-operation, awaits-operand, Whole, Held, Comes-all, Ends, Linked, Awaits}
+use Rattle.build.specs.Operation.{Finished}
+use Rattle.waiting.specs.Waiting.{kind-for, Breaks, Waiting, is-operation, awaits-operand, Whole, Held, Comes-all, Ends, Linked, Awaits}
 use Rattle.waiting.specs.declared.Group.{Group}
 use Rattle.waiting.specs.declared.Next.{Next}
 use Rattle.waiting.specs.declared.Spot.{Spot}

@@ -11,9 +11,9 @@ use Rattle.tokens.specs.declared.cause.Cause.{Cause}
 use Rattle.grammar.specs.Sheet.{sheet-of}
 use Rattle.grammar.specs.Job.{assignment, value, unary, body}
 use Rattle.grammar.specs.Assignment.{is-async-name}
-use Rattle.making.specs.Post.{Met, MetAfter, HeadFits, Refused}
-use Rattle.making.specs.declared.cursor.Cursor.{Cursor}
-use Rattle.making.specs.declared.cursor.Step.{Step}
+use Rattle.build.specs.Post.{Met, MetAfter, HeadFits, Refused}
+use Rattle.build.specs.declared.cursor.Cursor.{Cursor}
+use Rattle.build.specs.declared.cursor.Step.{Step}
 use Rattle.heads.specs.declared.Head.{Head}
 use Rattle.waiting.specs.Waiting.{Choice, is-operation}
 use Rattle.waiting.specs.declared.Start.{Start}

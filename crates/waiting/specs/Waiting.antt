@@ -1,26 +1,59 @@
 -- Rows that wait for their last part, and what is left to come of a reading while they wait. Each says what it makes of the part that it waits for,
 -- in terms of what the reader of that part promises (`Met`); the outermost makes the whole.
 -- Assumes nothing: these are definitions.
-use Prim.Native.Nat.{ℕ, _+_, _-_, _*_, _≤_, _<_}
+use Prim.Native.Nat.{ℕ, _+_, _*_, _≤_, _<_, _-_}
 use mathlib.Core.Path.{_≡_}
-use mathlib.Core.Bool.{Bool, true, false, not}
 use mathlib.Core.List.{List, [], _∷_, _++_}
 use lib.ListN.{length, getD, drop}
-use Rattle.tokens.specs.Bool.{_or_, _is_, if_then_else_}
+use Rattle.rows.specs.Tree.{Tree, one, row}
+use Rattle.rows.specs.Record.{Record, break-before-arrow}
+use Rattle.grammar.specs.Sheet.{Out, after-records, sheet-of}
+use Rattle.grammar.specs.Job.{binary, operators, Job, assignment, value, body}
+use Rattle.conversion.specs.Potential.{potential as owed}
+use Rattle.build.specs.Post.{Comes, Made, cursor, Met, MetAfter, Topped, TopRoom}
+use Rattle.build.specs.declared.cursor.Cursor.{Cursor}
+use mathlib.Core.Bool.{Bool, true, false, not}
+use Rattle.tokens.specs.Bool.{if_then_else_, _is_, _or_}
+use Rattle.rows.specs.Row as Row
+use Rattle.rows.specs.Post.{GrownRecords}
 use Rattle.tokens.specs.Kind.{Colon}
 use Rattle.tokens.specs.declared.cause.Cause.{Cause}
-use Rattle.rows.specs.Tree.{row}
-use Rattle.rows.specs.Row as Row
-use Rattle.grammar.specs.Sheet.{sheet-of}
-use Rattle.grammar.specs.Job.{Job, assignment, value, binary, body}
 use Rattle.grammar.specs.Assignment.{is-async-name}
 use Rattle.grammar.specs.Binary.{operation-kind, right-floor}
-use Rattle.making.specs.Post.{cursor, Met, MetAfter, Topped, TopRoom}
 use Rattle.heads.specs.declared.Head.{Head}
-use Rattle.operation.specs.Operation.{Finished}
-use Rattle.steps.specs.Binary.{Grouped}
-use Rattle.making.specs.declared.cursor.Cursor.{Cursor}
-use Rattle.making.specs.declared.cursor.Step.{Step}
+use Rattle.build.specs.Operation.{Finished}
+use Rattle.build.specs.declared.cursor.Step.{Step}
+
+-- What began at `first`, with n rows and k records before it, is one tree up to here, and the rest of it is what follows at the place.
+pub record Grouped (ks fs r₀ s₀ m₀ : List ℕ) (floor first n k : ℕ) (r s m : List ℕ) (here : Cursor) (at : ℕ) : Type 0 where
+  pub wide : 6 * n ≤ length r₀
+  pub deep : 2 * k ≤ length s₀
+  pub place : at ≡ here .at
+  pub forward : first < at
+  pub inside : at ≤ length ks
+  pub some : n < here .rows
+  pub few : here .rows + first ≤ n + at
+  pub tree : Tree
+  pub said : List Record
+  pub few-records : here .records + owed tree + first ≤ k + at
+  pub made : Made r₀ s₀ n k r s here (one tree) said
+  pub rest : (out : Out (List ℕ)) → Comes ks fs (operators floor first at tree) m out → Comes ks fs (binary floor first) m₀ (after-records said out)
+
+-- the row that `=` and the other operators make
+abbrev pub kind-for : Bool → ℕ
+kind-for plain = if plain then Row.Assign else Row.CompoundAssign
+
+-- the record of a line break before an arrow
+abbrev pub broken : List ℕ → ℕ → List Record
+broken fs at = if getD fs at 0 is 1 then break-before-arrow at ∷ [] else []
+
+-- past an arrow, with a record if a line break stands before it
+pub record Breaks (fs s₀ : List ℕ) (c : Cursor) (s : List ℕ) (d : Cursor) : Type 0 where
+  pub at : d .at ≡ c .at + 1
+  pub rows : d .rows ≡ c .rows
+  pub few : d .records ≤ c .records + 1
+  pub long : length s ≡ length s₀
+  pub said : GrownRecords s₀ (c .records) s (d .records) (broken fs (c .at))
 
 -- the kind of a Conditional that waits for its `:`
 abbrev pub Choice : ℕ

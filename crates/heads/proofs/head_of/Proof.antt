@@ -1,5 +1,5 @@
 -- `heads::head_of` meets its contract.
--- Made from answers/heads-head_of.ans by tools/fill.py. Assumes nothing.
+-- Made from answers/head_of.ans by tools/fill.py. Assumes nothing.
 use mathlib.Core.Path.{sym, ap, _∙_}
 use borrow.Author.Needs.{needs}
 use borrow.Author.Tests.{ne-eqb}

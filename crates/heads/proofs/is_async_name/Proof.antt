@@ -1,5 +1,5 @@
 -- `heads::is_async_name` meets its contract.
--- Made from answers/heads-is_async_name.ans by tools/fill.py. Assumes nothing.
+-- Made from answers/is_async_name.ans by tools/fill.py. Assumes nothing.
 use mathlib.Core.Path.{sym, ap, _∙_}
 use borrow.Author.Needs.{needs}
 use borrow.Author.Tests.{eq-eqb, ne-eqb}

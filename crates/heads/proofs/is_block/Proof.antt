@@ -1,5 +1,5 @@
 -- `heads::is_block` meets its contract.
--- Made from answers/heads-is_block.ans by tools/fill.py. Assumes nothing.
+-- Made from answers/is_block.ans by tools/fill.py. Assumes nothing.
 use mathlib.Core.Path.{sym}
 use borrow.Author.Needs.{needs}
 use Rattle.heads.proofs.is_block.Statement.{statement}

@@ -1,5 +1,5 @@
 -- `heads::may_open` meets its contract.
--- Made from answers/heads-may_open.ans by tools/fill.py. Assumes nothing.
+-- Made from answers/may_open.ans by tools/fill.py. Assumes nothing.
 use borrow.Author.Needs.{needs}
 use borrow.Author.Tests.{ne-eqb}
 use Rattle.heads.specs.Heads.{may-open}

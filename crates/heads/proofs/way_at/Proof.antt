@@ -1,5 +1,5 @@
 -- `heads::way_at` meets its contract.
--- Made from answers/heads-way_at.ans by tools/fill.py. Assumes nothing.
+-- Made from answers/way_at.ans by tools/fill.py. Assumes nothing.
 use mathlib.Core.Path.{sym, ap, _∙_}
 use native.Mathlib.Omega.{arith}
 use borrow.Author.Needs.{needs}

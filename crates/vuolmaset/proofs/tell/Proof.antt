@@ -3,7 +3,7 @@
 use mathlib.Core.Path.{refl, sym, ap, _∙_}
 use native.Mathlib.Omega.{arith}
 use borrow.Author.Needs.{needs}
-use Rattle.vuolmaset.specs.Told.{number-of, first-of, second-of, third-of}
+use Rattle.grammar.specs.Told.{number-of, first-of, second-of, third-of}
 use Rattle.vuolmaset.proofs.tell.Statement.{statement}
 use Rattle.vuolmaset.proofs.tell.Tie as tie
 

@@ -3,7 +3,7 @@
 use mathlib.Core.Path.{refl, sym, ap, _∙_}
 use native.Mathlib.Omega.{arith}
 use borrow.Author.Needs.{needs}
-use Rattle.vuolmaset.specs.Told.{three-way-number, three-way-told}
+use Rattle.grammar.specs.Told.{three-way-number, three-way-told}
 use Rattle.vuolmaset.proofs.vuolmaset_three_way.Statement.{statement}
 use Rattle.vuolmaset.proofs.vuolmaset_three_way.Tie as tie
 

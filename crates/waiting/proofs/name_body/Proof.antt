@@ -6,7 +6,7 @@ use native.Mathlib.Omega.{arith}
 use lib.ListN.{length, take, length-append, length-drop}
 use lib.Seq.{length-take-le}
 use borrow.Author.Needs.{needs}
-use Rattle.making.specs.declared.cursor.Cursor.{Cursor}
+use Rattle.build.specs.declared.cursor.Cursor.{Cursor}
 use Rattle.waiting.proofs.name_body.Statement.{statement}
 use Rattle.waiting.proofs.name_body.Tie as tie
 

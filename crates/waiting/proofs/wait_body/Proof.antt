@@ -4,8 +4,8 @@ use mathlib.Core.Path.{refl, sym, ap, _∙_}
 use native.Mathlib.Omega.{arith}
 use borrow.Author.Needs.{needs}
 use mathlib.Core.Logic.{⊎-elim}
-use Rattle.making.specs.Post.{cursor}
-use Rattle.steps.specs.Body.{breaks, no-break, breaks-as}
+use Rattle.build.specs.Post.{cursor}
+use Rattle.waiting.proofs.Body.{breaks, no-break, breaks-as}
 use Rattle.waiting.proofs.Steps.{body-stops, body-goes}
 use Rattle.waiting.proofs.wait_body.Statement.{statement}
 use Rattle.waiting.proofs.wait_body.Tie as tie

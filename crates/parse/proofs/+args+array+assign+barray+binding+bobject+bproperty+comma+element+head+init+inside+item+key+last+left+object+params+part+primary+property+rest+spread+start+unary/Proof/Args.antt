@@ -7,16 +7,16 @@ use native.Mathlib.Omega.{arith}
 use lib.ListN.{length}
 use borrow.Author.Needs.{needs}
 use Rattle.tokens.proofs.Stands.{stands}
-use Rattle.steps.specs.Singles.{assign-stands, item-singles}
-use Rattle.steps.specs.Spread.{item-read}
-use Rattle.steps.specs.Args.{ArgsSoFar, args-moves, args-starts, args-ends, args-fails, args-opens, args-closes, args-turns}
+use Rattle.parse.proofs.Steps.Singles.{assign-stands, item-singles}
+use Rattle.parse.proofs.Steps.Spread.{item-read}
+use Rattle.parse.proofs.Steps.Args.{ArgsSoFar, args-moves, args-starts, args-ends, args-fails, args-opens, args-closes, args-turns}
 use Rattle.parse.proofs.+args+array+assign+barray+binding+bobject+bproperty+comma+element+head+init+inside+item+key+last+left+object+params+part+primary+property+rest+spread+start+unary.Lts-args as lts
 use Rattle.parse.proofs.+args+array+assign+barray+binding+bobject+bproperty+comma+element+head+init+inside+item+key+last+left+object+params+part+primary+property+rest+spread+start+unary.Proof.Measures.{args-at, item-below}
-use Rattle.making.proofs.cursor.leaf.Reads as leaf
-use Rattle.making.proofs.cursor.over.Reads as over
+use Rattle.build.proofs.cursor.leaf.Reads as leaf
+use Rattle.build.proofs.cursor.over.Reads as over
 use Rattle.parse.proofs.args.Reads as args
 use Rattle.parse.proofs.item.Reads as item
-use Rattle.singles.proofs.single_part.Reads as single-part
+use Rattle.heads.proofs.singles.single_part.Reads as single-part
 use Rattle.tokens.proofs.kind_at.Reads as kind-at
 
 abbrev Inv-loop : lts.InvT-loop

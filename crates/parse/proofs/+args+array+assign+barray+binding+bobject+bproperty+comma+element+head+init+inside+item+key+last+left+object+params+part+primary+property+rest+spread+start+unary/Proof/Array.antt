@@ -6,18 +6,18 @@ use mathlib.Core.Path.{refl, sym, _∙_}
 use native.Mathlib.Omega.{arith}
 use lib.ListN.{length}
 use borrow.Author.Needs.{needs}
-use Rattle.making.specs.Post.{cursor}
+use Rattle.build.specs.Post.{cursor}
 use Rattle.tokens.proofs.Stands.{stands}
-use Rattle.steps.specs.Singles.{assign-stands, item-singles}
-use Rattle.steps.specs.Spread.{item-read}
-use Rattle.steps.specs.Array.{ArraySoFar, array-moves, holed, array-starts, array-ends, array-holes, array-fails, array-opens, array-closes, array-turns, array-rests}
+use Rattle.parse.proofs.Steps.Singles.{assign-stands, item-singles}
+use Rattle.parse.proofs.Steps.Spread.{item-read}
+use Rattle.parse.proofs.Steps.Array.{ArraySoFar, array-moves, holed, array-starts, array-ends, array-holes, array-fails, array-opens, array-closes, array-turns, array-rests}
 use Rattle.parse.proofs.+args+array+assign+barray+binding+bobject+bproperty+comma+element+head+init+inside+item+key+last+left+object+params+part+primary+property+rest+spread+start+unary.Lts-array as lts
 use Rattle.parse.proofs.+args+array+assign+barray+binding+bobject+bproperty+comma+element+head+init+inside+item+key+last+left+object+params+part+primary+property+rest+spread+start+unary.Proof.Measures.{array-at, item-below}
-use Rattle.making.proofs.cursor.leaf.Reads as leaf
-use Rattle.making.proofs.cursor.over.Reads as over
+use Rattle.build.proofs.cursor.leaf.Reads as leaf
+use Rattle.build.proofs.cursor.over.Reads as over
 use Rattle.parse.proofs.array.Reads as array
 use Rattle.parse.proofs.item.Reads as item
-use Rattle.singles.proofs.single_part.Reads as single-part
+use Rattle.heads.proofs.singles.single_part.Reads as single-part
 use Rattle.tokens.proofs.kind_at.Reads as kind-at
 
 abbrev Inv-loop : lts.InvT-loop

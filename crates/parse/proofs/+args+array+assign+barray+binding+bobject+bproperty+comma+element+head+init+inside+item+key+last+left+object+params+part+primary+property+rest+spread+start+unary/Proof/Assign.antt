@@ -6,15 +6,15 @@ use native.Mathlib.Omega.{arith}
 use lib.ListN.{length, take}
 use lib.Seq.{length-take-le}
 use borrow.Author.Needs.{needs}
-use Rattle.making.specs.Post.{cursor}
-use Rattle.steps.specs.Singles.{assign-stands, assign-singles}
+use Rattle.build.specs.Post.{cursor}
+use Rattle.parse.proofs.Steps.Singles.{assign-stands, assign-singles}
 use Rattle.waiting.proofs.Starts.{Looping, looping-starts, top-inside, start-fits, stepped, looping-again, looping-less}
 use Rattle.parse.proofs.+args+array+assign+barray+binding+bobject+bproperty+comma+element+head+init+inside+item+key+last+left+object+params+part+primary+property+rest+spread+start+unary.Lts-assign as lts
 use Rattle.parse.proofs.+args+array+assign+barray+binding+bobject+bproperty+comma+element+head+init+inside+item+key+last+left+object+params+part+primary+property+rest+spread+start+unary.Proof.Measures.{assign-at, start-below}
-use Rattle.making.proofs.cursor.leaf.Reads as leaf
+use Rattle.build.proofs.cursor.leaf.Reads as leaf
 use Rattle.parse.proofs.assign.Reads as assign
 use Rattle.parse.proofs.start.Reads as start
-use Rattle.singles.proofs.single_part.Reads as single-part
+use Rattle.heads.proofs.singles.single_part.Reads as single-part
 use Rattle.waiting.proofs.after_start.Reads as after-start
 
 abbrev Inv-loop : lts.InvT-loop

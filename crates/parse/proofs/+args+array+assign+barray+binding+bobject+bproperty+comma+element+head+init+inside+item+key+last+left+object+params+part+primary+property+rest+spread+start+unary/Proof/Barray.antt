@@ -6,14 +6,14 @@ use native.Mathlib.Omega.{arith}
 use borrow.Author.Needs.{needs}
 use lib.ListN.{length}
 use Rattle.tokens.proofs.Stands.{stands}
-use Rattle.making.specs.declared.cursor.Cursor.{Cursor}
-use Rattle.making.proofs.Ends.{moved}
-use Rattle.steps.specs.Listing.{closed-after, leafed-to}
-use Rattle.steps.specs.Barray.{BarraySoFar, barray-starts, barray-ends, barray-holes, barray-rest-refused, barray-rest-done, barray-refused, barray-turns, barray-last, barray-opens}
+use Rattle.build.specs.declared.cursor.Cursor.{Cursor}
+use Rattle.build.proofs.Ends.{moved}
+use Rattle.parse.proofs.Steps.Listing.{closed-after, leafed-to}
+use Rattle.parse.proofs.Steps.Barray.{BarraySoFar, barray-starts, barray-ends, barray-holes, barray-rest-refused, barray-rest-done, barray-refused, barray-turns, barray-last, barray-opens}
 use Rattle.parse.proofs.+args+array+assign+barray+binding+bobject+bproperty+comma+element+head+init+inside+item+key+last+left+object+params+part+primary+property+rest+spread+start+unary.Lts-barray as lts
 use Rattle.parse.proofs.+args+array+assign+barray+binding+bobject+bproperty+comma+element+head+init+inside+item+key+last+left+object+params+part+primary+property+rest+spread+start+unary.Proof.Measures.{barray-at, element-below, last-below}
-use Rattle.making.proofs.cursor.leaf.Reads as leaf
-use Rattle.making.proofs.cursor.over.Reads as over
+use Rattle.build.proofs.cursor.leaf.Reads as leaf
+use Rattle.build.proofs.cursor.over.Reads as over
 use Rattle.parse.proofs.barray.Reads as barray
 use Rattle.parse.proofs.element.Reads as element
 use Rattle.parse.proofs.last.Reads as last

@@ -5,11 +5,11 @@ use mathlib.Core.Path.{refl, sym, _∙_}
 use native.Mathlib.Omega.{arith}
 use borrow.Author.Needs.{needs}
 use Rattle.tokens.proofs.Stands.{stands, stands-not}
-use Rattle.steps.specs.Binding.{binding-names, binding-arrays, binding-objects, binding-nones, name-stands}
+use Rattle.parse.proofs.Steps.Binding.{binding-names, binding-arrays, binding-objects, binding-nones, name-stands}
 use Rattle.parse.proofs.+args+array+assign+barray+binding+bobject+bproperty+comma+element+head+init+inside+item+key+last+left+object+params+part+primary+property+rest+spread+start+unary.Lts-binding as lts
 use Rattle.parse.proofs.+args+array+assign+barray+binding+bobject+bproperty+comma+element+head+init+inside+item+key+last+left+object+params+part+primary+property+rest+spread+start+unary.Proof.Measures.{barray-below, binding-at, bobject-below}
-use Rattle.classes.proofs.is_name.Reads as is-name
-use Rattle.making.proofs.cursor.leaf.Reads as leaf
+use Rattle.tokens.proofs.classes.is_name.Reads as is-name
+use Rattle.build.proofs.cursor.leaf.Reads as leaf
 use Rattle.parse.proofs.barray.Reads as barray
 use Rattle.parse.proofs.binding.Reads as binding
 use Rattle.parse.proofs.bobject.Reads as bobject

@@ -6,11 +6,11 @@ use native.Mathlib.Omega.{arith}
 use borrow.Author.Needs.{needs}
 use lib.ListN.{length}
 use Rattle.tokens.proofs.Stands.{stands}
-use Rattle.steps.specs.Listing.{closed-after}
-use Rattle.steps.specs.Bobject.{BobjectSoFar, property-moves, named-rest, bobject-starts, bobject-ends, bobject-rest-refused, bobject-no-name, bobject-rest-done, bobject-refused, bobject-turns, bobject-last, bobject-opens}
+use Rattle.parse.proofs.Steps.Listing.{closed-after}
+use Rattle.parse.proofs.Steps.Bobject.{BobjectSoFar, property-moves, named-rest, bobject-starts, bobject-ends, bobject-rest-refused, bobject-no-name, bobject-rest-done, bobject-refused, bobject-turns, bobject-last, bobject-opens}
 use Rattle.parse.proofs.+args+array+assign+barray+binding+bobject+bproperty+comma+element+head+init+inside+item+key+last+left+object+params+part+primary+property+rest+spread+start+unary.Lts-bobject as lts
 use Rattle.parse.proofs.+args+array+assign+barray+binding+bobject+bproperty+comma+element+head+init+inside+item+key+last+left+object+params+part+primary+property+rest+spread+start+unary.Proof.Measures.{bobject-at, bproperty-below, last-below}
-use Rattle.making.proofs.cursor.over.Reads as over
+use Rattle.build.proofs.cursor.over.Reads as over
 use Rattle.parse.proofs.bobject.Reads as bobject
 use Rattle.parse.proofs.bproperty.Reads as bproperty
 use Rattle.parse.proofs.last.Reads as last

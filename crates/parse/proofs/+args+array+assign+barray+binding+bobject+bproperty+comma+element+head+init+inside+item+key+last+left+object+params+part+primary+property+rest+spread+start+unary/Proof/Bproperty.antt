@@ -5,15 +5,15 @@ use mathlib.Core.Path.{refl, sym, _∙_}
 use native.Mathlib.Omega.{arith}
 use borrow.Author.Needs.{needs}
 use Rattle.tokens.proofs.Stands.{stands}
-use Rattle.making.proofs.Ends.{moved}
-use Rattle.steps.specs.Cursors.{leafed-now}
-use Rattle.steps.specs.Key.{shorthand-stands}
-use Rattle.steps.specs.Bproperty.{bproperty-shorthands, bproperty-inits, bproperty-refuses, bproperty-opens, bproperty-fails-after, bproperty-dones}
+use Rattle.build.proofs.Ends.{moved}
+use Rattle.parse.proofs.Steps.Cursors.{leafed-now}
+use Rattle.parse.proofs.Steps.Key.{shorthand-stands}
+use Rattle.parse.proofs.Steps.Bproperty.{bproperty-shorthands, bproperty-inits, bproperty-refuses, bproperty-opens, bproperty-fails-after, bproperty-dones}
 use Rattle.parse.proofs.+args+array+assign+barray+binding+bobject+bproperty+comma+element+head+init+inside+item+key+last+left+object+params+part+primary+property+rest+spread+start+unary.Lts-bproperty as lts
 use Rattle.parse.proofs.+args+array+assign+barray+binding+bobject+bproperty+comma+element+head+init+inside+item+key+last+left+object+params+part+primary+property+rest+spread+start+unary.Proof.Measures.{bproperty-at, element-below, init-below, key-below}
-use Rattle.making.proofs.cursor.leaf.Reads as leaf
-use Rattle.making.proofs.cursor.over.Reads as over
-use Rattle.making.proofs.keys.is_shorthand.Reads as is-shorthand
+use Rattle.build.proofs.cursor.leaf.Reads as leaf
+use Rattle.build.proofs.cursor.over.Reads as over
+use Rattle.build.proofs.keys.is_shorthand.Reads as is-shorthand
 use Rattle.parse.proofs.bproperty.Reads as bproperty
 use Rattle.parse.proofs.element.Reads as element
 use Rattle.parse.proofs.init.Reads as init

@@ -5,13 +5,13 @@ use mathlib.Core.Path.{refl, sym, _∙_}
 use native.Mathlib.Omega.{arith}
 use lib.ListN.{length}
 use borrow.Author.Needs.{needs}
-use Rattle.making.specs.Post.{cursor}
+use Rattle.build.specs.Post.{cursor}
 use Rattle.tokens.proofs.Stands.{stands}
-use Rattle.making.proofs.Ends.{moved}
-use Rattle.steps.specs.Comma.{CommaSoFar, comma-starts, comma-stops, comma-one, comma-ends, comma-marks, comma-again, comma-some}
+use Rattle.build.proofs.Ends.{moved}
+use Rattle.parse.proofs.Steps.Comma.{CommaSoFar, comma-starts, comma-stops, comma-one, comma-ends, comma-marks, comma-again, comma-some}
 use Rattle.parse.proofs.+args+array+assign+barray+binding+bobject+bproperty+comma+element+head+init+inside+item+key+last+left+object+params+part+primary+property+rest+spread+start+unary.Lts-comma as lts
 use Rattle.parse.proofs.+args+array+assign+barray+binding+bobject+bproperty+comma+element+head+init+inside+item+key+last+left+object+params+part+primary+property+rest+spread+start+unary.Proof.Measures.{assign-below, comma-at}
-use Rattle.making.proofs.cursor.over.Reads as over
+use Rattle.build.proofs.cursor.over.Reads as over
 use Rattle.parse.proofs.assign.Reads as assign
 use Rattle.parse.proofs.comma.Reads as comma
 use Rattle.tokens.proofs.kind_at.Reads as kind-at

@@ -6,7 +6,7 @@ use mathlib.Core.Path.{refl, sym, _∙_}
 use native.Mathlib.Omega.{arith}
 use borrow.Author.Needs.{needs}
 use Rattle.tokens.proofs.Stands.{stands}
-use Rattle.steps.specs.Head.{opens-plain, opens-async, near, head-breaks, head-no-parens, head-refused, head-no-arrows, head-dones}
+use Rattle.parse.proofs.Steps.Head.{opens-plain, opens-async, near, head-breaks, head-no-parens, head-refused, head-no-arrows, head-dones}
 use Rattle.parse.proofs.+args+array+assign+barray+binding+bobject+bproperty+comma+element+head+init+inside+item+key+last+left+object+params+part+primary+property+rest+spread+start+unary.Lts-head as lts
 use Rattle.parse.proofs.+args+array+assign+barray+binding+bobject+bproperty+comma+element+head+init+inside+item+key+last+left+object+params+part+primary+property+rest+spread+start+unary.Proof.Measures.{head-at, params-below}
 use Rattle.parse.proofs.head.Reads as head

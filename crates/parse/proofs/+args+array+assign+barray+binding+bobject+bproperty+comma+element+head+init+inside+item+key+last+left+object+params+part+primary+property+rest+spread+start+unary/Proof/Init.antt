@@ -4,17 +4,17 @@ use Prim.Native.Nat.{ℕ}
 use mathlib.Core.Path.{refl}
 use native.Mathlib.Omega.{arith}
 use borrow.Author.Needs.{needs}
-use Rattle.making.proofs.Ends.{moved}
-use Rattle.steps.specs.Cursors.{leafed-now}
-use Rattle.steps.specs.Init.{init-fails, init-done}
-use Rattle.steps.specs.Singles.{assign-stands, assign-singles}
+use Rattle.build.proofs.Ends.{moved}
+use Rattle.parse.proofs.Steps.Cursors.{leafed-now}
+use Rattle.parse.proofs.Steps.Init.{init-fails, init-done}
+use Rattle.parse.proofs.Steps.Singles.{assign-stands, assign-singles}
 use Rattle.parse.proofs.+args+array+assign+barray+binding+bobject+bproperty+comma+element+head+init+inside+item+key+last+left+object+params+part+primary+property+rest+spread+start+unary.Lts-init as lts
 use Rattle.parse.proofs.+args+array+assign+barray+binding+bobject+bproperty+comma+element+head+init+inside+item+key+last+left+object+params+part+primary+property+rest+spread+start+unary.Proof.Measures.{assign-below, init-at}
-use Rattle.making.proofs.cursor.leaf.Reads as leaf
-use Rattle.making.proofs.cursor.over.Reads as over
+use Rattle.build.proofs.cursor.leaf.Reads as leaf
+use Rattle.build.proofs.cursor.over.Reads as over
 use Rattle.parse.proofs.assign.Reads as assign
 use Rattle.parse.proofs.init.Reads as init
-use Rattle.singles.proofs.single_part.Reads as single-part
+use Rattle.heads.proofs.singles.single_part.Reads as single-part
 
 module _ (t : ℕ) where
   abbrev K : lts.Claims

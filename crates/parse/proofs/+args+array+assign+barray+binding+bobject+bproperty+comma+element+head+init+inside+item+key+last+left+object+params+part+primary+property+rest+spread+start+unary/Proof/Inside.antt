@@ -4,8 +4,8 @@ use Prim.Native.Nat.{ℕ}
 use mathlib.Core.Path.{refl}
 use native.Mathlib.Omega.{arith}
 use borrow.Author.Needs.{needs}
-use Rattle.making.proofs.Ends.{moved}
-use Rattle.operation.proofs.Steps.Inside.{inside-fails, inside-opens, inside-done}
+use Rattle.build.proofs.Ends.{moved}
+use Rattle.build.proofs.Steps.Inside.{inside-fails, inside-opens, inside-done}
 use Rattle.parse.proofs.+args+array+assign+barray+binding+bobject+bproperty+comma+element+head+init+inside+item+key+last+left+object+params+part+primary+property+rest+spread+start+unary.Lts-inside as lts
 use Rattle.parse.proofs.+args+array+assign+barray+binding+bobject+bproperty+comma+element+head+init+inside+item+key+last+left+object+params+part+primary+property+rest+spread+start+unary.Proof.Measures.{comma-below, inside-at}
 use Rattle.parse.proofs.comma.Reads as comma

@@ -4,14 +4,14 @@ use Prim.Native.Nat.{ℕ}
 use mathlib.Core.Path.{refl, sym, _∙_}
 use native.Mathlib.Omega.{arith}
 use borrow.Author.Needs.{needs}
-use Rattle.making.proofs.Ends.{moved}
-use Rattle.steps.specs.Spread.{starts, item-fails, item-plain, item-spreads}
+use Rattle.build.proofs.Ends.{moved}
+use Rattle.parse.proofs.Steps.Spread.{starts, item-fails, item-plain, item-spreads}
 use Rattle.parse.proofs.+args+array+assign+barray+binding+bobject+bproperty+comma+element+head+init+inside+item+key+last+left+object+params+part+primary+property+rest+spread+start+unary.Lts-item as lts
 use Rattle.parse.proofs.+args+array+assign+barray+binding+bobject+bproperty+comma+element+head+init+inside+item+key+last+left+object+params+part+primary+property+rest+spread+start+unary.Proof.Measures.{assign-below, item-at}
-use Rattle.making.proofs.cursor.over.Reads as over
+use Rattle.build.proofs.cursor.over.Reads as over
 use Rattle.parse.proofs.assign.Reads as assign
 use Rattle.parse.proofs.item.Reads as item
-use Rattle.singles.proofs.part_start.Reads as part-start
+use Rattle.heads.proofs.singles.part_start.Reads as part-start
 
 module _ (t : ℕ) where
   abbrev K : lts.Claims

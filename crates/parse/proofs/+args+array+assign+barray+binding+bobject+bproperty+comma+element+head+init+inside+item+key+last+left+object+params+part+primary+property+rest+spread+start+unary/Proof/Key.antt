@@ -5,13 +5,13 @@ use mathlib.Core.Path.{refl, sym, _∙_}
 use native.Mathlib.Omega.{arith}
 use borrow.Author.Needs.{needs}
 use Rattle.tokens.proofs.Stands.{stands}
-use Rattle.making.proofs.Ends.{moved}
-use Rattle.steps.specs.Key.{key-stands, key-words, key-nones, key-refuses, key-opens, key-dones}
+use Rattle.build.proofs.Ends.{moved}
+use Rattle.parse.proofs.Steps.Key.{key-stands, key-words, key-nones, key-refuses, key-opens, key-dones}
 use Rattle.parse.proofs.+args+array+assign+barray+binding+bobject+bproperty+comma+element+head+init+inside+item+key+last+left+object+params+part+primary+property+rest+spread+start+unary.Lts-key as lts
 use Rattle.parse.proofs.+args+array+assign+barray+binding+bobject+bproperty+comma+element+head+init+inside+item+key+last+left+object+params+part+primary+property+rest+spread+start+unary.Proof.Measures.{assign-below, key-at}
-use Rattle.making.proofs.cursor.leaf.Reads as leaf
-use Rattle.making.proofs.cursor.over.Reads as over
-use Rattle.making.proofs.keys.is_key.Reads as is-key
+use Rattle.build.proofs.cursor.leaf.Reads as leaf
+use Rattle.build.proofs.cursor.over.Reads as over
+use Rattle.build.proofs.keys.is_key.Reads as is-key
 use Rattle.parse.proofs.assign.Reads as assign
 use Rattle.parse.proofs.key.Reads as key
 use Rattle.tokens.proofs.kind_at.Reads as kind-at

@@ -7,14 +7,14 @@ use lib.ListN.{length}
 use borrow.Author.Needs.{needs}
 use borrow.Author.Tests.{not-true, not-false}
 use Rattle.tokens.proofs.Stands.{stands}
-use Rattle.making.proofs.Ends.{moved}
-use Rattle.steps.specs.Cursors.{topped-now}
-use Rattle.operation.proofs.Steps.Inside.{closed-read}
-use Rattle.steps.specs.Left.{Linking, left-starts, left-turns, left-linked, word-stands, left-refuses, left-ends, left-no-word, left-member, left-index-refuses, left-index, left-operand, left-call-refuses, left-call-reaches, left-call}
+use Rattle.build.proofs.Ends.{moved}
+use Rattle.parse.proofs.Steps.Cursors.{topped-now}
+use Rattle.build.proofs.Steps.Inside.{closed-read}
+use Rattle.parse.proofs.Steps.Left.{Linking, left-starts, left-turns, left-linked, word-stands, left-refuses, left-ends, left-no-word, left-member, left-index-refuses, left-index, left-operand, left-call-refuses, left-call-reaches, left-call}
 use Rattle.parse.proofs.+args+array+assign+barray+binding+bobject+bproperty+comma+element+head+init+inside+item+key+last+left+object+params+part+primary+property+rest+spread+start+unary.Lts-left as lts
 use Rattle.parse.proofs.+args+array+assign+barray+binding+bobject+bproperty+comma+element+head+init+inside+item+key+last+left+object+params+part+primary+property+rest+spread+start+unary.Proof.Measures.{args-below, inside-below, left-at, primary-below}
-use Rattle.classes.proofs.is_word.Reads as is-word
-use Rattle.making.proofs.cursor.over.Reads as over
+use Rattle.tokens.proofs.classes.is_word.Reads as is-word
+use Rattle.build.proofs.cursor.over.Reads as over
 use Rattle.parse.proofs.args.Reads as args
 use Rattle.parse.proofs.inside.Reads as inside
 use Rattle.parse.proofs.left.Reads as left

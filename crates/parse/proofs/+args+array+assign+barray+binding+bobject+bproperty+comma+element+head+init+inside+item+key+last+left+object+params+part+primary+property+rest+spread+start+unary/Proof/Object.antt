@@ -5,12 +5,12 @@ use mathlib.Core.Path.{refl, sym, _∙_}
 use native.Mathlib.Omega.{arith}
 use lib.ListN.{length}
 use borrow.Author.Needs.{needs}
-use Rattle.making.specs.Post.{cursor}
+use Rattle.build.specs.Post.{cursor}
 use Rattle.tokens.proofs.Stands.{stands}
-use Rattle.steps.specs.Object.{ObjectSoFar, object-moves, object-starts, object-ends, object-fails, object-opens, object-closes, object-turns, object-rests}
+use Rattle.parse.proofs.Steps.Object.{ObjectSoFar, object-moves, object-starts, object-ends, object-fails, object-opens, object-closes, object-turns, object-rests}
 use Rattle.parse.proofs.+args+array+assign+barray+binding+bobject+bproperty+comma+element+head+init+inside+item+key+last+left+object+params+part+primary+property+rest+spread+start+unary.Lts-object as lts
 use Rattle.parse.proofs.+args+array+assign+barray+binding+bobject+bproperty+comma+element+head+init+inside+item+key+last+left+object+params+part+primary+property+rest+spread+start+unary.Proof.Measures.{object-at, part-below}
-use Rattle.making.proofs.cursor.over.Reads as over
+use Rattle.build.proofs.cursor.over.Reads as over
 use Rattle.parse.proofs.object.Reads as object
 use Rattle.parse.proofs.part.Reads as part
 use Rattle.tokens.proofs.kind_at.Reads as kind-at

@@ -8,9 +8,9 @@ use lib.ListN.{length}
 use Rattle.tokens.proofs.Stands.{stands}
 use Rattle.rows.specs.Tree.{nil}
 use Rattle.grammar.specs.Job as Job
-use Rattle.making.proofs.Ends.{moved}
-use Rattle.steps.specs.Listing.{SoFar, closed-after}
-use Rattle.steps.specs.Params.{params-starts, params-ends, params-rest-refused, params-rest-done, params-refused, params-turns, params-last, params-opens}
+use Rattle.build.proofs.Ends.{moved}
+use Rattle.parse.proofs.Steps.Listing.{SoFar, closed-after}
+use Rattle.parse.proofs.Steps.Params.{params-starts, params-ends, params-rest-refused, params-rest-done, params-refused, params-turns, params-last, params-opens}
 use Rattle.parse.proofs.+args+array+assign+barray+binding+bobject+bproperty+comma+element+head+init+inside+item+key+last+left+object+params+part+primary+property+rest+spread+start+unary.Lts-params as lts
 use Rattle.parse.proofs.+args+array+assign+barray+binding+bobject+bproperty+comma+element+head+init+inside+item+key+last+left+object+params+part+primary+property+rest+spread+start+unary.Proof.Measures.{element-below, last-below, params-at}
 use Rattle.parse.proofs.element.Reads as element

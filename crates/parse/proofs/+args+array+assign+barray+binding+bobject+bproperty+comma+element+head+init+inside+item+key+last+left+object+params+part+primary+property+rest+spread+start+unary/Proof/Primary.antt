@@ -5,19 +5,19 @@ use mathlib.Core.Path.{refl, sym, _∙_}
 use native.Mathlib.Omega.{arith}
 use borrow.Author.Needs.{needs}
 use Rattle.tokens.proofs.Stands.{stands}
-use Rattle.making.proofs.Ends.{moved}
-use Rattle.operation.proofs.Steps.Inside.{closed-read}
-use Rattle.steps.specs.Singles.{primary-stands, primary-singles}
-use Rattle.steps.specs.Primary.{primary-refuses, primary-parens, primary-arrays, primary-objects, primary-nones}
+use Rattle.build.proofs.Ends.{moved}
+use Rattle.build.proofs.Steps.Inside.{closed-read}
+use Rattle.parse.proofs.Steps.Singles.{primary-stands, primary-singles}
+use Rattle.parse.proofs.Steps.Primary.{primary-refuses, primary-parens, primary-arrays, primary-objects, primary-nones}
 use Rattle.parse.proofs.+args+array+assign+barray+binding+bobject+bproperty+comma+element+head+init+inside+item+key+last+left+object+params+part+primary+property+rest+spread+start+unary.Lts-primary as lts
 use Rattle.parse.proofs.+args+array+assign+barray+binding+bobject+bproperty+comma+element+head+init+inside+item+key+last+left+object+params+part+primary+property+rest+spread+start+unary.Proof.Measures.{array-below, inside-below, object-below, primary-at}
-use Rattle.making.proofs.cursor.leaf.Reads as leaf
-use Rattle.making.proofs.cursor.over.Reads as over
+use Rattle.build.proofs.cursor.leaf.Reads as leaf
+use Rattle.build.proofs.cursor.over.Reads as over
 use Rattle.parse.proofs.array.Reads as array
 use Rattle.parse.proofs.inside.Reads as inside
 use Rattle.parse.proofs.object.Reads as object
 use Rattle.parse.proofs.primary.Reads as primary
-use Rattle.singles.proofs.single_row.Reads as single-row
+use Rattle.heads.proofs.singles.single_row.Reads as single-row
 use Rattle.tokens.proofs.kind_at.Reads as kind-at
 
 module _ (t : ℕ) where

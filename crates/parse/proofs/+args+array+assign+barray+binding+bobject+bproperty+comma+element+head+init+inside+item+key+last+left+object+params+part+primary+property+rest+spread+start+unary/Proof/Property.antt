@@ -6,20 +6,20 @@ use mathlib.Core.Path.{refl, sym, _∙_}
 use native.Mathlib.Omega.{arith}
 use borrow.Author.Needs.{needs}
 use Rattle.tokens.proofs.Stands.{stands}
-use Rattle.making.proofs.Ends.{moved}
-use Rattle.steps.specs.Cursors.{leafed-now}
-use Rattle.steps.specs.Key.{shorthand-stands}
-use Rattle.steps.specs.Property.{property-shorthands, property-refuses, property-opens, keyed-name, keyed-key, keyed-as, property-fails-after, property-dones}
-use Rattle.steps.specs.Singles.{assign-stands, assign-singles}
+use Rattle.build.proofs.Ends.{moved}
+use Rattle.parse.proofs.Steps.Cursors.{leafed-now}
+use Rattle.parse.proofs.Steps.Key.{shorthand-stands}
+use Rattle.parse.proofs.Steps.Property.{property-shorthands, property-refuses, property-opens, keyed-name, keyed-key, keyed-as, property-fails-after, property-dones}
+use Rattle.parse.proofs.Steps.Singles.{assign-stands, assign-singles}
 use Rattle.parse.proofs.+args+array+assign+barray+binding+bobject+bproperty+comma+element+head+init+inside+item+key+last+left+object+params+part+primary+property+rest+spread+start+unary.Lts-property as lts
 use Rattle.parse.proofs.+args+array+assign+barray+binding+bobject+bproperty+comma+element+head+init+inside+item+key+last+left+object+params+part+primary+property+rest+spread+start+unary.Proof.Measures.{assign-below, key-below, property-at}
-use Rattle.making.proofs.cursor.leaf.Reads as leaf
-use Rattle.making.proofs.cursor.over.Reads as over
-use Rattle.making.proofs.keys.is_shorthand.Reads as is-shorthand
+use Rattle.build.proofs.cursor.leaf.Reads as leaf
+use Rattle.build.proofs.cursor.over.Reads as over
+use Rattle.build.proofs.keys.is_shorthand.Reads as is-shorthand
 use Rattle.parse.proofs.assign.Reads as assign
 use Rattle.parse.proofs.key.Reads as key
 use Rattle.parse.proofs.property.Reads as property
-use Rattle.singles.proofs.single_part.Reads as single-part
+use Rattle.heads.proofs.singles.single_part.Reads as single-part
 use Rattle.tokens.proofs.kind_at.Reads as kind-at
 
 module _ (t : ℕ) where

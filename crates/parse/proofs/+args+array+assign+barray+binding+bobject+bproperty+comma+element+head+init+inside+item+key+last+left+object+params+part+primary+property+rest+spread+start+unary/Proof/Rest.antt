@@ -4,12 +4,12 @@ use Prim.Native.Nat.{ℕ}
 use mathlib.Core.Path.{refl, sym, _∙_}
 use native.Mathlib.Omega.{arith}
 use borrow.Author.Needs.{needs}
-use Rattle.making.proofs.Ends.{moved}
-use Rattle.steps.specs.Rest.{one-to, said-to, rest-refused, rest-bare, rest-initialized}
+use Rattle.build.proofs.Ends.{moved}
+use Rattle.parse.proofs.Steps.Rest.{one-to, said-to, rest-refused, rest-bare, rest-initialized}
 use Rattle.parse.proofs.+args+array+assign+barray+binding+bobject+bproperty+comma+element+head+init+inside+item+key+last+left+object+params+part+primary+property+rest+spread+start+unary.Lts-rest as lts
 use Rattle.parse.proofs.+args+array+assign+barray+binding+bobject+bproperty+comma+element+head+init+inside+item+key+last+left+object+params+part+primary+property+rest+spread+start+unary.Proof.Measures.{element-below, rest-at}
-use Rattle.making.proofs.cursor.over.Reads as over
-use Rattle.making.proofs.cursor.say.Reads as say
+use Rattle.build.proofs.cursor.over.Reads as over
+use Rattle.build.proofs.cursor.say.Reads as say
 use Rattle.parse.proofs.element.Reads as element
 use Rattle.parse.proofs.rest.Reads as rest
 use Rattle.rows.proofs.row_word.Reads as row-word

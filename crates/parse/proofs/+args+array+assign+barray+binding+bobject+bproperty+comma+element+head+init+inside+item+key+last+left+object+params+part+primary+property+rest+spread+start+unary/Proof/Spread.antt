@@ -4,11 +4,11 @@ use Prim.Native.Nat.{ℕ}
 use mathlib.Core.Path.{refl, sym, _∙_}
 use native.Mathlib.Omega.{arith}
 use borrow.Author.Needs.{needs}
-use Rattle.making.proofs.Ends.{moved}
-use Rattle.steps.specs.Spread.{spread-refused, spread-read}
+use Rattle.build.proofs.Ends.{moved}
+use Rattle.parse.proofs.Steps.Spread.{spread-refused, spread-read}
 use Rattle.parse.proofs.+args+array+assign+barray+binding+bobject+bproperty+comma+element+head+init+inside+item+key+last+left+object+params+part+primary+property+rest+spread+start+unary.Lts-spread as lts
 use Rattle.parse.proofs.+args+array+assign+barray+binding+bobject+bproperty+comma+element+head+init+inside+item+key+last+left+object+params+part+primary+property+rest+spread+start+unary.Proof.Measures.{assign-below, spread-at}
-use Rattle.making.proofs.cursor.over.Reads as over
+use Rattle.build.proofs.cursor.over.Reads as over
 use Rattle.parse.proofs.assign.Reads as assign
 use Rattle.parse.proofs.spread.Reads as spread
 

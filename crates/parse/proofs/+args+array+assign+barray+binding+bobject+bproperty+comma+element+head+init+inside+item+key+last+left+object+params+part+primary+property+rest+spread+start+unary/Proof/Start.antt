@@ -6,9 +6,9 @@ use mathlib.Core.Path.{refl, sym, _∙_}
 use native.Mathlib.Omega.{arith}
 use borrow.Author.Needs.{needs}
 use borrow.Author.Tests.{not-true, not-false}
-use Rattle.making.specs.Post.{cursor}
-use Rattle.steps.specs.Assign.{is-passed, is-committed, is-tried, tried-stands, past-none, past-given-up, past-as}
-use Rattle.steps.specs.Value.{async-stands}
+use Rattle.build.specs.Post.{cursor}
+use Rattle.waiting.proofs.Assign.{is-passed, is-committed, is-tried, tried-stands, past-none, past-given-up, past-as}
+use Rattle.waiting.proofs.Value.{async-stands}
 use Rattle.waiting.proofs.Starts.{start-opens, start-commits, start-asyncs, passed-part, passed-operand, passed-as, start-operand, start-fails}
 use Rattle.parse.proofs.+args+array+assign+barray+binding+bobject+bproperty+comma+element+head+init+inside+item+key+last+left+object+params+part+primary+property+rest+spread+start+unary.Lts-start as lts
 use Rattle.parse.proofs.+args+array+assign+barray+binding+bobject+bproperty+comma+element+head+init+inside+item+key+last+left+object+params+part+primary+property+rest+spread+start+unary.Proof.Measures.{head-below, start-at, unary-below}
@@ -18,7 +18,7 @@ use Rattle.heads.proofs.is_async_name.Reads as is-async-name
 use Rattle.heads.proofs.is_commit.Reads as is-commit
 use Rattle.heads.proofs.is_pass.Reads as is-pass
 use Rattle.heads.proofs.way_at.Reads as way-at
-use Rattle.making.proofs.cursor.leaf.Reads as leaf
+use Rattle.build.proofs.cursor.leaf.Reads as leaf
 use Rattle.parse.proofs.head.Reads as head
 use Rattle.parse.proofs.start.Reads as start
 use Rattle.parse.proofs.unary.Reads as unary

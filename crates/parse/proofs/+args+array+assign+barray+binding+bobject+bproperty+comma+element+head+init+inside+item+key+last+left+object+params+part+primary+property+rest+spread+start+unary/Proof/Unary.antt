@@ -5,17 +5,17 @@ use mathlib.Core.Path.{refl, sym, ap, _∙_}
 use native.Mathlib.Omega.{arith}
 use lib.ListN.{length}
 use borrow.Author.Needs.{needs}
-use Rattle.steps.specs.Unary.{Skipped, skips-none, skips-one, skips-inside, unary-operand-fails, unary-update-fails, operand-fits, prefixes-fit, unary-ends}
-use Rattle.steps.specs.Singles.{unary-stands, unary-singles}
+use Rattle.parse.proofs.Steps.Unary.{Skipped, skips-none, skips-one, skips-inside, unary-operand-fails, unary-update-fails, operand-fits, prefixes-fit, unary-ends}
+use Rattle.parse.proofs.Steps.Singles.{unary-stands, unary-singles}
 use Rattle.parse.proofs.+args+array+assign+barray+binding+bobject+bproperty+comma+element+head+init+inside+item+key+last+left+object+params+part+primary+property+rest+spread+start+unary.Lts-unary as lts
 use Rattle.parse.proofs.+args+array+assign+barray+binding+bobject+bproperty+comma+element+head+init+inside+item+key+last+left+object+params+part+primary+property+rest+spread+start+unary.Proof.Measures.{left-below, unary-at}
-use Rattle.making.proofs.cursor.leaf.Reads as leaf
-use Rattle.operation.proofs.is_prefix_operator.Reads as is-prefix-operator
-use Rattle.operation.proofs.postfix.Reads as postfix
-use Rattle.operation.proofs.prefixes.Reads as prefixes
+use Rattle.build.proofs.cursor.leaf.Reads as leaf
+use Rattle.build.proofs.operation.is_prefix_operator.Reads as is-prefix-operator
+use Rattle.build.proofs.operation.postfix.Reads as postfix
+use Rattle.build.proofs.operation.prefixes.Reads as prefixes
 use Rattle.parse.proofs.left.Reads as left
 use Rattle.parse.proofs.unary.Reads as unary
-use Rattle.singles.proofs.single_operand.Reads as single-operand
+use Rattle.heads.proofs.singles.single_operand.Reads as single-operand
 use Rattle.tokens.proofs.kind_at.Reads as kind-at
 
 abbrev Inv-loop : lts.InvT-loop

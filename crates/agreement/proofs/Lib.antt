@@ -1,0 +1,17 @@
+pub mod Leads
+pub mod Covers
+pub mod OneSided
+pub mod Heads
+pub mod Past
+pub mod Notes
+pub mod Lookahead
+pub mod Whole
+pub mod Agreement
+pub mod Answers
+pub mod Exception
+pub mod Count
+pub mod Scope
+pub mod Work
+pub mod Nesting
+pub mod Steps
+pub mod Doubling

@@ -1,2 +1,0 @@
-pub mod Balanced
-pub mod Readings

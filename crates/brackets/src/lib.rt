@@ -1,1 +1,0 @@
-// Balanced brackets, in specs/: a law of lists of tokens that the two grammars share. No code.

@@ -1,0 +1,3 @@
+pub mod Post
+pub mod Keys
+pub mod Operation

@@ -1,0 +1,10 @@
+pub mod Relabelled
+pub mod KidRoles
+pub mod RuleHolds
+pub mod Potentials
+pub mod Shapes
+pub mod Relabelling
+pub mod Examples
+pub mod NotJudgedAgain
+pub mod EntryRule
+pub mod Once

@@ -1,0 +1,1 @@
+// The grammar as ECMA-262 prints it, in specs/. No code.

@@ -1,0 +1,172 @@
+-- What an expression is derived as: one tree, which is no Spread, and is an Identifier only over one name. And how lists grow.
+-- Assumes nothing.
+use Prim.Native.Nat.{ℕ, _+_}
+use mathlib.Core.Path.{_≡_, refl, sym}
+use mathlib.Core.Bool.{Bool, true, false}
+use native.Mathlib.Omega.{arith}
+use lib.Dec.{leb}
+use Rattle.tokens.specs.Bool.{_is_, if_then_else_}
+use Rattle.tokens.specs.Kind.{Comma}
+use Rattle.rows.specs.Tree.{Tree, Forest, node, nil, cons, one, join, kind-of}
+use Rattle.rows.specs.Row as Row
+use Rattle.rows.proofs.Rows.{join-nil, join-assoc}
+use Rattle.grammar.specs.Sheet.{Sheet, leaf, first-tree}
+use Rattle.ecma262.specs.Derives as D
+use Rattle.exact.specs.Terminals.{tier-row}
+use Rattle.exact.proofs.Terminals.{line}
+use Rattle.ecma262.specs.Derives.{Tok, OneOf, identifiers, Links, Nonterminal, ListOf, Elided, Elision, PrimaryExpression, ArrayLiteral, ObjectLiteral, LinkedExpression, LeftHandSideExpression, UpdateExpression, UnaryExpression, TierExpression, CoalesceExpression, ShortCircuitExpression, ConditionalExpression, AssignmentExpression, Expression, ends-in-spread, array-row, object-row, Derives}
+
+-- one name stands from i to j
+pub record NameAt (s : Sheet) (i j : ℕ) : Type 0 where
+  pub name : OneOf identifiers s i
+  pub ends : j ≡ i + 1
+
+pub record Root (s : Sheet) (i j : ℕ) (ts : Forest) : Type 0 where
+  pub lone : ts ≡ one (first-tree ts)
+  pub no-spread : kind-of (first-tree ts) is Row.Spread ≡ false
+  pub named : kind-of (first-tree ts) is Row.Identifier ≡ true → NameAt s i j
+
+-- true is not false
+pub not-both : {b : Bool} → b ≡ true → b ≡ false → ⊥
+not-both t f = let z : _≡_ {A = ℕ} 0 1 = cc in omega arith
+
+-- a row of any other kind
+other : {s : Sheet} {i j : ℕ} (kind mark first end : ℕ) (kids : Forest) → kind is Row.Spread ≡ false → kind is Row.Identifier ≡ false → Root s i j (one (node kind mark first end kids))
+unfolding kind-of first-tree
+other kind mark first end kids a b = record { lone = refl; no-spread = a; named = λ e. absurd (not-both e b) }
+
+-- a literal is of one of two kinds
+array-other : {s : Sheet} {i j : ℕ} (mark first end : ℕ) (kids : Forest) → Root s i j (one (node (array-row kids) mark first end kids))
+unfolding array-row
+array-other {s} {i} {j} mark first end kids = go (ends-in-spread kids)
+  where
+    go : (b : Bool) → Root s i j (one (node (if b then Row.ArrayRestComma else Row.Array) mark first end kids))
+    go true = other _ mark first end kids refl refl
+    go false = other _ mark first end kids refl refl
+
+object-other : {s : Sheet} {i j : ℕ} (mark first end : ℕ) (kids : Forest) → Root s i j (one (node (object-row kids) mark first end kids))
+unfolding object-row
+object-other {s} {i} {j} mark first end kids = go (ends-in-spread kids)
+  where
+    go : (b : Bool) → Root s i j (one (node (if b then Row.ObjectRestComma else Row.Object) mark first end kids))
+    go true = other _ mark first end kids refl refl
+    go false = other _ mark first end kids refl refl
+
+tier-other : {s : Sheet} {i j : ℕ} (tier mark first end : ℕ) (kids : Forest) → Root s i j (one (node (tier-row tier) mark first end kids))
+unfolding tier-row
+tier-other {s} {i} {j} tier mark first end kids = go (leb tier 3)
+  where
+    go : (b : Bool) → Root s i j (one (node (if b then Row.Logical else Row.Binary) mark first end kids))
+    go true = other _ mark first end kids refl refl
+    go false = other _ mark first end kids refl refl
+
+module _ {s : Sheet} where
+  root-array : {i j : ℕ} {ts : Forest} → Derives s ArrayLiteral i j ts → Root s i j ts
+  root-array (D.array-empty o d c) = other _ _ _ _ _ refl refl
+  root-array (D.array-list o d c) = other _ _ _ _ _ refl refl
+  root-array (D.array-comma o d t e c) = array-other _ _ _ _
+
+  root-object : {i j : ℕ} {ts : Forest} → Derives s ObjectLiteral i j ts → Root s i j ts
+  root-object (D.object-empty o c) = other _ _ _ _ _ refl refl
+  root-object (D.object-list o d c) = other _ _ _ _ _ refl refl
+  root-object (D.object-comma o d t c) = object-other _ _ _ _
+
+  pub root-primary : {i j : ℕ} {ts : Forest} → Derives s PrimaryExpression i j ts → Root s i j ts
+  unfolding kind-of first-tree
+  root-primary (D.this t) = other _ _ _ _ _ refl refl
+  root-primary (D.identifier t) = record { lone = refl; no-spread = refl; named = λ e. record { name = t; ends = refl } }
+  root-primary (D.literal t) = other _ _ _ _ _ refl refl
+  root-primary (D.array d) = root-array d
+  root-primary (D.object d) = root-object d
+  root-primary (D.parenthesized o d c) = other _ _ _ _ _ refl refl
+
+  pub root-chain : {c : Links} {i j : ℕ} {ts : Forest} → Derives s (LinkedExpression c) i j ts → Root s i j ts
+  root-chain (D.primary d) = root-primary d
+  root-chain (D.index d o e c) = other _ _ _ _ _ refl refl
+  root-chain (D.member d o e) = other _ _ _ _ _ refl refl
+  root-chain (D.call d e) = other _ _ _ _ _ refl refl
+
+  pub root-left-hand-side : {i j : ℕ} {ts : Forest} → Derives s LeftHandSideExpression i j ts → Root s i j ts
+  root-left-hand-side (D.linked d) = root-chain d
+
+  pub root-update : {i j : ℕ} {ts : Forest} → Derives s UpdateExpression i j ts → Root s i j ts
+  root-update (D.left-hand-side d) = root-left-hand-side d
+  root-update (D.postfix d t l) = other _ _ _ _ _ refl refl
+  root-update (D.prefix t d) = other _ _ _ _ _ refl refl
+
+  pub root-unary : {i j : ℕ} {ts : Forest} → Derives s UnaryExpression i j ts → Root s i j ts
+  root-unary (D.update d) = root-update d
+  root-unary (D.unary t d) = other _ _ _ _ _ refl refl
+
+  pub root-tier : {tier i j : ℕ} {ts : Forest} → Derives s (TierExpression tier) i j ts → Root s i j ts
+  root-tier (D.no-power d) = root-unary d
+  root-tier (D.power d t e) = other _ _ _ _ _ refl refl
+  root-tier (D.no-operation l d) = root-tier d
+  root-tier (D.operation l d t e) = rw (line l .row-is) (tier-other _ _ _ _ _)
+
+  pub root-coalesce : {i j : ℕ} {ts : Forest} → Derives s CoalesceExpression i j ts → Root s i j ts
+  root-coalesce (D.coalesce d t e) = other _ _ _ _ _ refl refl
+
+  pub root-short-circuit : {i j : ℕ} {ts : Forest} → Derives s ShortCircuitExpression i j ts → Root s i j ts
+  root-short-circuit (D.short-circuit-or d) = root-tier d
+  root-short-circuit (D.short-circuit-coalesce d) = root-coalesce d
+
+  pub root-conditional : {i j : ℕ} {ts : Forest} → Derives s ConditionalExpression i j ts → Root s i j ts
+  root-conditional (D.short-circuit d) = root-short-circuit d
+  root-conditional (D.conditional d t e u f) = other _ _ _ _ _ refl refl
+
+  pub root-assignment : {i j : ℕ} {ts : Forest} → Derives s AssignmentExpression i j ts → Root s i j ts
+  root-assignment (D.no-assignment d) = root-conditional d
+  root-assignment (D.arrow d t l e) = other _ _ _ _ _ refl refl
+  root-assignment (D.async-arrow d t l e) = other _ _ _ _ _ refl refl
+  root-assignment (D.assign d t e) = other _ _ _ _ _ refl refl
+  root-assignment (D.compound-assign d t e) = other _ _ _ _ _ refl refl
+
+  pub root-expression : {i j : ℕ} {ts : Forest} → Derives s Expression i j ts → Root s i j ts
+  root-expression (D.no-comma d) = root-assignment d
+  root-expression (D.sequence d) = other _ _ _ _ _ refl refl
+
+-- the last of some rows
+pub spread-last : (ts : Forest) (t : Tree) → ends-in-spread (join ts (one t)) ≡ kind-of t is Row.Spread
+unfolding ends-in-spread join kind-of
+spread-last nil (node kind mark first end kids) = refl
+spread-last (cons u nil) (node kind mark first end kids) = refl
+spread-last (cons u (cons v vs)) t = spread-last (cons v vs) t
+
+-- LISTS BEGUN
+-- a list of x that began at i, up to a place where an x could start
+pub data Begun (s : Sheet) (x : Nonterminal) (i at : ℕ) (so-far : Forest) : Type 0 where
+  none-yet : at ≡ i → so-far ≡ nil → Begun s x i at so-far
+  after-comma : (p : ℕ) → Derives s (ListOf x) i p so-far → Tok s p Comma → at ≡ p + 1 → Begun s x i at so-far
+
+pub one-more : {s : Sheet} {x : Nonterminal} {i at e : ℕ} (so-far us : Forest) → Begun s x i at so-far → Derives s x at e us → Derives s (ListOf x) i e (join so-far us)
+unfolding join
+one-more so-far us (none-yet q r) d = rw r (D.first-of-list (rw q at d))
+one-more so-far us (after-comma p l t q) d = D.next-of-list l t (rw q at d)
+
+-- the same, of a list with elisions
+pub data BegunElided (s : Sheet) (x : Nonterminal) (i at : ℕ) (so-far : Forest) : Type 0 where
+  only-holes : Derives s Elision i at so-far → BegunElided s x i at so-far
+  after-list : (p : ℕ) (ts us : Forest) → Derives s (ListOf (Elided x)) i p ts → Tok s p Comma → Derives s Elision (p + 1) at us → so-far ≡ join ts us → BegunElided s x i at so-far
+
+module _ {s : Sheet} {x : Nonterminal} {i at : ℕ} where
+  pub one-hole-more : (so-far : Forest) → BegunElided s x i at so-far → Tok s at Comma → BegunElided s x i (at + 1) (join so-far (one (leaf Row.Hole at)))
+  one-hole-more so-far (only-holes d) t = only-holes (D.elision d t)
+  one-hole-more so-far (after-list p ts us l c d q) t = after-list p ts (join us (one (leaf Row.Hole at))) l c (D.elision d t) (rw q (join-assoc ts us (one (leaf Row.Hole at))))
+
+  pub one-element-more : {e : ℕ} (so-far us : Forest) → BegunElided s x i at so-far → Derives s x at e us → Derives s (ListOf (Elided x)) i e (join so-far us)
+  one-element-more so-far us (only-holes h) d = D.first-of-list (D.elided h d)
+  one-element-more so-far us (after-list p ts vs l c h q) d = rw (q, join-assoc ts vs us) (D.next-of-list l c (D.elided h d))
+
+pub list-and-comma : {s : Sheet} {x : Nonterminal} {i p : ℕ} (ts : Forest) → Derives s (ListOf (Elided x)) i p ts → Tok s p Comma → BegunElided s x i (p + 1) ts
+list-and-comma {p = p} ts l t = after-list p ts nil l t D.no-elision (sym (join-nil ts))
+
+-- WHAT HOLDS OF EACH ITEM OF A LIST
+-- P of each item from i on
+pub data Each (s : Sheet) (P : ℕ → ℕ → Forest → Type 0) (i : ℕ) : ℕ → Forest → Type 0 where
+  each-one : {j : ℕ} {ts : Forest} → P i j ts → Each s P i j ts
+  each-more : {p j : ℕ} {ts us : Forest} → Each s P i p ts → Tok s p Comma → P (p + 1) j us → Each s P i j (join ts us)
+
+-- P of what follows an elision
+pub data Past (s : Sheet) (P : ℕ → ℕ → Forest → Type 0) (i j : ℕ) : Forest → Type 0 where
+  past : {p : ℕ} {hs ts : Forest} → Derives s Elision i p hs → P p j ts → Past s P i j (join hs ts)

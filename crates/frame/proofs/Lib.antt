@@ -1,4 +1,0 @@
-pub mod Checked
-pub mod Last
-pub mod Finishing
-pub mod Once

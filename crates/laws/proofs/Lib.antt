@@ -1,0 +1,15 @@
+pub mod Balanced
+pub mod Readings
+pub mod Settles
+pub mod Sheets
+pub mod Good
+pub mod Owed
+pub mod Bounds
+pub mod Rel
+pub mod Steady
+pub mod Places
+pub mod Abandoned
+pub mod RowKinds
+pub mod Formed
+pub mod WellFormed
+pub mod Promises

@@ -1,5 +1,0 @@
-pub mod Rules
-pub mod Ways
-pub mod Ends
-pub mod Makes
-pub mod Lent

@@ -1,3 +1,0 @@
-pub mod Post
-pub mod Keys
-pub mod Lent

@@ -1,2 +1,0 @@
-pub mod Converts
-pub mod Steps

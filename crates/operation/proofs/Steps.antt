@@ -1,5 +1,0 @@
--- One law for each way out of a function and for each turn of its loop, in plain terms: what the calls and tests on the way gave, and what the
--- contract asks. Those of the reader's cycle are in the crate `steps`.
-pub mod Inside
-pub mod Operation
-pub mod Prefixes

@@ -1,4 +1,0 @@
-mod Masks
-mod Shapes
-mod Columns
-mod Beyond
