@@ -1,7 +1,7 @@
 #!/usr/bin/env bash
 # Measures the archive beside both twins, and writes the tables of docs/PERFORMANCE.md between their marker comments; the text around them stays.
 #
-#     bench/run.sh              all parts: times instructions stack size context
+#     bench/run.sh              all parts: times instructions where stack size context
 #     bench/run.sh PART..       some of them
 #
 # VUOLMASET_ARCHIVE names the archive; without it, it is the one that `rt staticlib vuolmaset` writes. ROUNDS: how often is timed, 300. The part stack
@@ -59,6 +59,9 @@ part_times() {
 # Instructions a token of the three readers, and how they grow.
 part_instructions() { "$programs/count"; }
 
+# Where they go on the real sheets, whose tokens the table before tells.
+part_where() { python3 -B "$here/where.py" "$programs/count" "$(section instructions | awk -F'|' '$2 ~ /real sheets/ { print $3 + 0; exit }')"; }
+
 # The deepest byte of a painted stack that each reader writes to; the bound from the object code; and the lists that come nearest to it.
 part_stack() {
     local file
@@ -103,7 +106,7 @@ part_context() {
 [ -e "$VUOLMASET_ARCHIVE" ] || { echo "no archive at $VUOLMASET_ARCHIVE: rt staticlib vuolmaset builds it" >&2; exit 1; }
 install_missing
 (cd "$here/harness" && cargo build --quiet --offline --release --features archive)
-[ $# -gt 0 ] || set -- times instructions stack size context
+[ $# -gt 0 ] || set -- times instructions where stack size context
 for part in "$@"; do
     echo "measuring: $part"
     declare -F "part_$part" > /dev/null || { echo "no such part: $part" >&2; exit 1; }
