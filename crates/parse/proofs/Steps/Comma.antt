@@ -120,9 +120,7 @@ module _ {ks fs r₀ s₀ m₀ r₁ s₁ m₁ r s m : List ℕ} {c here : Cursor
     -- the first comma, and any other
     pub comma-marks : y ≡ Comma → kids + 1 ≡ 1 → length r ≡ length r₁ → length s ≡ length s₁
         → CommaSoFar ks fs r₀ s₀ m₀ c r s m (cursor (d .at + 1) (d .rows) (d .records)) (kids + 1) (d .at)
-    comma-marks t z l l′ =
-        let st = stands ks (sym k ∙ t) in
-        comma-turns t (λ q. refl) (λ n. absurd (n (omega (arith, z)))) (omega (arith, st)) l l′
+    comma-marks t z l l′ = comma-turns t (λ q. refl) (λ n. absurd (n (omega (arith, z)))) (omega (arith, stands ks (sym k ∙ t))) l l′
 
     pub comma-again : y ≡ Comma → (kids + 1 ≡ 1 → ⊥) → length r ≡ length r₁ → length s ≡ length s₁
         → CommaSoFar ks fs r₀ s₀ m₀ c r s m (cursor (d .at + 1) (d .rows) (d .records)) (kids + 1) mark

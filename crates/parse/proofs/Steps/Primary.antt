@@ -33,8 +33,8 @@ module _ {ks fs r₀ s₀ m₀ : List ℕ} {c : Cursor} {y : ℕ} (room : Room k
       → Met ks fs r₀ s₀ m₀ r s m (primary (c .at)) (c .rows) (c .records) (Step.Done u)
   primary-parens {m = m} {d = d} t h e top =
       let g = h .closed-to _ e in
-      let one-g = count-one _ _ (single _ (closed-read g) refl) in
-      is-topped top (subst (λ (q : ℕ). Comes ks fs (primary (c .at)) m₀ (done q (one (node Row.Paren (c .at) (c .at) q (g .trees))) (g .records) m)) (sym (g .past)) (primary-paren (sym k ∙ t) (g .comes) (g .token))) (g .made) (sym one-g)
+      is-topped top (subst (λ (q : ℕ). Comes ks fs (primary (c .at)) m₀ (done q (one (node Row.Paren (c .at) (c .at) q (g .trees))) (g .records) m)) (sym (g .past)) (primary-paren (sym k ∙ t) (g .comes) (g .token))) (g .made)
+      (sym (count-one _ _ (single _ (closed-read g) refl)))
 
   pub primary-arrays : {r s m : List ℕ} {x : Step} → y ≡ 20 → Met ks fs r₀ s₀ m₀ r s m (elements (c .at) (c .at + 1) Row.Array nil) (c .rows) (c .records) x
       → Met ks fs r₀ s₀ m₀ r s m (primary (c .at)) (c .rows) (c .records) x

@@ -9,10 +9,11 @@ use lib.ListN.{length, getD}
 use Rattle.tokens.specs.declared.cause.Cause.{Cause}
 use Rattle.rows.specs.Tree.{one}
 use Rattle.rows.specs.Post.{Grown}
+use Rattle.grammar.specs.Sheet.{Out}
 use Rattle.grammar.specs.Job.{unary, postfix, left-hand-side}
 use Rattle.grammar.specs.Update.{is-unary-operator, is-update-operator}
 use Rattle.laws.proofs.Owed.{owed, oweds}
-use Rattle.build.specs.Post.{Room, ReadTo, Met}
+use Rattle.build.specs.Post.{Room, Comes, ReadTo, Met}
 use Rattle.build.specs.Operation.{is-prefix-operator, OperandFits, MetPostfix, PostfixTo, PrefixFits, Before, MetPrefixes}
 use Rattle.build.specs.declared.cursor.Cursor.{Cursor}
 use Rattle.build.specs.declared.cursor.Step.{Step}
@@ -50,17 +51,13 @@ skips-one {ks} {first} {at} w k p q =
 pub skips-inside : {ks : List ℕ} {first at k : ℕ} {b : Bool} → Skipped ks first at → k ≡ getD ks at 0 → b ≡ is-prefix-operator k → b ≡ true → at < length ks
 skips-inside {ks} {at = at} w k p q = prefix-stands ks at (ap is-prefix-operator (sym k) ∙ sym p ∙ q)
 
-no-prefix : (ks : List ℕ) (at : ℕ) {k : ℕ} {b : Bool} → k ≡ getD ks at 0 → b ≡ is-prefix-operator k → b ≡ false
-    → (is-unary-operator (getD ks at 0) ≡ false) × (is-update-operator (getD ks at 0) ≡ false)
-no-prefix ks at kind p q = neither _ _ (ap is-prefix-operator (sym kind) ∙ sym p ∙ q)
-
 module _ {ks fs r₀ s₀ m₀ : List ℕ} {c : Cursor} {at k : ℕ} {b : Bool} (room : Room ks r₀ s₀ c) (w : Skipped ks (c .at) at) (kind : k ≡ getD ks at 0) (p : b ≡ is-prefix-operator k) (q : b ≡ false) where
+  no-prefix : {out : Out (List ℕ)} → Comes ks fs (postfix at) m₀ out → Comes ks fs (unary at) m₀ out
+  no-prefix h = let n = neither (is-unary-operator (getD ks at 0)) (is-update-operator (getD ks at 0)) (ap is-prefix-operator (sym kind) ∙ sym p ∙ q) in unary-none (n .0) (n .1) h
+
   pub unary-operand-fails : {r s m : List ℕ} {x : Step} {cause : Cause} → Met ks fs r₀ s₀ m₀ r s m (left-hand-side at) (c .rows) (c .records) x → x ≡ Step.Fail cause
       → Met ks fs r₀ s₀ m₀ r s m (unary (c .at)) (c .rows) (c .records) x
-  unary-operand-fails h e =
-      let f = h .fail-at _ e in
-      let n = no-prefix ks at kind p q in
-      is-fail e record { comes = all-fail (c .at) at (w .low) (w .operators) (unary-none (n .0) (n .1) (postfix-fails (f .comes))); unmade = f .unmade }
+  unary-operand-fails h e = let f = h .fail-at _ e in is-fail e record { comes = all-fail (c .at) at (w .low) (w .operators) (no-prefix (postfix-fails (f .comes))); unmade = f .unmade }
 
   module _ {r₁ s₁ m : List ℕ} {x : Step} {d : Cursor} (h : Met ks fs r₀ s₀ m₀ r₁ s₁ m (left-hand-side at) (c .rows) (c .records) x) (e : x ≡ Step.Done d) (l₁ : length r₁ ≡ length r₀)
       (l₂ : length s₁ ≡ length s₀) where
@@ -93,9 +90,8 @@ module _ {ks fs r₀ s₀ m₀ : List ℕ} {c : Cursor} {at k : ℕ} {b : Bool} 
         → Met ks fs r₀ s₀ m₀ r s m (unary (c .at)) (c .rows) (c .records) y
     unary-update-fails a u =
         let f = a .fail-at _ u (got .tree) stood deep-now in
-        let n = no-prefix ks at kind p q in
         is-fail u record {
-          comes = all-fail (c .at) at (w .low) (w .operators) (unary-none (n .0) (n .1) (f .comes (got .comes)));
+          comes = all-fail (c .at) at (w .low) (w .operators) (no-prefix (f .comes (got .comes)));
           unmade = rw (f .rows-same, f .records-same) (unmade-past (omega (arith, room)) (omega (arith, room)) (got .made));
         }
 
@@ -116,13 +112,12 @@ module _ {ks fs r₀ s₀ m₀ : List ℕ} {c : Cursor} {at k : ℕ} {b : Bool} 
       pub known : Before ks fs r₂ s₂ v at (c .rows) m₀ m (got .records ++ after .records)
       unfolding read
       known =
-          let n = no-prefix ks at kind p q in
           let mv = moved at read refl in
           record {
             left = after .tree;
             stands = stands-now (omega (arith, room)) (read .made .grown);
             deep = omega (arith, mv, room, w, owed-one (after .tree), l₂, k₂);
-            comes = unary-none (n .0) (n .1) (read .comes);
+            comes = no-prefix (read .comes);
           }
 
       pub prefixes-fit : PrefixFits ks r₂ s₂ v (c .at) at (c .rows)
