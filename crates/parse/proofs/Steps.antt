@@ -1,9 +1,5 @@
 -- One law for each way out of a function of the reader's cycle and for each turn of its loop; those of what nests to the right are in waiting/proofs.
-pub mod Args
-pub mod Array
-pub mod Barray
 pub mod Binding
-pub mod Bobject
 pub mod Bproperty
 pub mod Comma
 pub mod Cursors
@@ -13,12 +9,9 @@ pub mod Init
 pub mod Key
 pub mod Left
 pub mod Listing
-pub mod Object
-pub mod Params
 pub mod Primary
 pub mod Property
 pub mod Rest
-pub mod Shape
 pub mod Singles
 pub mod Spread
 pub mod Unary

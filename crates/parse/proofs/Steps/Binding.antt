@@ -21,7 +21,7 @@ use Rattle.build.proofs.Ends.{is-fail}
 use Rattle.build.proofs.Makes.{is-leafed, unmade-none}
 
 -- a nonterminal that comes to all that another one comes to
-met-as : {ks fs r₀ s₀ m₀ r s m : List ℕ} {job job′ : Job} {n k : ℕ} {x : Step} → ((out : Out (List ℕ)) → Comes ks fs job m₀ out → Comes ks fs job′ m₀ out)
+pub met-as : {ks fs r₀ s₀ m₀ r s m : List ℕ} {job job′ : Job} {n k : ℕ} {x : Step} → ((out : Out (List ℕ)) → Comes ks fs job m₀ out → Comes ks fs job′ m₀ out)
     → Met ks fs r₀ s₀ m₀ r s m job n k x → Met ks fs r₀ s₀ m₀ r s m job′ n k x
 met-as f h =
     record {

@@ -36,20 +36,17 @@ module _ {ks fs r₀ s₀ m₀ : List ℕ} {c : Cursor} {b : Bool} (room : Room 
   bproperty-inits {r = r} {m = m} {d = d} t low k o h =
       let now = leafed-now low in
       let past : d .at + 1 ≡ c .at + 2 = omega (arith, now) in
-      let mark : d .at ≡ c .at + 1 = now .at-is in
       let back : d .at - 1 ≡ c .at = omega (arith, now) in
       record {
         done-to = λ e q.
             let i = h .init-to e q in
             let over-name = subst (λ (p : ℕ). Topped (i .rows) (i .before) Row.BindingShorthandInit (c .at + 1) p (e .at) 2 (c .rows) r e) back
-            (subst (λ (p : ℕ). Topped (i .rows) (i .before) Row.BindingShorthandInit p (d .at - 1) (e .at) 2 (c .rows) r e) mark (i .topped)) in
-            let comes = subst (λ (p : ℕ). Comes ks fs (assignment p) m₀ (done (e .at) (i .trees) (i .records) m)) past (i .comes) in
-            let b = bounded (i .comes .settles) in
+            (subst (λ (p : ℕ). Topped (i .rows) (i .before) Row.BindingShorthandInit p (d .at - 1) (e .at) 2 (c .rows) r e) (now .at-is) (i .topped)) in
             record {
               trees = one (node Row.BindingShorthandInit (c .at + 1) (c .at) (e .at) (cons (leaf Row.BindingName (c .at)) (i .trees)));
               records = i .records;
-              comes = binding-property-init (sym n ∙ t) (sym k ∙ o) comes;
-              made = made-top (made-then (made-leaf low) (i .made)) over-name (omega (arith, count-one _ _ (b .single)));
+              comes = binding-property-init (sym n ∙ t) (sym k ∙ o) (subst (λ (p : ℕ). Comes ks fs (assignment p) m₀ (done (e .at) (i .trees) (i .records) m)) past (i .comes));
+              made = made-top (made-then (made-leaf low) (i .made)) over-name (omega (arith, count-one _ _ (bounded (i .comes .settles) .single)));
             };
         fail-at = λ p q.
             let f = h .init-fail p q in

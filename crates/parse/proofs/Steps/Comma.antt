@@ -1,7 +1,7 @@
 -- `comma`, 13.16: its loop, and each way out of it.
 -- Assumes nothing.
-use Prim.Native.Nat.{ℕ, zero, suc, _+_, _≤_, _<_}
-use mathlib.Core.Path.{_≡_, refl, sym, subst, _∙_}
+use Prim.Native.Nat.{ℕ, zero, suc, _+_, _≤_}
+use mathlib.Core.Path.{_≡_, refl, sym, _∙_}
 use mathlib.Core.List.{List, [], _++_}
 use native.Mathlib.Omega.{arith}
 use lib.ListN.{length, getD}
@@ -21,16 +21,13 @@ use Rattle.build.proofs.Rules.{expression-fails, expression-one, expression-mor
 use Rattle.build.proofs.Ends.{is-done, is-fail, moved, single}
 use Rattle.build.proofs.Makes.{made-none, made-then, made-at, unmade-after, count-one, is-topped}
 use Rattle.waiting.proofs.Shared.{after-done, after-fail, said-then, comes-to}
+use Rattle.parse.proofs.Steps.Cursors.{Along}
 
 -- the Expression began at c; the parts so far stand, and the next one begins here. The first comma is at `mark`, once there is one
 pub record CommaSoFar (ks fs r₀ s₀ m₀ : List ℕ) (c : Cursor) (r s m : List ℕ) (here : Cursor) (kids mark : ℕ) : Type 0 where
   pub marked : mark ≤ length ks
-  pub forward : c .at ≤ here .at
-  pub inside : here .at ≤ length ks
-  pub more : c .rows ≤ here .rows
+  pub along : Along ks c here kids
   pub few : here .rows + kids + c .at ≤ c .rows + here .at
-  pub few-records : here .records ≤ here .at
-  pub number : kids ≤ here .at
   pub rows-long : length r ≡ length r₀
   pub records-long : length s ≡ length s₀
   pub so-far : Forest
@@ -52,22 +49,17 @@ unfolding count join
 comma-starts {ks} {fs} {r} {s} {m} {c} {mark} room e =
     record {
       marked = omega (arith, room, e);
-      forward = omega arith;
-      inside = omega (arith, room);
-      more = omega arith;
+      along = record { low = omega arith; high = room .inside; some = omega arith; few = omega arith; said = omega arith; number = omega arith };
       few = omega arith;
-      few-records = omega (arith, room);
-      number = omega arith;
       rows-long = refl;
       records-long = refl;
       so-far = nil;
       said = [];
       counted = refl;
       made = made-at made-none refl refl;
-      stops = λ {cause} {m′} h. expression-fails h;
-      only = λ {p} {ts} {rs} {m′} z h n. expression-one h n;
-      goes = λ {p} {comma} {ts} {rs} {m′} {out} at-first later h k f.
-          expression-more h (k refl) (subst (λ (q : ℕ). Comes ks fs (sequence (c .at) q p ts) m′ out) (at-first refl) f);
+      stops = λ h. expression-fails h;
+      only = λ z h n. expression-one h n;
+      goes = λ at-first later h k f. expression-more h (k refl) (rw (at-first refl) at f);
     }
 
 pub comma-some : (kids : ℕ) → (kids + 1 ≡ 1 → ⊥) → 1 ≤ kids
@@ -110,33 +102,25 @@ module _ {ks fs r₀ s₀ m₀ r₁ s₁ m₁ r s m : List ℕ} {c here : Cursor
         let one-a = count-one _ _ (single _ a refl) in
         record {
           marked = small;
-          forward = omega (arith, w, g);
-          inside = omega (arith, st);
-          more = omega (arith, w, g);
+          along = let v = w .along in record { low = omega arith; high = omega arith; some = omega arith; few = omega arith; said = omega arith; number = omega arith };
           few = omega (arith, w, g);
-          few-records = omega (arith, w, g);
-          number = omega (arith, w, g);
           rows-long = omega (arith, w);
           records-long = omega (arith, w);
           so-far = join (w .so-far) (a .trees);
           said = w .said ++ a .records;
           counted = omega (arith, w .counted, one-a, count-join (w .so-far) (a .trees));
           made = made-at (made-then (w .made) (a .made)) refl refl;
-          stops = λ {cause} {m′} f.
-              comes-to (w .goes at-first later (a .comes) (λ z. sym k ∙ t) (sequence-fails (sym k ∙ t) f)) (after-fail (w .said ++ a .records) _ _);
-          only = λ {p} {ts} {rs} {m′} z f n. absurd (omega (arith, z));
-          goes = λ {p} {comma = comma′} {ts} {rs} {m′} {out} none same f q f′.
+          stops = λ f. comes-to (w .goes at-first later (a .comes) (λ z. sym k ∙ t) (sequence-fails (sym k ∙ t) f)) (after-fail (w .said ++ a .records) _ _);
+          only = λ z f n. absurd (omega (arith, z));
+          goes = λ {rs = rs} {out = out} none same f q f′.
               said-then (w .said ++ a .records) rs out
-              (w .goes at-first later (a .comes) (λ z. sym k ∙ t) (sequence-more (sym k ∙ t) f
-              (subst (λ (v : ℕ). Comes ks fs (sequence (c .at) v p (join (join (w .so-far) (a .trees)) ts)) m′ out) (same (λ z. omega (arith, z))) f′)));
+              (w .goes at-first later (a .comes) (λ z. sym k ∙ t) (sequence-more (sym k ∙ t) f (rw (same (λ z. omega (arith, z))) at f′)));
         }
 
     -- the first comma, and any other
     pub comma-marks : y ≡ Comma → kids + 1 ≡ 1 → length r ≡ length r₁ → length s ≡ length s₁
         → CommaSoFar ks fs r₀ s₀ m₀ c r s m (cursor (d .at + 1) (d .rows) (d .records)) (kids + 1) (d .at)
-    comma-marks t z l l′ =
-        let st = stands ks (sym k ∙ t) in
-        comma-turns t (λ q. refl) (λ n. absurd (n (omega (arith, z)))) (omega (arith, st)) l l′
+    comma-marks t z l l′ = comma-turns t (λ q. refl) (λ n. absurd (n (omega (arith, z)))) (omega (arith, stands ks (sym k ∙ t))) l l′
 
     pub comma-again : y ≡ Comma → (kids + 1 ≡ 1 → ⊥) → length r ≡ length r₁ → length s ≡ length s₁
         → CommaSoFar ks fs r₀ s₀ m₀ c r s m (cursor (d .at + 1) (d .rows) (d .records)) (kids + 1) mark

@@ -1,7 +1,7 @@
 -- `head`, 15.3 and 15.9: each way out of it.
 -- Assumes nothing.
-use Prim.Native.Nat.{ℕ, _+_, _-_, _≤_}
-use mathlib.Core.Path.{_≡_, refl, sym, subst, _∙_}
+use Prim.Native.Nat.{ℕ, _+_, _≤_}
+use mathlib.Core.Path.{_≡_, refl, sym, _∙_}
 use mathlib.Core.Bool.{true}
 use mathlib.Core.List.{List}
 use native.Mathlib.Omega.{arith}
@@ -19,34 +19,20 @@ use Rattle.build.specs.declared.cursor.Listed.{Listed}
 use Rattle.build.proofs.Rules.{head-break, head-async-no-paren, head-async-fails, head-async-no-arrow, head-async-done, head-no-paren, head-fails, head-no-arrow, head-done}
 use Rattle.build.proofs.Makes.{unmade-none, unmade-past}
 
-same-cursor : (c d : Cursor) (i j : ℕ) → Listed.Done c i ≡ Listed.Done d j → c ≡ d
-same-cursor c d i j e = cc
-
-same-kids : (c d : Cursor) (i j : ℕ) → Listed.Done c i ≡ Listed.Done d j → i ≡ j
-same-kids c d i j e = cc
-
-same-fail : (p q : Cause) → Listed.Fail p ≡ Listed.Fail q → p ≡ q
-same-fail p q e = cc
-
-apart : (c : Cursor) (i : ℕ) (p : Cause) → Listed.Done c i ≡ Listed.Fail p → ⊥
-apart c i p e = let z : _≡_ {A = ℕ} 0 1 = cc in omega arith
-
 -- a list that is done, and one that fails
 module _ {ks fs r₀ s₀ m₀ r s m : List ℕ} {job : Job} {n k : ℕ} where
   pub is-listed : {d : Cursor} {kids : ℕ} → ListTo ks fs r₀ s₀ m₀ r s m job n k d kids → MetList ks fs r₀ s₀ m₀ r s m job n k (Listed.Done d kids)
   is-listed {d} {kids} h =
       record {
-        list-to = λ d′ kids′ q.
-            subst (λ (y : Cursor). ListTo ks fs r₀ s₀ m₀ r s m job n k y kids′) (same-cursor d d′ kids kids′ q)
-            (subst (λ (i : ℕ). ListTo ks fs r₀ s₀ m₀ r s m job n k d i) (same-kids d d′ kids kids′ q) h);
-        list-fail = λ p q. absurd (apart d kids p q);
+        list-to = λ d′ kids′ q. let e : d ≡ d′ = cc in let i : kids ≡ kids′ = cc in rw (← e, ← i) h;
+        list-fail = λ p q. let z : _≡_ {A = ℕ} 0 1 = cc in absurd (omega arith);
       }
 
   pub is-not-listed : {p : Cause} {x : Listed} → x ≡ Listed.Fail p → Refused ks fs r₀ s₀ m₀ r s m job n k p → MetList ks fs r₀ s₀ m₀ r s m job n k x
   is-not-listed {p} e h =
       record {
-        list-to = λ d kids q. absurd (apart d kids p (sym q ∙ e));
-        list-fail = λ p′ q. subst (λ (y : Cause). Refused ks fs r₀ s₀ m₀ r s m job n k y) (same-fail p p′ (sym e ∙ q)) h;
+        list-to = λ d kids q. let z : _≡_ {A = ℕ} 0 1 = cc in absurd (omega arith);
+        list-fail = λ p′ q. let i : p ≡ p′ = cc in rw (← i) h;
       }
 
 -- where the `(` of a head stands: here, or after Async with no line break
@@ -70,38 +56,28 @@ near ks fs at paren (asynced a n e) = record { low = omega arith; high = omega a
 
 module _ {ks fs m : List ℕ} {at paren : ℕ} where
   no-paren : Opens ks fs at paren → (getD ks paren 0 ≡ 18 → ⊥) → Comes ks fs (head at) m (fail (Cause.Unexpected paren) m)
-  no-paren (plain n e) p =
-      subst (λ (x : ℕ). Comes ks fs (head at) m (fail (Cause.Unexpected x) m)) (sym e) (head-no-paren n (subst (λ (x : ℕ). getD ks x 0 ≡ 18 → ⊥) e p))
-  no-paren (asynced a n e) p =
-      subst (λ (x : ℕ). Comes ks fs (head at) m (fail (Cause.Unexpected x) m)) (sym e) (head-async-no-paren a (ne-eqb _ _ n) (subst (λ (x : ℕ). getD ks x 0 ≡ 18 → ⊥) e p))
+  no-paren (plain n e) p = rw e (head-no-paren n (rw e at p))
+  no-paren (asynced a n e) p = rw e (head-async-no-paren a (ne-eqb _ _ n) (rw e at p))
 
   module _ {m′ : List ℕ} where
     paren-fails : {c : Cause} → Opens ks fs at paren → getD ks paren 0 ≡ 18 → Comes ks fs (parameters (paren + 1) nil) m (fail c m′) → Comes ks fs (head at) m (fail c m′)
-    paren-fails {c} (plain n e) p h = head-fails n (subst (λ (x : ℕ). getD ks x 0 ≡ 18) e p) (subst (λ (x : ℕ). Comes ks fs (parameters (x + 1) nil) m (fail c m′)) e h)
-    paren-fails {c} (asynced a n e) p h =
-        head-async-fails a (ne-eqb _ _ n) (subst (λ (x : ℕ). getD ks x 0 ≡ 18) e p) (subst (λ (x : ℕ). Comes ks fs (parameters (x + 1) nil) m (fail c m′)) e h)
+    paren-fails (plain n e) p h = head-fails n (rw e at p) (rw e at h)
+    paren-fails (asynced a n e) p h = head-async-fails a (ne-eqb _ _ n) (rw e at p) (rw e at h)
 
     paren-no-arrow : {p : ℕ} {ts : Forest} {rs : List Record} → Opens ks fs at paren → getD ks paren 0 ≡ 18 → Comes ks fs (parameters (paren + 1) nil) m (done p ts rs m′)
         → (getD ks p 0 ≡ 29 → ⊥) → Comes ks fs (head at) m (fail (Cause.Unexpected p) m′)
-    paren-no-arrow {p} {ts} {rs} (plain n e) o h t =
-        head-no-arrow n (subst (λ (x : ℕ). getD ks x 0 ≡ 18) e o) (subst (λ (x : ℕ). Comes ks fs (parameters (x + 1) nil) m (done p ts rs m′)) e h) t
-    paren-no-arrow {p} {ts} {rs} (asynced a n e) o h t =
-        head-async-no-arrow a (ne-eqb _ _ n) (subst (λ (x : ℕ). getD ks x 0 ≡ 18) e o) (subst (λ (x : ℕ). Comes ks fs (parameters (x + 1) nil) m (done p ts rs m′)) e h) t
+    paren-no-arrow (plain n e) o h t = head-no-arrow n (rw e at o) (rw e at h) t
+    paren-no-arrow (asynced a n e) o h t = head-async-no-arrow a (ne-eqb _ _ n) (rw e at o) (rw e at h) t
 
     paren-done : {p : ℕ} {ts : Forest} {rs : List Record} → Opens ks fs at paren → getD ks paren 0 ≡ 18 → Comes ks fs (parameters (paren + 1) nil) m (done p ts rs m′)
         → getD ks p 0 ≡ 29 → Comes ks fs (head at) m (done p ts rs m′)
-    paren-done {p} {ts} {rs} (plain n e) o h t =
-        head-done n (subst (λ (x : ℕ). getD ks x 0 ≡ 18) e o) (subst (λ (x : ℕ). Comes ks fs (parameters (x + 1) nil) m (done p ts rs m′)) e h) t
-    paren-done {p} {ts} {rs} (asynced a n e) o h t =
-        head-async-done a (ne-eqb _ _ n) (subst (λ (x : ℕ). getD ks x 0 ≡ 18) e o) (subst (λ (x : ℕ). Comes ks fs (parameters (x + 1) nil) m (done p ts rs m′)) e h) t
-
-flag-one : {z : ℕ} → z ≡ 1 → z is 1 ≡ true
-flag-one e = rw e refl
+    paren-done (plain n e) o h t = head-done n (rw e at o) (rw e at h) t
+    paren-done (asynced a n e) o h t = head-async-done a (ne-eqb _ _ n) (rw e at o) (rw e at h) t
 
 module _ {ks fs r₀ s₀ m₀ : List ℕ} {c : Cursor} (room : Room ks r₀ s₀ c) where
   pub head-breaks : {y z : ℕ} → y ≡ getD ks (c .at) 0 → y ≡ 2 → z ≡ getD fs (c .at + 1) 0 → z ≡ 1
       → MetList ks fs r₀ s₀ m₀ r₀ s₀ m₀ (head (c .at)) (c .rows) (c .records) (Listed.Fail (Cause.Unexpected (c .at + 1)))
-  head-breaks k t l u = is-not-listed refl record { comes = head-break (sym k ∙ t) (flag-one (sym l ∙ u)); unmade = unmade-none }
+  head-breaks k t l u = is-not-listed refl record { comes = head-break (sym k ∙ t) (rw (sym l ∙ u)); unmade = unmade-none }
 
   module _ {paren y : ℕ} (o : Opens ks fs (c .at) paren) (k : y ≡ getD ks paren 0) where
     pub head-no-parens : (y ≡ 18 → ⊥) → MetList ks fs r₀ s₀ m₀ r₀ s₀ m₀ (head (c .at)) (c .rows) (c .records) (Listed.Fail (Cause.Unexpected paren))

@@ -6,10 +6,10 @@ use mathlib.Core.Bool.{Bool, true, false}
 use mathlib.Core.List.{List}
 use native.Mathlib.Omega.{arith}
 use lib.ListN.{length, getD}
-use Rattle.tokens.specs.Bool.{_and_}
 use Rattle.tokens.specs.declared.cause.Cause.{Cause}
 use Rattle.rows.specs.Row as Row
 use Rattle.grammar.specs.Job.{assignment, key}
+use Rattle.laws.proofs.Good.{and-left}
 use Rattle.laws.proofs.Bounds.{bounded}
 use Rattle.build.specs.Keys.{is-key, is-shorthand}
 use Rattle.build.specs.Post.{Room, Met, Leafed, Topped}
@@ -28,12 +28,8 @@ pub key-stands : {ks r s : List ℕ} {c : Cursor} {y : ℕ} {b : Bool} → Room 
 key-stands {ks} room k n t = let w = bounded (key-word {ks = ks} {fs = ks} {m = ks} (tested k n t) .settles) in omega arith
 
 -- so does a shorthand's name
-shorthand-name : (a b : Bool) → (a and b) ≡ true → a ≡ true
-shorthand-name true b e = refl
-shorthand-name false b e = e
-
 pub shorthand-stands : {ks r s : List ℕ} {c : Cursor} {b : Bool} → Room ks r s c → b ≡ is-shorthand ks (c .at) → b ≡ true → c .at < length ks
-shorthand-stands {ks} room n t = let w = bounded (primary-name {ks = ks} {fs = ks} {m = ks} (shorthand-name _ _ (sym n ∙ t)) .settles) in omega arith
+shorthand-stands {ks} room n t = let w = bounded (primary-name {ks = ks} {fs = ks} {m = ks} (and-left _ _ (sym n ∙ t)) .settles) in omega arith
 
 module _ {ks fs r₀ s₀ m₀ : List ℕ} {c : Cursor} {y : ℕ} (room : Room ks r₀ s₀ c) (k : y ≡ getD ks (c .at) 0) where
   pub key-words : {r : List ℕ} {b : Bool} {d : Cursor} → b ≡ is-key y → b ≡ true → Leafed r₀ c Row.Key r d → Met ks fs r₀ s₀ m₀ r s₀ m₀ (key (c .at)) (c .rows) (c .records) (Step.Done d)

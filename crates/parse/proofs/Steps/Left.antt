@@ -3,30 +3,29 @@
 use Prim.Native.Nat.{ℕ, _+_, _*_, _≤_, _<_}
 use mathlib.Core.Path.{_≡_, refl, sym, ap, subst, _∙_}
 use mathlib.Core.Bool.{Bool, true, false}
-use mathlib.Core.List.{List, _++_}
+use mathlib.Core.List.{List, [], _++_, append-nil}
 use native.Mathlib.Omega.{arith}
 use lib.ListN.{length, getD}
 use Rattle.tokens.specs.Token.{is-word}
 use Rattle.tokens.specs.declared.cause.Cause.{Cause}
 use Rattle.tokens.proofs.Stands.{stands}
-use Rattle.rows.specs.Tree.{Tree, Forest, node, nil, cons, one, join, count, size, sizes}
+use Rattle.rows.specs.Tree.{Tree, node, nil, cons, one, join, count}
 use Rattle.rows.specs.Record.{Record}
 use Rattle.rows.specs.Row as Row
 use Rattle.rows.specs.Post.{Grown}
-use Rattle.rows.proofs.Rows.{kept-kept, kept-grown, kept-past}
-use Rattle.rows.proofs.Records.{grown-records-join, grown-records-kept}
-use Rattle.grammar.specs.Sheet.{Out, done, fail, first-tree, after-records}
+use Rattle.grammar.specs.Sheet.{Out, after-records}
 use Rattle.grammar.specs.Job.{primary, left-hand-side, links, expression, arguments}
 use Rattle.laws.proofs.Owed.{owes, owed, oweds}
-use Rattle.laws.proofs.Bounds.{bounded, sizes-nil, oweds-nil, sizes-cons, oweds-cons, size-node, owed-node}
-use Rattle.build.specs.Post.{Room, Comes, Made, Met, MetOver, NotClosed, not-read, no-token, MetClosed, Topped, Operand}
+use Rattle.laws.proofs.Bounds.{bounded, oweds-nil, oweds-cons, owed-node}
+use Rattle.build.specs.Post.{Room, Comes, Made, Met, MetOver, MetClosed, Topped, Operand}
 use Rattle.build.specs.declared.cursor.Cursor.{Cursor}
 use Rattle.build.specs.declared.cursor.Step.{Step}
 use Rattle.build.proofs.Rules.{Reaches, key-word, left-fails, left-more, links-end, links-no-word, links-member, links-index-fails, links-index-open, links-index, links-call-fails, links-call}
 use Rattle.build.proofs.Ends.{is-done, is-fail, moved, single}
-use Rattle.build.proofs.Makes.{stands-now, made-then, made-top, unmade-past, unmade-after, count-one}
-use Rattle.waiting.proofs.Shared.{after-after, after-done, comes-to}
+use Rattle.build.proofs.Makes.{stands-now, made-then, made-top, made-over, unmade-past, unmade-after, unmade-over, count-one}
+use Rattle.waiting.proofs.Shared.{after-none, after-done, said-then, comes-to}
 use Rattle.parse.proofs.Steps.Cursors.{topped-now}
+use Rattle.parse.proofs.Steps.Rest.{one-of, one-to, not-closed}
 use Rattle.build.proofs.Steps.Inside.{closed-read}
 
 -- What began at a place, with n rows and k records before it, is one tree up to here, and the rest of it is what follows.
@@ -56,15 +55,9 @@ pub left-turns : {ks fs r₁ s₁ m₁ r s m r′ s′ m′ : List ℕ} {at n : 
     → ((r₀ s₀ m₀ : List ℕ) (k : ℕ) → Linked ks fs r₀ s₀ m₀ at n k r s m here → Linked ks fs r₀ s₀ m₀ at n k r′ s′ m′ u) → Linking ks fs r₁ s₁ m₁ at n b r′ s′ m′ u
 left-turns v p q turn = record { rows-long = p ∙ v .rows-long; records-long = q ∙ v .records-long; goes = λ r₀ s₀ m₀ k w. turn r₀ s₀ m₀ k (v .goes r₀ s₀ m₀ k w) }
 
--- one tree, its size and what it owes
-owed-one : (t : Tree) → oweds (one t) ≡ owed t
+-- what one tree owes
+pub owed-one : (t : Tree) → oweds (one t) ≡ owed t
 owed-one t = omega (arith, oweds-cons t nil, oweds-nil)
-
-sized-one : (t : Tree) → sizes (one t) ≡ size t
-sized-one t = omega (arith, sizes-cons t nil, sizes-nil)
-
-tall : (t : Tree) → 1 ≤ size t
-tall (node kind mark first end kids) = omega (arith, size-node kind mark first end kids)
 
 pub word-stands : (ks : List ℕ) {at y : ℕ} {b : Bool} → y ≡ getD ks at 0 → b ≡ is-word y → b ≡ true → at < length ks
 word-stands ks {at} {y} k n t =
@@ -80,32 +73,44 @@ module _ {ks fs r₀ s₀ m₀ : List ℕ} {c : Cursor} (room : Room ks r₀ s�
   -- where the loop is
   pub left-linked : {r₁ s₁ m₁ r s m : List ℕ} {x : Step} {d here : Cursor} → Met ks fs r₀ s₀ m₀ r₁ s₁ m₁ (primary (c .at)) (c .rows) (c .records) x → x ≡ Step.Done d
       → Linking ks fs r₁ s₁ m₁ (c .at) (c .rows) d r s m here → Linked ks fs r₀ s₀ m₀ (c .at) (c .rows) (c .records) r s m here
-  left-linked {r₁} {s₁} {m₁} {d = d} h e v =
-      let a = h .done-to _ e in
-      let w = moved _ a refl in
-      let t = first-tree (a .trees) in
-      let alone : a .trees ≡ one t = single _ a refl in
-      let owe : oweds (a .trees) ≡ owed t = ap oweds alone ∙ owed-one t in
-      let rows = ap sizes alone ∙ sized-one t in
+  left-linked h e v =
+      let g = h .done-to _ e in
+      let w = moved _ g refl in
+      let a = one-to _ g refl in
       v .goes r₀ s₀ m₀ (c .records) record {
         wide = omega (arith, room);
         deep = omega (arith, room);
         forward = w .forward;
         inside = w .inside;
-        some = omega (arith, rows, tall t, a .made .grown .used);
+        some = a .some;
         few = w .few;
-        tree = t;
+        tree = a .tree;
         said = a .records;
-        few-records = omega (arith, w, owe);
-        made = subst (λ (f : Forest). Made r₀ s₀ (c .rows) (c .records) r₁ s₁ d f (a .records)) alone (a .made);
-        rest = λ out f. left-more (subst (λ (q : Forest). Comes ks fs (primary (c .at)) m₀ (done (d .at) q (a .records) m₁)) alone (a .comes)) f;
+        few-records = omega (arith, w, ap oweds (a .alone), owed-one (a .tree));
+        made = a .made;
+        rest = λ out f. left-more (a .comes) f;
       }
 
-why : {ks fs m₀ m : List ℕ} {at first : ℕ} {left : Tree} {p : Cause} → getD ks at 0 ≡ 20 → NotClosed ks fs m₀ m (expression (at + 1)) 21 Cause.Unexpected p → Comes ks fs (links first at left) m₀ (fail p m)
-why k (not-read h) = links-index-fails k h
-why k (no-token end ts rs h t e) = rw e (links-index-open k h t)
-
 module _ {ks fs r₀ s₀ m₀ : List ℕ} {at n k₀ : ℕ} {r₁ s₁ m₁ : List ℕ} {here : Cursor} {y : ℕ} (w : Linked ks fs r₀ s₀ m₀ at n k₀ r₁ s₁ m₁ here) (k : y ≡ getD ks (here .at) 0) where
+  -- one more link
+  relinks : {r s m : List ℕ} {d : Cursor} {left : Tree} (rs : List Record) → here .at < d .at → d .at ≤ length ks → n < d .rows → d .rows + at ≤ n + d .at → d .records + owed left + at ≤ k₀ + d .at
+      → Made r₀ s₀ n k₀ r s d (one left) (w .said ++ rs) → ((out : Out (List ℕ)) → Comes ks fs (links at (d .at) left) m out → Comes ks fs (links at (here .at) (w .tree)) m₁ (after-records rs out))
+      → Linked ks fs r₀ s₀ m₀ at n k₀ r s m d
+  relinks {left = left} rs forward inside some few few-records made f =
+      record {
+        wide = w .wide;
+        deep = w .deep;
+        forward = omega (arith, w);
+        inside = inside;
+        some = some;
+        few = few;
+        tree = left;
+        said = w .said ++ rs;
+        few-records = few-records;
+        made = made;
+        rest = λ out h. said-then (w .said) rs out (w .rest _ (f out h));
+      }
+
   pub left-ends : (y ≡ 27 → ⊥) → (y ≡ 20 → ⊥) → (y ≡ 18 → ⊥) → Met ks fs r₀ s₀ m₀ r₁ s₁ m₁ (left-hand-side at) n k₀ (Step.Done here)
   left-ends a b c =
       is-done refl record {
@@ -116,7 +121,6 @@ module _ {ks fs r₀ s₀ m₀ : List ℕ} {at n k₀ : ℕ} {r₁ s₁ m₁ : L
       }
 
   -- a member
-
   pub left-no-word : {b : Bool} {z : ℕ} → y ≡ 27 → z ≡ getD ks (here .at + 1) 0 → b ≡ is-word z → b ≡ false
       → Met ks fs r₀ s₀ m₀ r₁ s₁ m₁ (left-hand-side at) n k₀ (Step.Fail (Cause.Unexpected (here .at + 1)))
   unfolding after-records
@@ -132,30 +136,21 @@ module _ {ks fs r₀ s₀ m₀ : List ℕ} {at n k₀ : ℕ} {r₁ s₁ m₁ : L
   left-member t l i o top =
       let now = topped-now top in
       let word = word-stands ks l i o in
-      let left = node Row.Member (here .at + 1) at (here .at + 2) (one (w .tree)) in
       let owe = owed-node Row.Member (here .at + 1) at (here .at + 2) (one (w .tree)) in
-      record {
-        wide = w .wide;
-        deep = w .deep;
-        forward = omega (arith, w, now);
-        inside = omega (arith, word, now);
-        some = omega (arith, w, now);
-        few = omega (arith, w, now);
-        tree = left;
-        said = w .said;
-        few-records = omega (arith, w, w .few-records, now, owe, owed-one (w .tree));
-        made = made-top (w .made) top refl;
-        rest = λ out f. w .rest out (links-member (sym k ∙ t) (ap is-word (sym l) ∙ sym i ∙ o) (subst (λ (q : ℕ). Comes ks fs (links at q left) m₁ out) (now .at-is) f));
-      }
+      relinks {left = node Row.Member (here .at + 1) at (here .at + 2) (one (w .tree))} [] (omega (arith, now)) (omega (arith, word, now)) (omega (arith, w, now)) (omega (arith, w, now))
+      (omega (arith, w .few-records, now, owe, owed-one (w .tree))) (rw append-nil (made-top (w .made) top refl))
+      (λ out f. rw after-none (links-member (sym k ∙ t) (ap is-word (sym l) ∙ sym i ∙ o) (rw (now .at-is) at f)))
 
   -- an index
-
   pub left-index-refuses : {r s m : List ℕ} {x : Step} {p : Cause} → y ≡ 20 → MetClosed ks fs r₁ s₁ m₁ r s m (expression (here .at + 1)) 21 Cause.Unexpected (here .rows) (here .records) x → x ≡ Step.Fail p
       → Met ks fs r₀ s₀ m₀ r s m (left-hand-side at) n k₀ x
   unfolding after-records
   left-index-refuses t h e =
       let f = h .closed-fail _ e in
-      is-fail e record { comes = w .rest _ (why (sym k ∙ t) (f .why)); unmade = unmade-after (w .wide) (w .deep) (w .made) (f .unmade) }
+      is-fail e record {
+        comes = w .rest _ (not-closed (λ q. links-index-fails (sym k ∙ t)) (λ i ts rs. links-index-open (sym k ∙ t)) (f .why));
+        unmade = unmade-after (w .wide) (w .deep) (w .made) (f .unmade);
+      }
 
   pub left-index : {r₂ r s m : List ℕ} {x : Step} {d u : Cursor} → y ≡ 20 → MetClosed ks fs r₁ s₁ m₁ r₂ s m (expression (here .at + 1)) 21 Cause.Unexpected (here .rows) (here .records) x → x ≡ Step.Done d
       → Topped r₂ d Row.Index at at (d .at) 2 n r u → Linked ks fs r₀ s₀ m₀ at n k₀ r s m u
@@ -167,28 +162,15 @@ module _ {ks fs r₀ s₀ m₀ : List ℕ} {at n k₀ : ℕ} {r₁ s₁ m₁ : L
       let last = stands ks (g .token) in
       let now = topped-now top in
       let past = g .past in
-      let left = node Row.Index at at (d .at) (cons (w .tree) (g .trees)) in
       let owe = owed-node Row.Index at at (d .at) (cons (w .tree) (g .trees)) in
       let one-g = count-one _ _ (single _ inner refl) in
-      record {
-        wide = w .wide;
-        deep = w .deep;
-        forward = omega (arith, w, now, move, past);
-        inside = omega (arith, last, now, past);
-        some = omega (arith, w, now, move);
-        few = omega (arith, w, now, move, past);
-        tree = left;
-        said = w .said ++ g .records;
-        few-records = omega (arith, w .few-records, now, move, past, owe, oweds-cons (w .tree) (g .trees));
-        made = made-top (made-then (w .made) (g .made)) top (omega (arith, one-g));
-        rest = λ out f.
-            let f₁ = subst (λ (q : ℕ). Comes ks fs (links at q left) m out) (now .at-is) f in
-            let f₂ = subst (λ (q : ℕ). Comes ks fs (links at q (node Row.Index at at q (cons (w .tree) (g .trees)))) m out) past f₁ in
-            comes-to (w .rest _ (links-index (sym k ∙ t) (g .comes) (g .token) f₂)) (after-after (w .said) (g .records) out);
-      }
+      relinks {left = node Row.Index at at (d .at) (cons (w .tree) (g .trees))} (g .records) (omega (arith, now, move, past)) (omega (arith, last, now, past)) (omega (arith, w, now, move))
+      (omega (arith, w, now, move, past)) (omega (arith, w .few-records, now, move, past, owe, oweds-cons (w .tree) (g .trees))) (made-top (made-then (w .made) (g .made)) top (omega (arith, one-g)))
+      (λ out f.
+      links-index (sym k ∙ t) (g .comes) (g .token)
+      (subst (λ (q : ℕ). Comes ks fs (links at q (node Row.Index at at q (cons (w .tree) (g .trees)))) m out) past (rw (now .at-is) at f)))
 
   -- a call
-
   stands-here : Grown r₁ n r₁ (here .rows) (one (w .tree))
   stands-here = stands-now (w .wide) (w .made .grown)
 
@@ -209,13 +191,7 @@ module _ {ks fs r₀ s₀ m₀ : List ℕ} {at n k₀ : ℕ} {r₁ s₁ m₁ : L
     unfolding after-records
     left-call-refuses e =
         let f = h .over-one (w .tree) stands-here .fail-at _ e in
-        is-fail e record {
-          comes = w .rest _ (links-call-fails (sym k ∙ t) (f .comes));
-          unmade = record {
-            kept = kept-kept (kept-past (w .wide) (w .made .grown)) (f .unmade .kept);
-            kept-records = grown-records-kept (w .deep) (w .made .recorded) (f .unmade .kept-records);
-          };
-        }
+        is-fail e record { comes = w .rest _ (links-call-fails (sym k ∙ t) (f .comes)); unmade = unmade-over (w .wide) (w .deep) (w .made) (f .unmade) }
 
     -- how far it goes
     pub left-call-reaches : {d : Cursor} → x ≡ Step.Done d → Reaches ks (here .at) (d .at)
@@ -225,33 +201,13 @@ module _ {ks fs r₀ s₀ m₀ : List ℕ} {at n k₀ : ℕ} {r₁ s₁ m₁ : L
         record { forward = omega arith; inside = omega arith }
 
     pub left-call : {d : Cursor} → x ≡ Step.Done d → Linked ks fs r₀ s₀ m₀ at n k₀ r s m d
-    left-call {d} e =
+    left-call e =
         let g = h .over-one (w .tree) stands-here .done-to _ e in
         let b = bounded (g .comes .settles) in
-        let left = first-tree (g .trees) in
-        let alone : g .trees ≡ one left = b .single in
-        let owe = ap oweds alone ∙ owed-one left in
-        let rows = ap sizes alone ∙ sized-one left in
+        let a = one-of g (b .single) in
+        let owe = ap oweds (a .alone) ∙ owed-one (a .tree) in
         let used = g .made .grown .used in
-        let used-records = g .made .recorded .used in
+        let said = g .made .recorded .used in
         let before = w .made .grown .used in
-        let whole : Made r₀ s₀ n k₀ r s d (g .trees) (w .said ++ g .records) =
-        record {
-          grown = kept-grown (kept-past (w .wide) (w .made .grown)) (g .made .grown);
-          recorded = grown-records-join (w .made .recorded) (g .made .recorded);
-        } in
-        record {
-          wide = w .wide;
-          deep = w .deep;
-          forward = omega (arith, w, b);
-          inside = omega (arith, b);
-          some = omega (arith, used, rows, tall left);
-          few = omega (arith, w, b, used, before);
-          tree = left;
-          said = w .said ++ g .records;
-          few-records = omega (arith, w .few-records, b, owe, owed-one (w .tree), used-records);
-          made = subst (λ (f : Forest). Made r₀ s₀ n k₀ r s d f (w .said ++ g .records)) alone whole;
-          rest = λ out f.
-              comes-to (w .rest _ (links-call (sym k ∙ t) (subst (λ (q : Forest). Comes ks fs (arguments at (here .at + 1) (one (w .tree))) m₁ (done (d .at) q (g .records) m)) alone (g .comes)) f))
-              (after-after (w .said) (g .records) out);
-        }
+        relinks (a .records) (omega (arith, b)) (omega (arith, b)) (a .some) (omega (arith, w, b, used, before)) (omega (arith, w .few-records, b, owe, owed-one (w .tree), said))
+        (made-over (w .wide) (w .made) (a .made)) (λ out f. links-call (sym k ∙ t) (a .comes) f)

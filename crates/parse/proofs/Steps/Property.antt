@@ -1,7 +1,7 @@
 -- `property`, 13.2.5: each way out of it.
 -- Assumes nothing.
 use Prim.Native.Nat.{ℕ, _+_, _≤_, _<_}
-use mathlib.Core.Path.{_≡_, refl, sym, subst, _∙_}
+use mathlib.Core.Path.{_≡_, refl, sym, _∙_}
 use mathlib.Core.Bool.{Bool, true, false}
 use mathlib.Core.List.{List, [], _++_}
 use native.Mathlib.Omega.{arith}
@@ -21,15 +21,13 @@ use Rattle.build.specs.declared.cursor.Step.{Step}
 use Rattle.build.proofs.Rules.{property-shorthand, property-init-fails, property-init, property-key-fails, property-no-colon, property-value-fails, property-done}
 use Rattle.build.proofs.Ends.{is-fail, moved, single}
 use Rattle.build.proofs.Makes.{made-leaf, made-then, unmade-past, unmade-after, count-one, is-topped}
-use Rattle.parse.proofs.Steps.Cursors.{leafed-now}
+use Rattle.parse.proofs.Steps.Cursors.{leafed-now, Along}
 
 -- the property that began at c has its name or key, and its `=` or `:` stands at d: what follows makes the property
 pub record Keyed (ks fs r₀ s₀ m₀ : List ℕ) (c : Cursor) (r s m : List ℕ) (d : Cursor) (kind mark : ℕ) : Type 0 where
   pub next : d .at < length ks
   pub forward : c .at < d .at
-  pub more : c .rows ≤ d .rows
-  pub few : d .rows + c .at ≤ c .rows + d .at
-  pub few-records : d .records ≤ d .at
+  pub along : Along ks c d 0
   pub marked : mark < length ks
   pub rows-long : length r ≡ length r₀
   pub records-long : length s ≡ length s₀
@@ -69,9 +67,7 @@ module _ {ks fs r₀ s₀ m₀ : List ℕ} {c : Cursor} {b : Bool} (room : Room 
       record {
         next = omega (arith, now, st);
         forward = omega (arith, now);
-        more = omega (arith, now);
-        few = omega (arith, now);
-        few-records = omega (arith, now, room);
+        along = record { low = omega arith; high = omega arith; some = omega arith; few = omega arith; said = omega arith; number = omega arith };
         marked = st;
         rows-long = l;
         records-long = refl;
@@ -79,8 +75,8 @@ module _ {ks fs r₀ s₀ m₀ : List ℕ} {c : Cursor} {b : Bool} (room : Room 
         records = [];
         lone = refl;
         made = made-leaf low;
-        fails = λ {cause} {m′} h. property-init-fails (sym n ∙ t) (sym k ∙ o) (subst (λ (p : ℕ). Comes ks fs (assignment p) m₀ (fail cause m′)) past h);
-        goes = λ {e} {ts} {rs} {m′} h. property-init (sym n ∙ t) (sym k ∙ o) (subst (λ (p : ℕ). Comes ks fs (assignment p) m₀ (done e ts rs m′)) past h);
+        fails = λ h. property-init-fails (sym n ∙ t) (sym k ∙ o) (rw past at h);
+        goes = λ h. property-init (sym n ∙ t) (sym k ∙ o) (rw past at h);
       }
 
   pub keyed-key : {r₁ s₁ m₁ : List ℕ} {x : Step} {d : Cursor} {y : ℕ} → b ≡ false → Met ks fs r₀ s₀ m₀ r₁ s₁ m₁ (key (c .at)) (c .rows) (c .records) x → x ≡ Step.Done d
@@ -92,9 +88,7 @@ module _ {ks fs r₀ s₀ m₀ : List ℕ} {c : Cursor} {b : Bool} (room : Room 
       record {
         next = st;
         forward = g .forward;
-        more = g .more;
-        few = omega (arith, g);
-        few-records = omega (arith, g, room);
+        along = record { low = omega arith; high = omega arith; some = omega arith; few = omega arith; said = omega arith; number = omega arith };
         marked = omega (arith, g, st);
         rows-long = l;
         records-long = l′;
@@ -102,8 +96,8 @@ module _ {ks fs r₀ s₀ m₀ : List ℕ} {c : Cursor} {b : Bool} (room : Room 
         records = a .records;
         lone = count-one _ _ (single _ a refl);
         made = a .made;
-        fails = λ {cause} {m′} f. property-value-fails (sym n ∙ t) (a .comes) (sym k ∙ o) f;
-        goes = λ {e} {ts} {rs} {m′} f. property-done (sym n ∙ t) (a .comes) (sym k ∙ o) f;
+        fails = λ f. property-value-fails (sym n ∙ t) (a .comes) (sym k ∙ o) f;
+        goes = λ f. property-done (sym n ∙ t) (a .comes) (sym k ∙ o) f;
       }
 
 -- the same where the two ways meet

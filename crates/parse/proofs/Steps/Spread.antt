@@ -11,14 +11,10 @@ use Rattle.tokens.specs.Bool.{_is_, if_then_else_}
 use Rattle.tokens.specs.Kind.{Dot3}
 use Rattle.tokens.specs.declared.cause.Cause.{Cause}
 use Rattle.tokens.proofs.Stands.{stands}
-use Rattle.rows.specs.Tree.{Forest, count}
 use Rattle.rows.specs.Row as Row
-use Rattle.grammar.specs.Job.{Job, assignment, spread, property}
-use Rattle.laws.proofs.Bounds.{Limits, Bound, bounded, limits, reads}
-use Rattle.laws.proofs.Owed.{oweds}
-use Rattle.grammar.specs.Sheet.{sheet-of}
+use Rattle.grammar.specs.Job.{Job, assignment, spread}
 use Rattle.heads.specs.Singles.{part-start}
-use Rattle.build.specs.Post.{ReadTo, Met, Topped}
+use Rattle.build.specs.Post.{Met, Topped}
 use Rattle.build.specs.declared.cursor.Cursor.{Cursor}
 use Rattle.build.specs.declared.cursor.Step.{Step}
 use Rattle.build.proofs.Rules.{spread-fails, spread-done}
@@ -61,38 +57,31 @@ starts ks at {start} p le = go (getD ks at 0 is Dot3) refl p
 
 -- an element or an argument: an assignment expression, past the dots if there are any
 module _ {ks fs r₀ s₀ m₀ r₁ s₁ m₁ : List ℕ} {n k start : ℕ} {x : Step} (at : ℕ) (p : start ≡ part-start ks at) (h : Met ks fs r₀ s₀ m₀ r₁ s₁ m₁ (assignment start) n k x) where
-  spread-start : getD ks at 0 is Dot3 ≡ true → start ≡ at + 1
+  start-is : (b : Bool) → getD ks at 0 is Dot3 ≡ b → start ≡ (if b then at + 1 else at)
   unfolding part-start
-  spread-start e = p ∙ rw e refl
-
-  plain-start : getD ks at 0 is Dot3 ≡ false → start ≡ at
-  unfolding part-start
-  plain-start e = p ∙ rw e refl
+  start-is b e = p ∙ rw e refl
 
   met-at : {from : ℕ} → start ≡ from → Met ks fs r₀ s₀ m₀ r₁ s₁ m₁ (assignment from) n k x
   met-at e = subst (λ (q : ℕ). Met ks fs r₀ s₀ m₀ r₁ s₁ m₁ (assignment q) n k x) e h
 
-  pub item-fails : {c : Cause} → x ≡ Step.Fail c → Met ks fs r₀ s₀ m₀ r₁ s₁ m₁ (if getD ks at 0 is Dot3 then spread at else assignment at) n k x
-  item-fails e = go (getD ks at 0 is Dot3) refl
+  item-by : {r s m : List ℕ} {z : Step} → (getD ks at 0 is Dot3 ≡ true → Met ks fs r₀ s₀ m₀ r s m (spread at) n k z) → (getD ks at 0 is Dot3 ≡ false → Met ks fs r₀ s₀ m₀ r s m (assignment at) n k z)
+      → Met ks fs r₀ s₀ m₀ r s m (if getD ks at 0 is Dot3 then spread at else assignment at) n k z
+  item-by {r} {s} {m} {z} f g = go (getD ks at 0 is Dot3) f g
     where
-      go : (b : Bool) → getD ks at 0 is Dot3 ≡ b → Met ks fs r₀ s₀ m₀ r₁ s₁ m₁ (if b then spread at else assignment at) n k x
-      go true t = spread-refused (stands ks (eqb-true _ _ t)) (met-at (spread-start t)) e
-      go false t = met-at (plain-start t)
+      go : (b : Bool) → (b ≡ true → Met ks fs r₀ s₀ m₀ r s m (spread at) n k z) → (b ≡ false → Met ks fs r₀ s₀ m₀ r s m (assignment at) n k z)
+          → Met ks fs r₀ s₀ m₀ r s m (if b then spread at else assignment at) n k z
+      go true f g = f refl
+      go false f g = g refl
+
+  pub item-fails : {c : Cause} → x ≡ Step.Fail c → Met ks fs r₀ s₀ m₀ r₁ s₁ m₁ (if getD ks at 0 is Dot3 then spread at else assignment at) n k x
+  item-fails e = item-by (λ t. spread-refused (stands ks (eqb-true _ _ t)) (met-at (start-is true t)) e) (λ t. met-at (start-is false t))
 
   pub item-plain : {d : Cursor} → x ≡ Step.Done d → start ≡ at → Met ks fs r₀ s₀ m₀ r₁ s₁ m₁ (if getD ks at 0 is Dot3 then spread at else assignment at) n k (Step.Done d)
-  item-plain {d} done e = go (getD ks at 0 is Dot3) refl
-    where
-      go : (b : Bool) → getD ks at 0 is Dot3 ≡ b → Met ks fs r₀ s₀ m₀ r₁ s₁ m₁ (if b then spread at else assignment at) n k (Step.Done d)
-      go true t = let q = spread-start t in absurd (omega (arith, q, e))
-      go false t = rw (← done) (met-at e)
+  item-plain done e = item-by (λ t. let q = start-is true t in absurd (omega (arith, q, e))) (λ t. rw (← done) (met-at e))
 
   pub item-spreads : {r : List ℕ} {d u : Cursor} → x ≡ Step.Done d → (start ≡ at → ⊥) → Topped r₁ d Row.Spread at at (d .at) 1 n r u
       → Met ks fs r₀ s₀ m₀ r s₁ m₁ (if getD ks at 0 is Dot3 then spread at else assignment at) n k (Step.Done u)
-  item-spreads {r} {d} {u} e some top = go (getD ks at 0 is Dot3) refl
-    where
-      go : (b : Bool) → getD ks at 0 is Dot3 ≡ b → Met ks fs r₀ s₀ m₀ r s₁ m₁ (if b then spread at else assignment at) n k (Step.Done u)
-      go true t = spread-read (stands ks (eqb-true _ _ t)) (met-at (spread-start t)) e top
-      go false t = absurd (some (plain-start t))
+  item-spreads e some top = item-by (λ t. spread-read (stands ks (eqb-true _ _ t)) (met-at (start-is true t)) e top) (λ t. absurd (some (start-is false t)))
 
 -- an element or an argument was read up to d
 pub record ItemRead (ks fs r₀ s₀ m₀ : List ℕ) (at n k : ℕ) (r s m : List ℕ) (d : Cursor) : Type 0 where
@@ -104,30 +93,3 @@ pub item-read : {ks fs r₀ s₀ m₀ r′ s′ m′ r s m : List ℕ} {n k : �
     → Met ks fs r₀ s₀ m₀ r′ s′ m′ (if getD ks at 0 is Dot3 then spread at else assignment at) n k x → x ≡ Step.Done d′ → length r′ ≡ length r₀ → length s′ ≡ length s₀
     → ItemRead ks fs r₀ s₀ m₀ at n k r s m d
 item-read {ks} {fs} {r₀} {s₀} {m₀} {n = n} {k} at e e′ e″ q h done l l′ = rw (e, e′, e″, q) record { met = rw (← done) h; rows-long = l; records-long = l′ }
-
--- how far an element or an argument, and a part of an object, moves the cursor; each gives one tree
-pub record Went (ks : List ℕ) (at n k : ℕ) (d : Cursor) (ts : Forest) (spare : ℕ) : Type 0 where
-  pub forward : at < d .at
-  pub inside : d .at ≤ length ks
-  pub more : n ≤ d .rows
-  pub few : d .rows + at ≤ n + d .at + spare
-  pub said : d .records + oweds ts + at ≤ k + d .at
-  pub counted : count ts ≡ 1
-
-went : {ks fs r₀ s₀ m₀ r s m : List ℕ} {job : Job} {n k : ℕ} {d : Cursor} (at spare : ℕ) (g : ReadTo ks fs r₀ s₀ m₀ r s m job n k d)
-    → limits (sheet-of ks fs) job ≡ reads (sheet-of ks fs) at spare 0 → Went ks at n k d (g .trees) spare
-went {ks} {fs} {job = job} {n} {k} {d} at spare g e =
-    let b = subst (λ (l : Limits). Bound l (d .at) (g .trees) (g .records)) e (bounded (g .comes .settles)) in
-    let u = g .made .grown .used in
-    let v = g .made .recorded .used in
-    record { forward = omega arith; inside = omega arith; more = omega arith; few = omega arith; said = omega arith; counted = count-one _ _ (b .single) }
-
-pub item-went : {ks fs r₀ s₀ m₀ r s m : List ℕ} {n k : ℕ} {d : Cursor} (at : ℕ) (dots : Bool) (g : ReadTo ks fs r₀ s₀ m₀ r s m (if dots then spread at else assignment at) n k d)
-    → Went ks at n k d (g .trees) 0
-item-went at true g = went at 0 g refl
-item-went at false g = went at 0 g refl
-
-pub part-went : {ks fs r₀ s₀ m₀ r s m : List ℕ} {n k : ℕ} {d : Cursor} (at : ℕ) (dots : Bool) (g : ReadTo ks fs r₀ s₀ m₀ r s m (if dots then spread at else property at) n k d)
-    → Went ks at n k d (g .trees) 1
-part-went at true g = let w = went at 0 g refl in record { forward = w .forward; inside = w .inside; more = w .more; few = omega (arith, w); said = w .said; counted = w .counted }
-part-went at false g = went at 1 g refl

@@ -1,17 +1,15 @@
 -- `unary`, 13.5 and 13.4: prefix operators are skipped, the operand is read, an update may follow it, and the operators' rows are written.
 -- Assumes nothing.
-use Prim.Native.Nat.{ℕ, _+_, _-_, _*_, _≤_, _<_}
-use mathlib.Core.Path.{_≡_, refl, sym, ap, subst, _∙_}
+use Prim.Native.Nat.{ℕ, _+_, _*_, _≤_, _<_}
+use mathlib.Core.Path.{_≡_, refl, sym, ap, _∙_}
 use mathlib.Core.Bool.{Bool, true, false}
 use mathlib.Core.List.{List, _++_}
 use native.Mathlib.Omega.{arith}
 use lib.ListN.{length, getD}
-use Rattle.tokens.specs.Bool.{_or_}
 use Rattle.tokens.specs.declared.cause.Cause.{Cause}
-use Rattle.rows.specs.Tree.{Tree, Forest, one}
+use Rattle.rows.specs.Tree.{one}
 use Rattle.rows.specs.Post.{Grown}
-use Rattle.conversion.specs.Potential.{potentials}
-use Rattle.grammar.specs.Sheet.{done, first-tree}
+use Rattle.grammar.specs.Sheet.{Out}
 use Rattle.grammar.specs.Job.{unary, postfix, left-hand-side}
 use Rattle.grammar.specs.Update.{is-unary-operator, is-update-operator}
 use Rattle.laws.proofs.Owed.{owed, oweds}
@@ -20,10 +18,13 @@ use Rattle.build.specs.Operation.{is-prefix-operator, OperandFits, MetPostfix, 
 use Rattle.build.specs.declared.cursor.Cursor.{Cursor}
 use Rattle.build.specs.declared.cursor.Step.{Step}
 use Rattle.build.proofs.Rules.{postfix-fails, unary-none}
-use Rattle.build.proofs.Ends.{is-fail, moved, single}
+use Rattle.build.proofs.Ends.{is-fail, moved}
 use Rattle.build.proofs.Makes.{stands-now, made-over, unmade-past, unmade-over}
 use Rattle.build.proofs.Steps.Prefixes.{prefix-stands, all-fail}
 use Rattle.waiting.proofs.Root.{some-row}
+use Rattle.parse.proofs.Steps.Left.{owed-one}
+use Rattle.parse.proofs.Steps.Rest.{OneTo, one-to}
+use Rattle.parse.proofs.Steps.Singles.{neither}
 
 -- prefix operators stand from the first place up to here
 pub record Skipped (ks : List ℕ) (first at : ℕ) : Type 0 where
@@ -50,104 +51,73 @@ skips-one {ks} {first} {at} w k p q =
 pub skips-inside : {ks : List ℕ} {first at k : ℕ} {b : Bool} → Skipped ks first at → k ≡ getD ks at 0 → b ≡ is-prefix-operator k → b ≡ true → at < length ks
 skips-inside {ks} {at = at} w k p q = prefix-stands ks at (ap is-prefix-operator (sym k) ∙ sym p ∙ q)
 
-neither : (a b : Bool) → (a or b) ≡ false → (a ≡ false) × (b ≡ false)
-neither true b e = let z : _≡_ {A = ℕ} 0 1 = cc in absurd (omega arith)
-neither false b e = (refl, e)
-
-no-prefix : (ks : List ℕ) (at : ℕ) {k : ℕ} {b : Bool} → k ≡ getD ks at 0 → b ≡ is-prefix-operator k → b ≡ false
-    → (is-unary-operator (getD ks at 0) ≡ false) × (is-update-operator (getD ks at 0) ≡ false)
-no-prefix ks at kind p q = neither _ _ (ap is-prefix-operator (sym kind) ∙ sym p ∙ q)
-
-one-owes : (t : Tree) → oweds (one t) ≡ owed t
-unfolding potentials
-one-owes t = omega arith
-
 module _ {ks fs r₀ s₀ m₀ : List ℕ} {c : Cursor} {at k : ℕ} {b : Bool} (room : Room ks r₀ s₀ c) (w : Skipped ks (c .at) at) (kind : k ≡ getD ks at 0) (p : b ≡ is-prefix-operator k) (q : b ≡ false) where
+  no-prefix : {out : Out (List ℕ)} → Comes ks fs (postfix at) m₀ out → Comes ks fs (unary at) m₀ out
+  no-prefix h = let n = neither (is-unary-operator (getD ks at 0)) (is-update-operator (getD ks at 0)) (ap is-prefix-operator (sym kind) ∙ sym p ∙ q) in unary-none (n .0) (n .1) h
+
   pub unary-operand-fails : {r s m : List ℕ} {x : Step} {cause : Cause} → Met ks fs r₀ s₀ m₀ r s m (left-hand-side at) (c .rows) (c .records) x → x ≡ Step.Fail cause
       → Met ks fs r₀ s₀ m₀ r s m (unary (c .at)) (c .rows) (c .records) x
-  unary-operand-fails h e =
-      let f = h .fail-at _ e in
-      let n = no-prefix ks at kind p q in
-      is-fail e record { comes = all-fail (c .at) at (w .low) (w .operators) (unary-none (n .0) (n .1) (postfix-fails (f .comes))); unmade = f .unmade }
+  unary-operand-fails h e = let f = h .fail-at _ e in is-fail e record { comes = all-fail (c .at) at (w .low) (w .operators) (no-prefix (postfix-fails (f .comes))); unmade = f .unmade }
 
   module _ {r₁ s₁ m : List ℕ} {x : Step} {d : Cursor} (h : Met ks fs r₀ s₀ m₀ r₁ s₁ m (left-hand-side at) (c .rows) (c .records) x) (e : x ≡ Step.Done d) (l₁ : length r₁ ≡ length r₀)
       (l₂ : length s₁ ≡ length s₀) where
-    pub operand : Tree
-    operand = first-tree (h .done-to d e .trees)
+    pub got : OneTo ks fs r₀ s₀ m₀ r₁ s₁ m (left-hand-side at) (c .rows) (c .records) d (h .done-to d e .trees)
+    got = one-to at (h .done-to d e) refl
 
-    is-one : h .done-to d e .trees ≡ one operand
-    unfolding operand
-    is-one = single at (h .done-to d e) refl
+    stood : Grown r₁ (c .rows) r₁ (d .rows) (one (got .tree))
+    stood = stands-now (omega (arith, room)) (got .made .grown)
 
-    stood : Grown r₁ (c .rows) r₁ (d .rows) (one operand)
-    stood = subst (λ (ts : Forest). Grown r₁ (c .rows) r₁ (d .rows) ts) is-one (stands-now (omega (arith, room)) (h .done-to d e .made .grown))
-
-    owed-one : oweds (h .done-to d e .trees) ≡ owed operand
-    owed-one = ap oweds is-one ∙ one-owes operand
+    deep-now : 2 * (d .records + owed (got .tree)) ≤ length s₁
+    deep-now = let v = moved at (h .done-to d e) refl in omega (arith, v, room, w, l₂, ap oweds (got .alone), owed-one (got .tree))
 
     pub operand-fits : OperandFits ks r₁ s₁ d (c .rows)
     operand-fits =
-        let g = h .done-to d e in
-        let v = moved at g refl in
-        let o = owed-one in
+        let v = moved at (h .done-to d e) refl in
         record {
           short = room .short;
           wide = omega (arith, room, l₁);
           inside = v .inside;
           few = omega (arith, v, room, w);
           some = some-row stood;
-          operand = operand;
+          operand = got .tree;
           stands = stood;
-          deep = omega (arith, v, room, w, o, l₂);
+          deep = deep-now;
           records-small = omega (arith, v, room, w);
         }
-
-    deep-now : 2 * (d .records + owed operand) ≤ length s₁
-    unfolding operand-fits
-    deep-now = operand-fits .deep
 
     -- an update of what is no simple target
     pub unary-update-fails : {r s : List ℕ} {y : Step} {cause : Cause} → MetPostfix ks fs r₁ s₁ d at (c .rows) r s y → y ≡ Step.Fail cause
         → Met ks fs r₀ s₀ m₀ r s m (unary (c .at)) (c .rows) (c .records) y
-    unary-update-fails {r} {s} a u =
-        let g = h .done-to d e in
-        let f = a .fail-at _ u operand stood deep-now in
-        let n = no-prefix ks at kind p q in
-        let lhs = subst (λ (ts : Forest). Comes ks fs (left-hand-side at) m₀ (done (d .at) ts (g .records) m)) is-one (g .comes) in
+    unary-update-fails a u =
+        let f = a .fail-at _ u (got .tree) stood deep-now in
         is-fail u record {
-          comes = all-fail (c .at) at (w .low) (w .operators) (unary-none (n .0) (n .1) (f .comes lhs));
-          unmade = rw (f .rows-same, f .records-same) (unmade-past (omega (arith, room)) (omega (arith, room)) (g .made));
+          comes = all-fail (c .at) at (w .low) (w .operators) (no-prefix (f .comes (got .comes)));
+          unmade = rw (f .rows-same, f .records-same) (unmade-past (omega (arith, room)) (omega (arith, room)) (got .made));
         }
 
     module _ {r₂ s₂ : List ℕ} {y : Step} {v : Cursor} (a : MetPostfix ks fs r₁ s₁ d at (c .rows) r₂ s₂ y) (u : y ≡ Step.Done v) (k₁ : length r₂ ≡ length r₁) (k₂ : length s₂ ≡ length s₁) where
-      pub after : PostfixTo ks fs r₁ s₁ d at (c .rows) r₂ s₂ operand v
-      after = a .done-to v u operand stood deep-now
+      pub after : PostfixTo ks fs r₁ s₁ d at (c .rows) r₂ s₂ (got .tree) v
+      after = a .done-to v u (got .tree) stood deep-now
 
       -- the operand with its update, as a nonterminal that was read
       read : ReadTo ks fs r₀ s₀ m₀ r₂ s₂ m (postfix at) (c .rows) (c .records) v
       read =
-          let g = h .done-to d e in
-          let lhs = subst (λ (ts : Forest). Comes ks fs (left-hand-side at) m₀ (done (d .at) ts (g .records) m)) is-one (g .comes) in
           record {
             trees = one (after .tree);
-            records = g .records ++ after .records;
-            comes = after .comes lhs;
-            made = made-over (omega (arith, room)) (g .made) (after .made);
+            records = got .records ++ after .records;
+            comes = after .comes (got .comes);
+            made = made-over (omega (arith, room)) (got .made) (after .made);
           }
 
-      owes-after : oweds (one (after .tree)) ≡ owed (after .tree)
-      owes-after = one-owes (after .tree)
-
-      pub known : Before ks fs r₂ s₂ v at (c .rows) m₀ m (h .done-to d e .records ++ after .records)
+      pub known : Before ks fs r₂ s₂ v at (c .rows) m₀ m (got .records ++ after .records)
       unfolding read
       known =
-          let n = no-prefix ks at kind p q in
           let mv = moved at read refl in
           record {
             left = after .tree;
             stands = stands-now (omega (arith, room)) (read .made .grown);
-            deep = omega (arith, mv, room, w, owes-after, l₂, k₂);
-            comes = unary-none (n .0) (n .1) (read .comes);
+            deep = omega (arith, mv, room, w, owed-one (after .tree), l₂, k₂);
+            comes = no-prefix (read .comes);
           }
 
       pub prefixes-fit : PrefixFits ks r₂ s₂ v (c .at) at (c .rows)
@@ -164,7 +134,7 @@ module _ {ks fs r₀ s₀ m₀ : List ℕ} {c : Cursor} {at k : ℕ} {b : Bool} 
             operand = after .tree;
             stands = stands-now (omega (arith, room)) (read .made .grown);
             deep = known .deep;
-            records-small = omega (arith, mv, room, w, owes-after);
+            records-small = omega (arith, mv, room, w, owed-one (after .tree));
             operators = w .operators;
           }
 
@@ -174,7 +144,7 @@ module _ {ks fs r₀ s₀ m₀ : List ℕ} {c : Cursor} {at k : ℕ} {b : Bool} 
           record {
             done-to = λ t j.
                 let o = f .done-to t j fs m₀ m _ known in
-                record { trees = one (o .tree); records = (h .done-to d e .records ++ after .records) ++ o .records; comes = o .comes; made = made-over (omega (arith, room)) (read .made) (o .made) };
+                record { trees = one (o .tree); records = (got .records ++ after .records) ++ o .records; comes = o .comes; made = made-over (omega (arith, room)) (read .made) (o .made) };
             fail-at = λ cause j.
                 let o = f .fail-at cause j fs m₀ m _ known in
                 record { comes = o .comes; unmade = unmade-over (omega (arith, room)) (omega (arith, room)) (read .made) (o .unmade) };

@@ -1,13 +1,17 @@
--- `parse::object` meets its contract, at the measure t. The loop's invariant is `ObjectSoFar`.
+-- `parse::object` meets its contract, at the measure t. What holds at each turn of its loop is `SoFar`.
 -- Made from answers/object.ans by tools/fill.py. Assumes nothing.
-use Prim.Native.Nat.{ℕ, _-_}
+use Prim.Native.Nat.{ℕ, _+_, _-_}
 use mathlib.Core.Path.{refl, sym, _∙_}
 use native.Mathlib.Omega.{arith}
 use lib.ListN.{length}
 use borrow.Author.Needs.{needs}
-use Rattle.build.specs.Post.{cursor}
+use borrow.Author.Tests.{ne-eqb}
 use Rattle.tokens.proofs.Stands.{stands}
-use Rattle.parse.proofs.Steps.Object.{ObjectSoFar, object-moves, object-starts, object-ends, object-fails, object-opens, object-closes, object-turns, object-rests}
+use Rattle.rows.specs.Tree.{nil}
+use Rattle.rows.specs.Row as Row
+use Rattle.grammar.specs.Job as Job
+use Rattle.build.proofs.Ends.{is-fail}
+use Rattle.parse.proofs.Steps.Listing.{SoFar, starts, ends, refuses, moves, opens, closes, turns, topped, properties-list}
 use Rattle.parse.proofs.+args+array+assign+barray+binding+bobject+bproperty+comma+element+head+init+inside+item+key+last+left+object+params+part+primary+property+rest+spread+start+unary.Lts-object as lts
 use Rattle.parse.proofs.+args+array+assign+barray+binding+bobject+bproperty+comma+element+head+init+inside+item+key+last+left+object+params+part+primary+property+rest+spread+start+unary.Proof.Measures.{object-at, part-below}
 use Rattle.build.proofs.cursor.over.Reads as over
@@ -16,7 +20,7 @@ use Rattle.parse.proofs.part.Reads as part
 use Rattle.tokens.proofs.kind_at.Reads as kind-at
 
 abbrev Inv-loop : lts.InvT-loop
-Inv-loop kinds flags rows₀ records₀ notes₀ at made said c₀ kids₀ kind₀ rows records notes c kids kind = ObjectSoFar kinds flags rows₀ records₀ notes₀ (cursor at made said) rows records notes c kids kind
+Inv-loop kinds flags rows₀ records₀ notes₀ at made said c₀ kids₀ kind₀ rows records notes c kids kind = SoFar (properties-list kinds flags at) rows₀ records₀ notes₀ (Job.properties at (at + 1) Row.Object nil) made c₀ rows records notes c kids kind
 
 abbrev μ-loop : lts.MeasureT-loop
 μ-loop kinds flags rows₀ records₀ notes₀ at made said c₀ kids₀ kind₀ rows records notes c kids kind = length kinds - c .at
@@ -29,7 +33,7 @@ module _ (t : ℕ) where
   add-t19 c = omega (arith, c .before .before .before .before .pre)
 
   loop-holds : lts.Need-loop-holds K (object-at t) object.Post Inv-loop μ-loop
-  loop-holds c = object-starts (c .before .before .before .before .pre .1 .0) (c .before .before .before .before .pre .1 .1)
+  loop-holds c = starts (properties-list (c .before .before .before .before .args .kinds .now) (c .before .before .before .before .args .flags .now) (c .before .before .before .before .args .at)) (omega (arith, c .before .before .before .before .pre)) (omega (arith, c .before .before .before .before .pre)) (omega (arith, c .before .before .before .before .pre))
 
   kind-at-requires : lts.Need-kind-at-requires K (object-at t) object.Post Inv-loop μ-loop
   kind-at-requires c κs = search needs
@@ -59,40 +63,40 @@ module _ (t : ℕ) where
   same-length-2 c = omega (arith, c .before .before .before .before .before .before .before .before .before .before .before .before .loop .inv, c .before .before .before .before .before .before .before .before .before .before .before .before .before .before .before .before .before .pre, c .before .before .before .before .before .before .part .kept)
 
   returns : lts.Need-returns K (object-at t) object.Post Inv-loop μ-loop
-  returns c = object-fails (c .before .before .before .before .before .before .before .before .before .before .before .before .loop .inv) (c .before .before .before .before .before .before .before .before .before .before .before .kind-at .ensures) (c .before .before .before .before .before .before .before .before .before .before .if1 .left) (c .before .before .before .before .before .before .part .ensures) (c .before .before .before .before .before .before .before .before .before .before .before .before .before .before .before .before .before .pre .1 .0) (c .enum-told .given .1)
+  returns c = is-fail (c .enum-told .given .1) (refuses (c .before .before .before .before .before .before .before .before .before .before .before .before .loop .inv) (c .before .before .before .before .before .before .before .before .before .before .before .kind-at .ensures) (c .before .before .before .before .before .before .before .before .before .before .if1 .left) (c .before .before .before .before .before .before .part .ensures) (c .enum-told .given .1))
 
   kind-at-requires-2 : lts.Need-kind-at-requires-2 K (object-at t) object.Post Inv-loop μ-loop
   kind-at-requires-2 c κs = search needs
 
   add-over-2 : lts.Need-add-over-2 K (object-at t) object.Post Inv-loop μ-loop
-  add-over-2 c = omega (arith, c .before .before .before .before .before .before .before .before .before .before .before .before .before .before .before .before .loop .inv, c .before .before .before .before .before .before .before .before .before .before .before .before .before .before .before .before .before .before .before .before .before .pre, c .before .before .before .before .before .before .before .before .before .before .part .kept, object-moves (c .before .before .before .before .before .before .before .before .before .before .before .before .before .before .before .before .loop .inv) (c .before .before .before .before .before .before .before .before .before .before .part .ensures) (c .before .before .before .before .got .given .1), stands (c .before .before .before .before .before .before .before .before .before .before .before .before .before .before .before .before .before .before .before .before .before .args .kinds .now) (sym (c .before .before .kind-at2 .ensures) ∙ c .before .if2 .taken))
+  add-over-2 c = omega (arith, c .before .before .before .before .before .before .before .before .before .before .before .before .before .before .before .before .loop .inv, c .before .before .before .before .before .before .before .before .before .before .before .before .before .before .before .before .before .before .before .before .before .pre, c .before .before .before .before .before .before .before .before .before .before .part .kept, moves (c .before .before .before .before .before .before .before .before .before .before .before .before .before .before .before .before .loop .inv) (c .before .before .before .before .before .before .before .before .before .before .before .before .before .before .before .kind-at .ensures) (c .before .before .before .before .before .before .before .before .before .before .before .before .before .before .if1 .left) (c .before .before .before .before .before .before .before .before .before .before .part .ensures) (c .before .before .before .before .got .given .1), stands (c .before .before .before .before .before .before .before .before .before .before .before .before .before .before .before .before .before .before .before .before .before .args .kinds .now) (sym (c .before .before .kind-at2 .ensures) ∙ c .before .if2 .taken))
 
   over-requires-2 : lts.Need-over-requires-2 K (object-at t) object.Post Inv-loop μ-loop
-  over-requires-2 c κs = omega (arith, c .before .before .before .before .before .before .before .before .before .before .before .before .before .before .before .before .loop .inv, c .before .before .before .before .before .before .before .before .before .before .before .before .before .before .before .before .before .before .before .before .before .pre, c .before .before .before .before .before .before .before .before .before .before .part .kept, object-moves (c .before .before .before .before .before .before .before .before .before .before .before .before .before .before .before .before .loop .inv) (c .before .before .before .before .before .before .before .before .before .before .part .ensures) (c .before .before .before .before .got .given .1), stands (c .before .before .before .before .before .before .before .before .before .before .before .before .before .before .before .before .before .before .before .before .before .args .kinds .now) (sym (c .before .before .kind-at2 .ensures) ∙ c .before .if2 .taken))
+  over-requires-2 c κs = omega (arith, c .before .before .before .before .before .before .before .before .before .before .before .before .before .before .before .before .loop .inv, c .before .before .before .before .before .before .before .before .before .before .before .before .before .before .before .before .before .before .before .before .before .pre, c .before .before .before .before .before .before .before .before .before .before .part .kept, moves (c .before .before .before .before .before .before .before .before .before .before .before .before .before .before .before .before .loop .inv) (c .before .before .before .before .before .before .before .before .before .before .before .before .before .before .before .kind-at .ensures) (c .before .before .before .before .before .before .before .before .before .before .before .before .before .before .if1 .left) (c .before .before .before .before .before .before .before .before .before .before .part .ensures) (c .before .before .before .before .got .given .1), stands (c .before .before .before .before .before .before .before .before .before .before .before .before .before .before .before .before .before .before .before .before .before .args .kinds .now) (sym (c .before .before .kind-at2 .ensures) ∙ c .before .if2 .taken))
 
   same-length-3 : lts.Need-same-length-3 K (object-at t) object.Post Inv-loop μ-loop
-  same-length-3 c = omega (arith, c .before .before .before .before .before .before .before .before .before .before .before .before .before .before .before .before .loop .inv, c .before .before .before .before .before .before .before .before .before .before .before .before .before .before .before .before .before .before .before .before .before .pre, c .before .before .before .before .before .before .before .before .before .before .part .kept, object-moves (c .before .before .before .before .before .before .before .before .before .before .before .before .before .before .before .before .loop .inv) (c .before .before .before .before .before .before .before .before .before .before .part .ensures) (c .before .before .before .before .got .given .1))
+  same-length-3 c = omega (arith, c .before .before .before .before .before .before .before .before .before .before .before .before .before .before .before .before .loop .inv, c .before .before .before .before .before .before .before .before .before .before .before .before .before .before .before .before .before .before .before .before .before .pre, c .before .before .before .before .before .before .before .before .before .before .part .kept, moves (c .before .before .before .before .before .before .before .before .before .before .before .before .before .before .before .before .loop .inv) (c .before .before .before .before .before .before .before .before .before .before .before .before .before .before .before .kind-at .ensures) (c .before .before .before .before .before .before .before .before .before .before .before .before .before .before .if1 .left) (c .before .before .before .before .before .before .before .before .before .before .part .ensures) (c .before .before .before .before .got .given .1))
 
   same-length-4 : lts.Need-same-length-4 K (object-at t) object.Post Inv-loop μ-loop
-  same-length-4 c = omega (arith, c .before .before .before .before .before .before .before .before .before .before .before .before .before .before .before .before .loop .inv, c .before .before .before .before .before .before .before .before .before .before .before .before .before .before .before .before .before .before .before .before .before .pre, c .before .before .before .before .before .before .before .before .before .before .part .kept, object-moves (c .before .before .before .before .before .before .before .before .before .before .before .before .before .before .before .before .loop .inv) (c .before .before .before .before .before .before .before .before .before .before .part .ensures) (c .before .before .before .before .got .given .1))
+  same-length-4 c = omega (arith, c .before .before .before .before .before .before .before .before .before .before .before .before .before .before .before .before .loop .inv, c .before .before .before .before .before .before .before .before .before .before .before .before .before .before .before .before .before .before .before .before .before .pre, c .before .before .before .before .before .before .before .before .before .before .part .kept, moves (c .before .before .before .before .before .before .before .before .before .before .before .before .before .before .before .before .loop .inv) (c .before .before .before .before .before .before .before .before .before .before .before .before .before .before .before .kind-at .ensures) (c .before .before .before .before .before .before .before .before .before .before .before .before .before .before .if1 .left) (c .before .before .before .before .before .before .before .before .before .before .part .ensures) (c .before .before .before .before .got .given .1))
 
   returns-2 : lts.Need-returns-2 K (object-at t) object.Post Inv-loop μ-loop
-  returns-2 c = object-opens (c .before .before .before .before .before .before .before .before .before .before .before .before .before .before .before .before .loop .inv) (c .before .before .before .before .before .before .before .before .before .before .before .before .before .before .before .kind-at .ensures) (c .before .before .before .before .before .before .before .before .before .before .before .before .before .before .if1 .left) (c .before .before .before .before .before .before .before .before .before .before .part .ensures) (c .before .before .before .before .got .given .1) (c .before .before .kind-at2 .ensures) (c .before .before .before .before .before .before .before .before .before .before .before .before .before .before .before .before .before .before .before .before .before .pre .1 .0) (c .before .if2 .left) (c .if3 .taken)
+  returns-2 c = is-fail refl (opens (c .before .before .before .before .before .before .before .before .before .before .before .before .before .before .before .before .loop .inv) (c .before .before .before .before .before .before .before .before .before .before .before .before .before .before .before .kind-at .ensures) (c .before .before .before .before .before .before .before .before .before .before .before .before .before .before .if1 .left) (c .before .before .before .before .before .before .before .before .before .before .part .ensures) (c .before .before .before .before .got .given .1) (c .before .before .kind-at2 .ensures) (c .before .if2 .left) (c .if3 .taken))
 
   add-c : lts.Need-add-c K (object-at t) object.Post Inv-loop μ-loop
-  add-c c = omega (arith, c .before .before .before .before .before .before .before .before .before .before .before .before .before .before .before .before .loop .inv, c .before .before .before .before .before .before .before .before .before .before .before .before .before .before .before .before .before .before .before .before .before .pre, c .before .before .before .before .before .before .before .before .before .before .part .kept, object-moves (c .before .before .before .before .before .before .before .before .before .before .before .before .before .before .before .before .loop .inv) (c .before .before .before .before .before .before .before .before .before .before .part .ensures) (c .before .before .before .before .got .given .1))
+  add-c c = omega (arith, c .before .before .before .before .before .before .before .before .before .before .before .before .before .before .before .before .loop .inv, c .before .before .before .before .before .before .before .before .before .before .before .before .before .before .before .before .before .before .before .before .before .pre, c .before .before .before .before .before .before .before .before .before .before .part .kept, moves (c .before .before .before .before .before .before .before .before .before .before .before .before .before .before .before .before .loop .inv) (c .before .before .before .before .before .before .before .before .before .before .before .before .before .before .before .kind-at .ensures) (c .before .before .before .before .before .before .before .before .before .before .before .before .before .before .if1 .left) (c .before .before .before .before .before .before .before .before .before .before .part .ensures) (c .before .before .before .before .got .given .1))
 
   loop-less : lts.Need-loop-less K (object-at t) object.Post Inv-loop μ-loop
-  loop-less c = omega (arith, c .before .before .before .before .before .before .before .before .before .before .before .before .before .before .before .before .before .loop .inv, c .before .before .before .before .before .before .before .before .before .before .before .before .before .before .before .before .before .before .before .before .before .before .pre, c .before .before .before .before .before .before .before .before .before .before .before .part .kept, object-moves (c .before .before .before .before .before .before .before .before .before .before .before .before .before .before .before .before .before .loop .inv) (c .before .before .before .before .before .before .before .before .before .before .before .part .ensures) (c .before .before .before .before .before .got .given .1), stands (c .before .before .before .before .before .before .before .before .before .before .before .before .before .before .before .before .before .before .before .before .before .before .args .kinds .now) (sym (c .before .before .before .kind-at2 .ensures) ∙ c .before .if3 .left))
+  loop-less c = omega (arith, c .before .before .before .before .before .before .before .before .before .before .before .before .before .before .before .before .before .loop .inv, c .before .before .before .before .before .before .before .before .before .before .before .before .before .before .before .before .before .before .before .before .before .before .pre, c .before .before .before .before .before .before .before .before .before .before .before .part .kept, moves (c .before .before .before .before .before .before .before .before .before .before .before .before .before .before .before .before .before .loop .inv) (c .before .before .before .before .before .before .before .before .before .before .before .before .before .before .before .before .kind-at .ensures) (c .before .before .before .before .before .before .before .before .before .before .before .before .before .before .before .if1 .left) (c .before .before .before .before .before .before .before .before .before .before .before .part .ensures) (c .before .before .before .before .before .got .given .1), stands (c .before .before .before .before .before .before .before .before .before .before .before .before .before .before .before .before .before .before .before .before .before .before .args .kinds .now) (sym (c .before .before .before .kind-at2 .ensures) ∙ c .before .if3 .left))
 
   loop-again : lts.Need-loop-again K (object-at t) object.Post Inv-loop μ-loop
-  loop-again c = object-rests (c .before .before .before .before .before .before .before .before .before .before .before .before .before .before .before .before .before .loop .inv) (c .before .before .before .before .before .before .before .before .before .before .before .before .before .before .before .before .kind-at .ensures) (c .before .before .before .before .before .before .before .before .before .before .before .before .before .before .before .if1 .left) (c .before .before .before .before .before .before .before .before .before .before .before .part .ensures) (c .before .before .before .before .before .got .given .1) (c .before .before .before .kind-at2 .ensures) (c .before .if3 .left) (c .if4 .taken) (c .before .before .before .before .before .before .before .before .before .before .before .part .kept .1 .1 .0) (c .before .before .before .before .before .before .before .before .before .before .before .part .kept .1 .1 .1 .0)
+  loop-again c = turns (c .before .before .before .before .before .before .before .before .before .before .before .before .before .before .before .before .before .loop .inv) (c .before .before .before .before .before .before .before .before .before .before .before .before .before .before .before .before .kind-at .ensures) (c .before .before .before .before .before .before .before .before .before .before .before .before .before .before .before .if1 .left) (c .before .before .before .before .before .before .before .before .before .before .before .part .ensures) (c .before .before .before .before .before .got .given .1) (c .before .before .before .kind-at2 .ensures) (c .before .if3 .left) (rw (sym (c .before .before .before .before .before .before .before .before .before .before .before .before .before .before .before .before .kind-at .ensures) ∙ c .if4 .taken)) (c .before .before .before .before .before .before .before .before .before .before .before .part .kept .1 .1 .0) (c .before .before .before .before .before .before .before .before .before .before .before .part .kept .1 .1 .1 .0)
 
   loop-less-2 : lts.Need-loop-less-2 K (object-at t) object.Post Inv-loop μ-loop
-  loop-less-2 c = omega (arith, c .before .before .before .before .before .before .before .before .before .before .before .before .before .before .before .before .before .loop .inv, c .before .before .before .before .before .before .before .before .before .before .before .before .before .before .before .before .before .before .before .before .before .before .pre, c .before .before .before .before .before .before .before .before .before .before .before .part .kept, object-moves (c .before .before .before .before .before .before .before .before .before .before .before .before .before .before .before .before .before .loop .inv) (c .before .before .before .before .before .before .before .before .before .before .before .part .ensures) (c .before .before .before .before .before .got .given .1), stands (c .before .before .before .before .before .before .before .before .before .before .before .before .before .before .before .before .before .before .before .before .before .before .args .kinds .now) (sym (c .before .before .before .kind-at2 .ensures) ∙ c .before .if3 .left))
+  loop-less-2 c = omega (arith, c .before .before .before .before .before .before .before .before .before .before .before .before .before .before .before .before .before .loop .inv, c .before .before .before .before .before .before .before .before .before .before .before .before .before .before .before .before .before .before .before .before .before .before .pre, c .before .before .before .before .before .before .before .before .before .before .before .part .kept, moves (c .before .before .before .before .before .before .before .before .before .before .before .before .before .before .before .before .before .loop .inv) (c .before .before .before .before .before .before .before .before .before .before .before .before .before .before .before .before .kind-at .ensures) (c .before .before .before .before .before .before .before .before .before .before .before .before .before .before .before .if1 .left) (c .before .before .before .before .before .before .before .before .before .before .before .part .ensures) (c .before .before .before .before .before .got .given .1), stands (c .before .before .before .before .before .before .before .before .before .before .before .before .before .before .before .before .before .before .before .before .before .before .args .kinds .now) (sym (c .before .before .before .kind-at2 .ensures) ∙ c .before .if3 .left))
 
   loop-again-2 : lts.Need-loop-again-2 K (object-at t) object.Post Inv-loop μ-loop
-  loop-again-2 c = object-turns (c .before .before .before .before .before .before .before .before .before .before .before .before .before .before .before .before .before .loop .inv) (c .before .before .before .before .before .before .before .before .before .before .before .before .before .before .before .before .kind-at .ensures) (c .before .before .before .before .before .before .before .before .before .before .before .before .before .before .before .if1 .left) (c .before .before .before .before .before .before .before .before .before .before .before .part .ensures) (c .before .before .before .before .before .got .given .1) (c .before .before .before .kind-at2 .ensures) (c .before .if3 .left) (c .if4 .left) (c .before .before .before .before .before .before .before .before .before .before .before .part .kept .1 .1 .0) (c .before .before .before .before .before .before .before .before .before .before .before .part .kept .1 .1 .1 .0)
+  loop-again-2 c = turns (c .before .before .before .before .before .before .before .before .before .before .before .before .before .before .before .before .before .loop .inv) (c .before .before .before .before .before .before .before .before .before .before .before .before .before .before .before .before .kind-at .ensures) (c .before .before .before .before .before .before .before .before .before .before .before .before .before .before .before .if1 .left) (c .before .before .before .before .before .before .before .before .before .before .before .part .ensures) (c .before .before .before .before .before .got .given .1) (c .before .before .before .kind-at2 .ensures) (c .before .if3 .left) (rw (ne-eqb _ _ (λ q. c .if4 .left (c .before .before .before .before .before .before .before .before .before .before .before .before .before .before .before .before .kind-at .ensures ∙ q)))) (c .before .before .before .before .before .before .before .before .before .before .before .part .kept .1 .1 .0) (c .before .before .before .before .before .before .before .before .before .before .before .part .kept .1 .1 .1 .0)
 
   same-length-5 : lts.Need-same-length-5 K (object-at t) object.Post Inv-loop μ-loop
   same-length-5 c = omega (arith, c .before .before .before .before .before .before .loop .inv, c .before .before .before .before .before .before .before .before .before .before .before .pre, c .before .before .over .kept, stands (c .before .before .before .before .before .before .before .before .before .before .before .args .kinds .now) (sym (c .before .before .before .before .before .kind-at .ensures) ∙ c .before .before .before .before .if1 .taken))
@@ -101,16 +105,16 @@ module _ (t : ℕ) where
   same-length-6 c = omega (arith, c .before .before .before .before .before .before .loop .inv, c .before .before .before .before .before .before .before .before .before .before .before .pre, c .before .before .over .kept, stands (c .before .before .before .before .before .before .before .before .before .before .before .args .kinds .now) (sym (c .before .before .before .before .before .kind-at .ensures) ∙ c .before .before .before .before .if1 .taken))
 
   returns-3 : lts.Need-returns-3 K (object-at t) object.Post Inv-loop μ-loop
-  returns-3 c = object-ends (c .before .before .before .before .before .before .loop .inv) (c .before .before .before .before .before .kind-at .ensures) (c .before .before .before .before .if1 .taken) (c .before .before .over .ensures)
+  returns-3 c = topped (ends (c .before .before .before .before .before .before .loop .inv) (c .before .before .before .before .before .kind-at .ensures) (c .before .before .before .before .if1 .taken)) (c .before .before .over .ensures)
 
   same-length-7 : lts.Need-same-length-7 K (object-at t) object.Post Inv-loop μ-loop
-  same-length-7 c = omega (arith, c .before .before .before .before .before .before .before .before .before .before .before .before .before .before .before .before .before .before .before .loop .inv, c .before .before .before .before .before .before .before .before .before .before .before .before .before .before .before .before .before .before .before .before .before .before .before .before .pre, c .before .before .over2 .kept, c .before .before .before .before .before .before .before .before .before .before .before .before .before .part .kept, object-moves (c .before .before .before .before .before .before .before .before .before .before .before .before .before .before .before .before .before .before .before .loop .inv) (c .before .before .before .before .before .before .before .before .before .before .before .before .before .part .ensures) (c .before .before .before .before .before .before .before .got .given .1), stands (c .before .before .before .before .before .before .before .before .before .before .before .before .before .before .before .before .before .before .before .before .before .before .before .before .args .kinds .now) (sym (c .before .before .before .before .before .kind-at2 .ensures) ∙ c .before .before .before .before .if2 .taken))
+  same-length-7 c = omega (arith, c .before .before .before .before .before .before .before .before .before .before .before .before .before .before .before .before .before .before .before .loop .inv, c .before .before .before .before .before .before .before .before .before .before .before .before .before .before .before .before .before .before .before .before .before .before .before .before .pre, c .before .before .over2 .kept, c .before .before .before .before .before .before .before .before .before .before .before .before .before .part .kept, moves (c .before .before .before .before .before .before .before .before .before .before .before .before .before .before .before .before .before .before .before .loop .inv) (c .before .before .before .before .before .before .before .before .before .before .before .before .before .before .before .before .before .before .kind-at .ensures) (c .before .before .before .before .before .before .before .before .before .before .before .before .before .before .before .before .before .if1 .left) (c .before .before .before .before .before .before .before .before .before .before .before .before .before .part .ensures) (c .before .before .before .before .before .before .before .got .given .1), stands (c .before .before .before .before .before .before .before .before .before .before .before .before .before .before .before .before .before .before .before .before .before .before .before .before .args .kinds .now) (sym (c .before .before .before .before .before .kind-at2 .ensures) ∙ c .before .before .before .before .if2 .taken))
 
   same-length-8 : lts.Need-same-length-8 K (object-at t) object.Post Inv-loop μ-loop
-  same-length-8 c = omega (arith, c .before .before .before .before .before .before .before .before .before .before .before .before .before .before .before .before .before .before .before .loop .inv, c .before .before .before .before .before .before .before .before .before .before .before .before .before .before .before .before .before .before .before .before .before .before .before .before .pre, c .before .before .over2 .kept, c .before .before .before .before .before .before .before .before .before .before .before .before .before .part .kept, object-moves (c .before .before .before .before .before .before .before .before .before .before .before .before .before .before .before .before .before .before .before .loop .inv) (c .before .before .before .before .before .before .before .before .before .before .before .before .before .part .ensures) (c .before .before .before .before .before .before .before .got .given .1), stands (c .before .before .before .before .before .before .before .before .before .before .before .before .before .before .before .before .before .before .before .before .before .before .before .before .args .kinds .now) (sym (c .before .before .before .before .before .kind-at2 .ensures) ∙ c .before .before .before .before .if2 .taken))
+  same-length-8 c = omega (arith, c .before .before .before .before .before .before .before .before .before .before .before .before .before .before .before .before .before .before .before .loop .inv, c .before .before .before .before .before .before .before .before .before .before .before .before .before .before .before .before .before .before .before .before .before .before .before .before .pre, c .before .before .over2 .kept, c .before .before .before .before .before .before .before .before .before .before .before .before .before .part .kept, moves (c .before .before .before .before .before .before .before .before .before .before .before .before .before .before .before .before .before .before .before .loop .inv) (c .before .before .before .before .before .before .before .before .before .before .before .before .before .before .before .before .before .before .kind-at .ensures) (c .before .before .before .before .before .before .before .before .before .before .before .before .before .before .before .before .before .if1 .left) (c .before .before .before .before .before .before .before .before .before .before .before .before .before .part .ensures) (c .before .before .before .before .before .before .before .got .given .1), stands (c .before .before .before .before .before .before .before .before .before .before .before .before .before .before .before .before .before .before .before .before .before .before .before .before .args .kinds .now) (sym (c .before .before .before .before .before .kind-at2 .ensures) ∙ c .before .before .before .before .if2 .taken))
 
   returns-4 : lts.Need-returns-4 K (object-at t) object.Post Inv-loop μ-loop
-  returns-4 c = object-closes (c .before .before .before .before .before .before .before .before .before .before .before .before .before .before .before .before .before .before .before .loop .inv) (c .before .before .before .before .before .before .before .before .before .before .before .before .before .before .before .before .before .before .kind-at .ensures) (c .before .before .before .before .before .before .before .before .before .before .before .before .before .before .before .before .before .if1 .left) (c .before .before .before .before .before .before .before .before .before .before .before .before .before .part .ensures) (c .before .before .before .before .before .before .before .got .given .1) (c .before .before .before .before .before .kind-at2 .ensures) (c .before .before .before .before .if2 .taken) (c .before .before .over2 .ensures)
+  returns-4 c = topped (closes (c .before .before .before .before .before .before .before .before .before .before .before .before .before .before .before .before .before .before .before .loop .inv) (c .before .before .before .before .before .before .before .before .before .before .before .before .before .before .before .before .before .before .kind-at .ensures) (c .before .before .before .before .before .before .before .before .before .before .before .before .before .before .before .before .before .if1 .left) (c .before .before .before .before .before .before .before .before .before .before .before .before .before .part .ensures) (c .before .before .before .before .before .before .before .got .given .1) (c .before .before .before .before .before .kind-at2 .ensures) (c .before .before .before .before .if2 .taken)) (c .before .before .over2 .ensures)
 
   pub object-closed : {M : Type 1} → lts.Closed K (object-at t) object.Post M
   object-closed = lts.spec K (object-at t) object.Post Inv-loop μ-loop add-t19 loop-holds kind-at-requires add-over over-requires add-kids part-requires enum-known-got enum-told same-length same-length-2 returns kind-at-requires-2 add-over-2 over-requires-2 same-length-3 same-length-4 returns-2 add-c loop-less loop-again loop-less-2 loop-again-2 same-length-5 same-length-6 returns-3 same-length-7 same-length-8 returns-4
