@@ -28,8 +28,8 @@ use waiting::Next;
 use waiting::Spot;
 use waiting::Start;
 
-// 13.16 Expression: one part, or a Sequence of them.
-pub fn comma(
+// 13.16 Expression: one part, or a Sequence of them. Stands for `parse_expr`.
+pub fn expression(
     kinds: &[u8],
     flags: &[u8],
     rows: &mut [u32],
@@ -69,6 +69,7 @@ pub fn comma(
 }
 
 // 13.15 AssignmentExpression: one token by itself; or parts and operands, one after the other, while what still lacks its last part waits.
+// Stands for `parse_assignment_expression_or_higher`.
 fn assign(
     kinds: &[u8],
     flags: &[u8],
@@ -117,6 +118,7 @@ fn assign(
 }
 
 // Where a part starts, a head that is tried or read for good, or Async and a name before `=>`; else, and where an operand starts, an operand.
+// Follows `try_parse_parenthesized_arrow_function_expression` and `try_parse_async_simple_arrow_function_expression`.
 fn start(
     kinds: &[u8],
     flags: &[u8],
@@ -165,7 +167,7 @@ fn start(
     }
 }
 
-// A head up to its `=>`: optional Async with no break after it, and parameters in parentheses.
+// A head up to its `=>`: optional Async with no break after it, and parameters in parentheses. Follows `parse_parenthesized_arrow_function_head`.
 fn head(
     kinds: &[u8],
     flags: &[u8],
@@ -189,7 +191,7 @@ fn head(
     if tokens::kind_at(kinds, open) != kind::L_PAREN {
         return Listed::Fail(Cause::Unexpected(open));
     }
-    let got = params(kinds, flags, rows, records, notes, open + 1, made, said);
+    let got = parameters(kinds, flags, rows, records, notes, open + 1, made, said);
     let Listed::Done(d, kids) = got else {
         return got
     };
@@ -201,7 +203,8 @@ fn head(
 }
 
 // 15.1 FormalParameters: bindings with optional defaults, one trailing comma unless a rest is last, up to past the `)`.
-fn params(
+// Stands for `parse_formal_parameters`.
+fn parameters(
     kinds: &[u8],
     flags: &[u8],
     rows: &mut [u32],
@@ -238,7 +241,7 @@ fn params(
                 Step::Done(d) => break d,
             }
         }
-        let got = element(kinds, flags, rows, records, notes, c.at, c.rows, c.records);
+        let got = binding_element(kinds, flags, rows, records, notes, c.at, c.rows, c.records);
         match got {
             Step::Fail(cause) => return Listed::Fail(cause),
             Step::Done(d) => c = d,
@@ -322,7 +325,7 @@ fn left(
                 c = over(rows, d, row::INDEX, at, at, d.at, 2, made);
             }
             kind::L_PAREN => {
-                let call = args(kinds, flags, rows, records, notes, place, n, used, at, made);
+                let call = arguments(kinds, flags, rows, records, notes, place, n, used, at, made);
                 let Step::Done(d) = call else { return call };
                 c = d;
             }
@@ -334,7 +337,7 @@ fn left(
 }
 
 // 13.3: a Call, from its `(` on.
-fn args(
+fn arguments(
     kinds: &[u8],
     flags: &[u8],
     rows: &mut [u32],
@@ -399,7 +402,7 @@ fn inside(
     requires { ⌜ at < length (now kinds) ⌝ }
     ensures { λ x. ⌜ MetClosed (now (kinds .entry)) (now (flags .entry)) (now (rows .entry)) (now (records .entry)) (now (notes .entry)) (now (rows .exit)) (now (records .exit)) (now (notes .exit)) (Job.expression (at + 1)) close Cause.Unexpected made said x ⌝ }
 {
-    let got = comma(kinds, flags, rows, records, notes, at + 1, made, said);
+    let got = expression(kinds, flags, rows, records, notes, at + 1, made, said);
     let Step::Done(d) = got else { return got };
     let end = d.at;
     if tokens::kind_at(kinds, end) != close {
@@ -467,7 +470,7 @@ fn item(
     Step::Done(over(rows, d, row::SPREAD, at, at, d.at, 1, made))
 }
 
-// 13.2.4 SpreadElement.
+// 13.2.4 SpreadElement. Follows `parse_spread_element`.
 fn spread(
     kinds: &[u8],
     flags: &[u8],
@@ -545,7 +548,7 @@ fn array(
     Step::Done(read)
 }
 
-// 13.2.5 ObjectLiteral: properties up to the `}`.
+// 13.2.5 ObjectLiteral: properties up to the `}`. Follows `parse_object_expression`, with the loop of `parse_delimited_list`.
 fn object(
     kinds: &[u8],
     flags: &[u8],
@@ -594,7 +597,7 @@ fn object(
     Step::Done(read)
 }
 
-// A part of an object literal: a spread or a property.
+// A part of an object literal: a spread or a property. Follows `parse_object_expression_property`.
 fn part(
     kinds: &[u8],
     flags: &[u8],
@@ -615,7 +618,7 @@ fn part(
     property(kinds, flags, rows, records, notes, at, made, said)
 }
 
-// 13.2.5 PropertyDefinition: a shorthand, or a key with its value.
+// 13.2.5 PropertyDefinition: a shorthand, or a key with its value. Follows `parse_object_literal_element`.
 fn property(
     kinds: &[u8],
     flags: &[u8],
@@ -665,7 +668,8 @@ fn property(
 }
 
 // A name's initializer, from its `=` on: the name's row stands at `from`, and its token just before.
-fn init(
+// Follows `parse_initializer` and a part of `parse_object_literal_element`.
+fn initializer(
     kinds: &[u8],
     flags: &[u8],
     rows: &mut [u32],
@@ -692,6 +696,7 @@ fn init(
 }
 
 // 13.2.5 PropertyName: a word, a string, a number, or `[` an AssignmentExpression `]`.
+// Follows `parse_property_name` and `parse_computed_property_name`.
 fn key(
     kinds: &[u8],
     flags: &[u8],
@@ -721,7 +726,7 @@ fn key(
     Step::Done(over(rows, d, row::COMPUTED_KEY, at, at, end + 1, 1, made))
 }
 
-// 14.3.3 BindingPattern, or a BindingIdentifier.
+// 14.3.3 BindingPattern, or a BindingIdentifier. Follows `parse_binding_pattern` and `parse_binding_pattern_identifier`.
 fn binding(
     kinds: &[u8],
     flags: &[u8],
@@ -740,14 +745,14 @@ fn binding(
         return Step::Done(leaf(rows, at, made, said, row::BINDING_NAME));
     }
     match k {
-        kind::L_BRACK => barray(kinds, flags, rows, records, notes, at, made, said),
-        kind::L_CURLY => bobject(kinds, flags, rows, records, notes, at, made, said),
+        kind::L_BRACK => binding_array(kinds, flags, rows, records, notes, at, made, said),
+        kind::L_CURLY => binding_object(kinds, flags, rows, records, notes, at, made, said),
         _ => Step::Fail(Cause::Unexpected(at)),
     }
 }
 
-// 14.3.3 BindingElement: a binding with an optional initializer.
-pub fn element(
+// 14.3.3 BindingElement: a binding with an optional initializer. Follows `parse_binding_pattern_with_initializer` and `parse_initializer`.
+pub fn binding_element(
     kinds: &[u8],
     flags: &[u8],
     rows: &mut [u32],
@@ -777,7 +782,7 @@ pub fn element(
     Step::Done(over(rows, e, row::BINDING_DEFAULT, mark, at, e.at, 2, made))
 }
 
-// 14.3.3 BindingRestElement: an initializer is record 2 at its `=`.
+// 14.3.3 BindingRestElement: an initializer is record 2 at its `=`. Follows `parse_rest_element` and `parse_rest_element_for_formal_parameter`.
 fn rest(
     kinds: &[u8],
     flags: &[u8],
@@ -792,7 +797,7 @@ fn rest(
     requires { ⌜ at < length (now kinds) ⌝ }
     ensures { λ x. ⌜ Met (now (kinds .entry)) (now (flags .entry)) (now (rows .entry)) (now (records .entry)) (now (notes .entry)) (now (rows .exit)) (now (records .exit)) (now (notes .exit)) (Job.binding-rest at) made said x ⌝ }
 {
-    let got = element(kinds, flags, rows, records, notes, at + 1, made, said);
+    let got = binding_element(kinds, flags, rows, records, notes, at + 1, made, said);
     let Step::Done(d) = got else { return got };
     let root = d.rows - 1;
     if rows::row_word(rows, root, 0) != row::BINDING_DEFAULT {
@@ -803,7 +808,7 @@ fn rest(
     Step::Done(over(rows, c, row::BINDING_REST, at, at, c.at, 1, made))
 }
 
-// A rest and its closing token, or 12.
+// A rest and its closing token, or 12. Stands for a part of `parse_delimited_list_with_rest`.
 fn last(
     kinds: &[u8],
     flags: &[u8],
@@ -833,7 +838,8 @@ fn last(
 }
 
 // 14.3.3 ArrayBindingPattern: elements, holes and a closing rest up to the `]`.
-fn barray(
+// Follows `parse_array_binding_pattern` and `parse_array_binding_element`, with the loop of `parse_delimited_list_with_rest`.
+fn binding_array(
     kinds: &[u8],
     flags: &[u8],
     rows: &mut [u32],
@@ -872,7 +878,7 @@ fn barray(
             let Step::Done(d) = got else { return got };
             break over(rows, d, row::BINDING_ARRAY, at, at, d.at, kids, made);
         }
-        let got = element(kinds, flags, rows, records, notes, c.at, c.rows, c.records);
+        let got = binding_element(kinds, flags, rows, records, notes, c.at, c.rows, c.records);
         let Step::Done(d) = got else { return got };
         let close = d.at;
         let next = tokens::kind_at(kinds, close);
@@ -889,7 +895,8 @@ fn barray(
 }
 
 // 14.3.3 ObjectBindingPattern: properties and a closing rest of a bare name, or 11, up to the `}`.
-fn bobject(
+// Follows `parse_object_binding_pattern`, with the loop of `parse_delimited_list_with_rest`.
+fn binding_object(
     kinds: &[u8],
     flags: &[u8],
     rows: &mut [u32],
@@ -927,7 +934,7 @@ fn bobject(
             }
             break over(rows, d, row::BINDING_OBJECT, at, at, d.at, kids, made);
         }
-        let got = bproperty(kinds, flags, rows, records, notes, c.at, c.rows, c.records);
+        let got = binding_property(kinds, flags, rows, records, notes, c.at, c.rows, c.records);
         let Step::Done(d) = got else { return got };
         let close = d.at;
         let next = tokens::kind_at(kinds, close);
@@ -943,8 +950,8 @@ fn bobject(
     Step::Done(read)
 }
 
-// 14.3.3 BindingProperty: a shorthand, or a key with its element.
-fn bproperty(
+// 14.3.3 BindingProperty: a shorthand, or a key with its element. Follows `parse_binding_property`.
+fn binding_property(
     kinds: &[u8],
     flags: &[u8],
     rows: &mut [u32],
@@ -963,7 +970,7 @@ fn bproperty(
         if tokens::kind_at(kinds, at + 1) != kind::EQ {
             return Step::Done(over(rows, d, row::BINDING_SHORTHAND, at, at, at + 1, 1, made));
         }
-        return init(
+        return initializer(
             kinds,
             flags,
             rows,
@@ -983,7 +990,7 @@ fn bproperty(
         return Step::Fail(Cause::Unexpected(colon));
     }
     let start = colon + 1;
-    let more = element(kinds, flags, rows, records, notes, start, d.rows, d.records);
+    let more = binding_element(kinds, flags, rows, records, notes, start, d.rows, d.records);
     let Step::Done(e) = more else { return more };
     Step::Done(over(rows, e, row::PROPERTY, at, at, e.at, 2, made))
 }
