@@ -10,7 +10,7 @@ use Rattle.tokens.specs.Bool.{_or_}
 use Rattle.tokens.specs.declared.cause.Cause.{Cause}
 use Rattle.rows.specs.Tree.{Tree, Forest, one}
 use Rattle.rows.specs.Post.{Grown}
-use Rattle.conversion.specs.Potential.{potentials}
+use Rattle.conversion.specs.Conversion.{potentials}
 use Rattle.grammar.specs.Sheet.{done, first-tree}
 use Rattle.grammar.specs.Job.{unary, postfix, left-hand-side}
 use Rattle.grammar.specs.Update.{is-unary-operator, is-update-operator}
