@@ -14,7 +14,7 @@ use Rattle.laws.specs.Settles.{μ, looked-at}
 use Rattle.laws.proofs.Bounds.{limits, Bound, bounded-at}
 use Rattle.laws.proofs.Rel.{Ready, Whatever, Rel, both-done, both-fail, Agree, Near, forget, both-follow, both-try, both-note, both-choose, both-test, arrow-rel, positive, step-rel}
 use Rattle.laws.proofs.Steady.{opens-inside}
-use Rattle.agreement.specs.Count.{Counted, count, counting, tick}
+use Rattle.agreement.specs.Terms.{Counted, count, counting, tick}
 
 -- the counting reader beside a reader that takes the same ways: what the notes have in common is kept
 module _ {N N′ : Type 0} (policy : Policy N) (other : Policy N′) (sheet : Sheet) (Sim : Counted N → N′ → Type 0)

@@ -22,7 +22,7 @@ use Rattle.grammar.specs.Job.{expression}
 use Rattle.grammar.specs.Step.{step}
 use Rattle.laws.specs.Settles.{μ}
 use Rattle.grammar.specs.Reading.{way-of, box, plain, cleared}
-use Rattle.agreement.specs.Count.{Counted, fresh, count}
+use Rattle.agreement.specs.Terms.{Counted, fresh, count}
 
 -- `a` inside so many `(a = ..)`
 abbrev pub nested : ℕ → List ℕ

@@ -17,7 +17,7 @@ use Rattle.tokens.specs.declared.check.Checked.{Checked}
 use Rattle.grammar.specs.Sheet.{Sheet, token}
 use Rattle.laws.proofs.Balanced.{side-of, Side}
 use Rattle.agreement.proofs.Scope.{closing, scope, closes-from, closing-flat, closing-open, closing-close, closing-here, closing-later}
-use Rattle.agreement.specs.Count.{deepest, deepest-from}
+use Rattle.agreement.specs.Terms.{deepest, deepest-from}
 
 -- how many tokens stand from an opening bracket to its partner, both counted
 unfoldable pub span : Sheet → ℕ → ℕ

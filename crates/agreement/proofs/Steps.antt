@@ -34,7 +34,7 @@ use Rattle.laws.specs.Promises.{Log, logging, times, Once}
 use Rattle.laws.proofs.Balanced.{side-of}
 use Rattle.agreement.proofs.Scope.{scope, head-start, reach, closing-later, closing-inside, scope-outside}
 use Rattle.agreement.proofs.Count.{counts-beside, Same, counts-the-same}
-use Rattle.agreement.specs.Count.{Counted, fresh, count, deepest, Ended, ended-done, ended-fail}
+use Rattle.agreement.specs.Terms.{Counted, fresh, count, deepest, Ended, ended-done, ended-fail}
 use Rattle.agreement.proofs.Nesting.{span, spans, spans-bounded, nesting-64}
 use Rattle.agreement.proofs.Work.{price, due, Done, Lost, Costs, costs-done, costs-fail, costs-stuck, works}
 

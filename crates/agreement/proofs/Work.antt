@@ -36,7 +36,7 @@ use Rattle.laws.proofs.Bounds.{limits, Bound, step-bound}
 use Rattle.laws.proofs.Rel.{operator-inside, async-inside}
 use Rattle.laws.proofs.Balanced.{side-of, Side, Balanced, none, skip, name-flat, word-flat, operator-flat, flat}
 use Rattle.laws.proofs.Readings.{Closes, side, two, unary-flat, update-flat, assignment-flat, around, around-list, whole-head, Shape, Shaped, step-shape}
-use Rattle.agreement.specs.Count.{Counted, tick, counting, count}
+use Rattle.agreement.specs.Terms.{Counted, tick, counting, count}
 use Rattle.agreement.proofs.Scope.{scope, head-start, reach, closing-flat, closing-here, closing-later, closing-balanced, scope-in}
 
 -- the most that a head costs that is given up at a place

@@ -1,2 +1,1 @@
 pub mod Terms
-pub mod Count

@@ -13,7 +13,7 @@ use Rattle.rows.specs.Post.{Grown}
 use Rattle.rows.proofs.Flat.{length-flat}
 use Rattle.rows.proofs.Records.{length-record-words}
 use Rattle.conversion.specs.Conversion.{Role, simple, Outcome, turned, refused, convert-as}
-use Rattle.conversion.specs.Potential.{potential}
+use Rattle.conversion.specs.Conversion.{potential}
 use Rattle.targets.specs.Post as Targets
 use Rattle.targets.specs.declared.Conversion.{Conversion}
 use Rattle.laws.proofs.Owed.{same-size, pays}

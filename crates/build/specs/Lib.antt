@@ -1,3 +1,2 @@
 pub mod Post
-pub mod Keys
 pub mod Operation

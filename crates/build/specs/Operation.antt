@@ -1,39 +1,23 @@
--- What is made of operators once their operands are read.
--- Assumes nothing: these are definitions.
-use Prim.Native.Nat.{ℕ, _+_, _-_, _*_, _≤_, _<_}
-use mathlib.Core.Path.{_≡_}
-use mathlib.Core.Bool.{Bool, true, not}
-use mathlib.Core.List.{List, _++_}
-use lib.ListN.{length, getD}
-use Rattle.tokens.specs.Bool.{_or_, _and_, _is_, if_then_else_}
-use Rattle.tokens.specs.Kind.{Question2, Star2}
-use Rattle.tokens.specs.declared.cause.Cause.{Cause}
-use Rattle.rows.specs.Tree.{Tree, node, cons, one}
-use Rattle.rows.specs.Record.{Record}
-use Rattle.rows.specs.Row as Row
+-- What is made of operators once their operands are read; and keys of object literals and object bindings.
+use Rattle.rows.specs.Base.{ℕ, _+_, _-_, _*_, _≤_, _<_, _≡_, Bool, true, not, List, _++_, length, getD, _or_, _and_, _is_, if_then_else_, Cause, Tree, node, cons, one, Record, is-name, is-word}
+use Rattle.tokens.specs.Kind.{Question2, Star2, Str, Number, Colon}
 use Rattle.rows.specs.Post.{Grown}
-use Rattle.grammar.specs.Sheet.{sheet-of, done, fail}
-use Rattle.grammar.specs.Job.{left-hand-side, postfix, unary}
-use Rattle.grammar.specs.Binary.{operation-kind, operation-records}
+use Rattle.grammar.specs.{Sheet.sheet-of, Sheet.done, Sheet.fail, Job.left-hand-side, Job.postfix, Job.unary, Binary.operation-kind, Binary.operation-records}
 use Rattle.grammar.specs.Update.{is-unary-operator, is-update-operator}
-use Rattle.conversion.specs.Potential.{potential as owed}
-use Rattle.build.specs.Post.{Comes, Made, Unmade}
-use Rattle.build.specs.declared.cursor.Cursor.{Cursor}
-use Rattle.build.specs.declared.cursor.Step.{Step}
+use Rattle.conversion.specs.Conversion.{potential as owed}
+use Rattle.build.specs.{Post.Comes, Post.Made, Post.Unmade, declared.cursor.Cursor.Cursor, declared.cursor.Step.Step}
+use Rattle.rows.specs.Row as Row
 
--- the row is a Logical one whose own operator is `||` or `&&`
-abbrev pub or-and : List ℕ → List ℕ → ℕ → Bool
+abbrev pub or-and : List ℕ → List ℕ → ℕ → Bool  -- the row is a Logical one whose own operator is `||` or `&&`
 or-and ks r root = getD r (6 * root + 0) 0 is Row.Logical and not (getD ks (getD r (6 * root + 1) 0) 0 is Question2)
 
--- the number of the record of a binary row over two rows, 0 for none
-abbrev pub record-number : List ℕ → List ℕ → ℕ → ℕ → ℕ → ℕ
+abbrev pub record-number : List ℕ → List ℕ → ℕ → ℕ → ℕ → ℕ  -- the number of the record of a binary row over two rows, 0 for none
 record-number ks r at left right =
     if getD ks at 0 is Question2 then (if or-and ks r left or or-and ks r right then 6 else 0)
     else if getD ks at 0 is Star2 and getD r (6 * left + 0) 0 is Row.Unary then 7
     else 0
 
--- a prefix operator
-abbrev pub is-prefix-operator : ℕ → Bool
+abbrev pub is-prefix-operator : ℕ → Bool  -- a prefix operator
 is-prefix-operator k = is-unary-operator k or is-update-operator k
 
 -- two operands stand, one from `from` and one from `left` up to the cursor; there is room for a row and a record
@@ -119,3 +103,9 @@ pub record MetPrefixes (ks r₀ s₀ : List ℕ) (d : Cursor) (first start from 
   pub done-to : (u : Cursor) → x ≡ Step.Done u → (fs m₀ m : List ℕ) (rs : List Record) → Before ks fs r₀ s₀ d start from m₀ m rs → PrefixedTo ks fs r₀ s₀ d first from m₀ m rs r s u
   pub fail-at : (cause : Cause) → x ≡ Step.Fail cause → (fs m₀ m : List ℕ) (rs : List Record) → Before ks fs r₀ s₀ d start from m₀ m rs
       → PrefixedFail ks fs r₀ s₀ d first from m₀ m r s cause
+
+abbrev pub is-shorthand : List ℕ → ℕ → Bool  -- a name stands at the place, and no `:` after it
+is-shorthand ks at = is-name (getD ks at 0) and not (getD ks (at + 1) 0 is Colon)
+
+abbrev pub is-key : ℕ → Bool  -- a key of one token
+is-key k = is-word k or k is Str or k is Number

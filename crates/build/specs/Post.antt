@@ -1,29 +1,17 @@
 -- What the contracts of the reader say: the room that it asks, what a part of a reading comes to, and what it leaves in the lent buffers.
 -- ks and fs are the kinds and flags; r, s and m the words of the rows, of the records, and the notes.
--- Assumes nothing: these are definitions.
-use Prim.Native.Nat.{ℕ, _+_, _-_, _*_, _^_, _≤_, _<_}
-use mathlib.Core.Path.{_≡_}
-use mathlib.Core.List.{List}
-use lib.ListN.{length, getD}
-use Rattle.tokens.specs.declared.cause.Cause.{Cause}
-use Rattle.rows.specs.Tree.{Tree, Forest, one, count}
-use Rattle.rows.specs.Record.{Record}
+use Rattle.rows.specs.Base.{ℕ, _+_, _-_, _*_, _^_, _≤_, _<_, _≡_, List, length, getD, Cause, Tree, Forest, one, count, Record}
 use Rattle.rows.specs.Post.{Pushed, PushedRecord, Grown, Kept, GrownRecords, KeptRecords}
-use Rattle.grammar.specs.Sheet.{sheet-of, Out, done, fail}
-use Rattle.grammar.specs.Job.{Job, assignment}
+use Rattle.grammar.specs.{Sheet.sheet-of, Sheet.Out, Sheet.done, Sheet.fail, Job.Job, Job.assignment, Reading.box}
 use Rattle.laws.specs.Settles.{Settles}
-use Rattle.grammar.specs.Reading.{box}
-use Rattle.conversion.specs.Potential.{potential as owed}
-use Rattle.build.specs.declared.cursor.Cursor.{Cursor}
-use Rattle.build.specs.declared.cursor.Step.{Step}
-use Rattle.build.specs.declared.cursor.Listed.{Listed}
+use Rattle.conversion.specs.Conversion.{potential as owed}
+use Rattle.build.specs.{declared.cursor.Cursor.Cursor, declared.cursor.Step.Step, declared.cursor.Listed.Listed}
 use Rattle.heads.specs.declared.Head.{Head}
 
 abbrev pub cursor : ℕ → ℕ → ℕ → Cursor
 cursor at rows records = record { at = at; rows = rows; records = records }
 
--- in the box's reading a nonterminal comes to this
-pub record Comes (ks fs : List ℕ) (job : Job) (m : List ℕ) (out : Out (List ℕ)) : Type 0 where
+pub record Comes (ks fs : List ℕ) (job : Job) (m : List ℕ) (out : Out (List ℕ)) : Type 0 where  -- in the box's reading a nonterminal comes to this
   pub settles : Settles (box (sheet-of ks fs)) (sheet-of ks fs) job m out
 
 -- there is room for a row for each token left and for a record for each token; no more rows and no more records are used than tokens passed
@@ -40,8 +28,7 @@ pub record Made (r₀ s₀ : List ℕ) (n k : ℕ) (r s : List ℕ) (d : Cursor)
   pub grown : Grown r₀ n r (d .rows) trees
   pub recorded : GrownRecords s₀ k s (d .records) records
 
--- the first n rows and k records are as they were
-pub record Unmade (r₀ s₀ : List ℕ) (n k : ℕ) (r s : List ℕ) : Type 0 where
+pub record Unmade (r₀ s₀ : List ℕ) (n k : ℕ) (r s : List ℕ) : Type 0 where  -- the first n rows and k records are as they were
   pub kept : Kept r₀ n r
   pub kept-records : KeptRecords s₀ k s
 
@@ -65,8 +52,7 @@ pub record ListTo (ks fs r₀ s₀ m₀ r s m : List ℕ) (job : Job) (n k : ℕ
   pub made : Made r₀ s₀ n k r s d trees records
   pub counted : kids ≡ count trees
 
--- a step does what the nonterminal comes to
-pub record Met (ks fs r₀ s₀ m₀ r s m : List ℕ) (job : Job) (n k : ℕ) (x : Step) : Type 0 where
+pub record Met (ks fs r₀ s₀ m₀ r s m : List ℕ) (job : Job) (n k : ℕ) (x : Step) : Type 0 where  -- a step does what the nonterminal comes to
   pub done-to : (d : Cursor) → x ≡ Step.Done d → ReadTo ks fs r₀ s₀ m₀ r s m job n k d
   pub fail-at : (cause : Cause) → x ≡ Step.Fail cause → Refused ks fs r₀ s₀ m₀ r s m job n k cause
 
@@ -106,8 +92,7 @@ pub record MetClosed (ks fs r₀ s₀ m₀ r s m : List ℕ) (job : Job) (close 
   pub closed-to : (d : Cursor) → x ≡ Step.Done d → ClosedTo ks fs r₀ s₀ m₀ r s m job close n k d
   pub closed-fail : (cause : Cause) → x ≡ Step.Fail cause → NotClosedAt ks fs r₀ s₀ m₀ r s m job close cause-at n k cause
 
--- a row over one token was written
-pub record Leafed (r₀ : List ℕ) (c : Cursor) (kind : ℕ) (r : List ℕ) (d : Cursor) : Type 0 where
+pub record Leafed (r₀ : List ℕ) (c : Cursor) (kind : ℕ) (r : List ℕ) (d : Cursor) : Type 0 where  -- a row over one token was written
   pub is : d ≡ cursor (c .at + 1) (c .rows + 1) (c .records)
   pub pushed : Pushed r₀ (c .rows) kind (c .at) (c .at) (c .at + 1) 0 1 r
 
@@ -116,13 +101,11 @@ pub record Topped (r₀ : List ℕ) (c : Cursor) (kind mark first end kids from 
   pub is : d ≡ cursor end (c .rows + 1) (c .records)
   pub pushed : Pushed r₀ (c .rows) kind mark first end kids (c .rows - from + 1) r
 
--- a record was written
-pub record Said (s₀ : List ℕ) (c : Cursor) (number place : ℕ) (s : List ℕ) (d : Cursor) : Type 0 where
+pub record Said (s₀ : List ℕ) (c : Cursor) (number place : ℕ) (s : List ℕ) (d : Cursor) : Type 0 where  -- a record was written
   pub is : d ≡ cursor (c .at) (c .rows) (c .records + 1)
   pub pushed : PushedRecord s₀ (c .records) number place s
 
--- in so many words the next row has room, and all its words are small
-pub record RowRoom (words : ℕ) (c : Cursor) : Type 0 where
+pub record RowRoom (words : ℕ) (c : Cursor) : Type 0 where  -- in so many words the next row has room, and all its words are small
   pub room : 6 * c .rows + 6 ≤ words
   pub small : c .rows ≤ 2048
 
@@ -138,8 +121,7 @@ pub record TopRoom (words : ℕ) (c : Cursor) (mark first end kids from : ℕ) :
   pub kids-small : kids ≤ 2048
   pub from-before : from ≤ c .rows
 
--- in so many words the next record has room, and its place fits
-pub record SayRoom (words : ℕ) (c : Cursor) (place : ℕ) : Type 0 where
+pub record SayRoom (words : ℕ) (c : Cursor) (place : ℕ) : Type 0 where  -- in so many words the next record has room, and its place fits
   pub room : 2 * c .records + 2 ≤ words
   pub small : c .records ≤ 2048
   pub place-fits : place < 2 ^ 32
@@ -154,8 +136,7 @@ pub record Operand (ks r : List ℕ) (c : Cursor) (first from : ℕ) : Type 0 wh
   pub few-rows : c .rows + first ≤ from + c .at
   pub few-records : c .records + owed left ≤ c .at
 
--- a head was read, and its `=>` stands here
-pub record HeadFits (ks : List ℕ) (c : Cursor) (h : Head) : Type 0 where
+pub record HeadFits (ks : List ℕ) (c : Cursor) (h : Head) : Type 0 where  -- a head was read, and its `=>` stands here
   pub arrow : c .at < length ks
   pub first-before : h .first < c .at
   pub from-before : h .from ≤ c .rows

@@ -1,6 +1,6 @@
 // Keys of object literals and of object bindings (13.2.5, 14.3.3).
 ghost use mathlib.Core.Path.{_≡_};
-ghost use Rattle.build.specs.Keys.{is-shorthand, is-key};
+ghost use Rattle.build.specs.Operation.{is-shorthand, is-key};
 use tokens::classes;
 use tokens::kind;
 

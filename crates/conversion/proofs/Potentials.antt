@@ -16,7 +16,7 @@ use Rattle.rows.specs.Tree.{Tree, Forest, node, nil, cons, count, first-of, siz
 use Rattle.rows.specs.Record.{Record, rest-argument, rest-comma, compound-default}
 use Rattle.conversion.specs.Conversion.{Outcome, turned, refused, Role, Change, refuse, keep, turn, only, is-with, is-closed, is-array-or-object, is-reference, last-of, inner-kind, Seen, seen, as-simple, as-any, as-value, as-element, as-last-element, as-property, as-last-property, as-name, change, roles, over, both, convert-as, convert-kids}
 use Rattle.conversion.proofs.KidRoles.{elements, properties, key-and-value, name-and-initializer}
-use Rattle.conversion.specs.Potential.{may-record, potential, potentials}
+use Rattle.conversion.specs.Conversion.{may-record, potential, potentials}
 use Rattle.conversion.proofs.RuleHolds.{both-true, refused-turned, follows}
 
 abbrev pub weight : ℕ → ℕ

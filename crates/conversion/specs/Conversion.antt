@@ -1,24 +1,15 @@
 -- Conversion (RULES C1 to C11): what was read as an expression becomes an assignment target, or is refused.
 -- Each row is looked at in a role; the role says what the row becomes, and the roles of its kids. A row that is no expression, one
 -- already a target included, is 9; so is a row whose kids are not as RULES R8 has them, of which a well-formed tree has none.
--- Assumes nothing: these are definitions.
-use Prim.Native.Nat.{ℕ}
-use mathlib.Core.Bool.{Bool, not}
-use mathlib.Core.List.{List, [], _∷_, _++_}
-use Rattle.tokens.specs.Bool.{if_then_else_, _and_, _or_, _is_, between}
-use Rattle.tokens.specs.declared.cause.Cause.{Cause}
+use Rattle.rows.specs.Base.{ℕ, _+_, Bool, not, List, [], _∷_, _++_, if_then_else_, _and_, _or_, _is_, between, Cause, Tree, Forest, node, nil, cons, count, kind-of, first-of, Record, rest-argument, rest-comma, compound-default, eqb}
 use Rattle.tokens.specs.declared.cause.Cause.the-variants.{Target as NoTarget, Spread as SpreadNotLast}
 use Rattle.rows.specs.Row as row
-use Rattle.rows.specs.Tree.{Tree, Forest, node, nil, cons, count, kind-of, first-of}
-use Rattle.rows.specs.Record.{Record, rest-argument, rest-comma, compound-default}
 
--- what comes of it: the converted with the records in the order found, or the first refusal
-pub data Outcome (A : Type 0) : Type 0 where
+pub data Outcome (A : Type 0) : Type 0 where  -- what comes of it: the converted with the records in the order found, or the first refusal
   turned : A → List Record → Outcome A
   refused : Cause → Outcome A
 
--- What a row is to become. A `comma` is the record of a comma after the literal's rest: one record 4, or none.
-pub data Role : Type 0 where
+pub data Role : Type 0 where  -- What a row is to become. A `comma` is the record of a comma after the literal's rest: one record 4, or none.
   any : Role  -- any target: 13.15.5 DestructuringAssignmentTarget
   simple : Role  -- a simple target: 13.15.1, AssignmentTargetType simple
   element : Role  -- an element of an array that another follows: AssignmentElement, elision
@@ -43,20 +34,17 @@ only role after = role
 abbrev pub each : Role → Role → ℕ → Role
 each others last after = if after is 0 then last else others
 
--- an Array or Object literal, with or without a comma after its closing spread
-abbrev pub is-array-or-object : ℕ → Bool
+abbrev pub is-array-or-object : ℕ → Bool  -- an Array or Object literal, with or without a comma after its closing spread
 is-array-or-object kind = between row.Array row.ObjectRestComma kind
 
--- a name, a Member or an Index
-abbrev pub is-reference : ℕ → Bool
+abbrev pub is-reference : ℕ → Bool  -- a name, a Member or an Index
 is-reference kind = kind is row.Identifier or kind is row.Member or kind is row.Index
 
--- the last of some rows; a row of nothing where there is none
-abbrev pub last-or : Tree → Forest → Tree
+abbrev pub last-or : Tree → Forest → Tree  -- the last of some rows, or this one
 last-or t nil = t
 last-or t (cons u us) = last-or u us
 
-abbrev pub last-of : Forest → Tree
+abbrev pub last-of : Forest → Tree  -- the last of some rows; a row of nothing where there is none
 last-of ts = last-or (node 0 0 0 0 nil) ts
 
 -- the kind of what stands in Parens
@@ -75,8 +63,7 @@ array-argument t = if is-reference (inner-kind t) or is-array-or-object (inner-k
 abbrev pub object-argument : Tree → List Record
 object-argument t = if is-reference (inner-kind t) then [] else rest-argument (first-of t) ∷ []
 
--- what conversion looks at in a row: three of its words, how many kids it has, the kind of the last of them, and the record 3
--- that the last would give as a rest's argument
+-- what conversion looks at in a row: three of its words, how many kids it has, the kind of the last of them, and the record 3 that the last would give as a rest's argument
 pub record Seen : Type 0 where
   pub kind : ℕ
   pub mark : ℕ
@@ -90,11 +77,10 @@ unfoldable pub seen : Tree → Seen
 seen (node kind mark first end kids) =
     record { kind = kind; mark = mark; first = first; kids = count kids; last = kind-of (last-of kids); in-array = array-argument (last-of kids); in-object = object-argument (last-of kids) }
 
--- the row is of a kind and has so many kids; or its last kid is a Spread
-abbrev pub is-with : Seen → ℕ → ℕ → Bool
+abbrev pub is-with : Seen → ℕ → ℕ → Bool  -- the row is of a kind and has so many kids
 is-with r kind kids = r .kind is kind and r .kids is kids
 
-abbrev pub is-closed : Seen → ℕ → Bool
+abbrev pub is-closed : Seen → ℕ → Bool  -- the row is of a kind, and its last kid is a Spread
 is-closed r kind = r .kind is kind and r .last is row.Spread
 
 -- 13.15.1, AssignmentTargetType simple: Name, Member and Index become targets; Paren becomes TargetParen over a simple target.
@@ -125,20 +111,17 @@ as-value r =
     else if r .kind is row.CompoundAssign then keep row.TargetDefault (compound-default (r .mark) ∷ [])
     else as-any r
 
--- an element that another follows: a Hole stays, and a Spread is 10
-unfoldable pub as-element : Seen → Change
+unfoldable pub as-element : Seen → Change  -- an element that another follows: a Hole stays, and a Spread is 10
 as-element r =
     if r .kind is row.Hole then keep row.Hole []
     else if r .kind is row.Spread then refuse (SpreadNotLast (r .first))
     else as-value r
 
--- 13.15.5 AssignmentRestElement : ... DestructuringAssignmentTarget
--- A last Spread is a rest. Arrays: record 3, argument, record 4.
+-- 13.15.5 AssignmentRestElement : ... DestructuringAssignmentTarget. A last Spread is a rest. Arrays: record 3, argument, record 4.
 unfoldable pub as-last-element : List Record → Seen → Change
 as-last-element comma r = if is-with r row.Spread 1 then turn row.TargetRest (r .in-array) (only any) comma else as-element r
 
--- 13.15.5 AssignmentProperty : IdentifierReference Initializer opt, or PropertyName : AssignmentElement
--- a property that another follows: a Spread is 10
+-- 13.15.5 AssignmentProperty : IdentifierReference Initializer opt, or PropertyName : AssignmentElement. A property that another follows: a Spread is 10
 unfoldable pub as-property : Seen → Change
 as-property r =
     if is-with r row.Shorthand 1 then turn row.TargetShorthand [] (only name) []
@@ -147,17 +130,14 @@ as-property r =
     else if r .kind is row.Spread then refuse (SpreadNotLast (r .first))
     else refuse (NoTarget (r .first))
 
--- 13.15.5 AssignmentRestProperty : ... DestructuringAssignmentTarget
--- A last Spread is a rest. Objects: record 3, record 4, argument.
+-- 13.15.5 AssignmentRestProperty : ... DestructuringAssignmentTarget. A last Spread is a rest. Objects: record 3, record 4, argument.
 unfoldable pub as-last-property : List Record → Seen → Change
 as-last-property comma r = if is-with r row.Spread 1 then turn row.TargetRest (r .in-object ++ comma) (only any) [] else as-property r
 
--- the name of a shorthand
-unfoldable pub as-name : Seen → Change
+unfoldable pub as-name : Seen → Change  -- the name of a shorthand
 as-name r = if r .kind is row.Identifier then keep row.TargetName [] else refuse (NoTarget (r .first))
 
--- what a row becomes in a role
-unfoldable pub change : Role → Seen → Change
+unfoldable pub change : Role → Seen → Change  -- what a row becomes in a role
 change any r = as-any r
 change simple r = as-simple r
 change element r = as-element r
@@ -168,14 +148,12 @@ change value r = as-value r
 change name r = as-name r
 change same r = keep (r .kind) []
 
--- the roles that a change gives the kids
-unfoldable pub roles : Change → ℕ → Role
+unfoldable pub roles : Change → ℕ → Role  -- the roles that a change gives the kids
 roles (refuse cause) = only same
 roles (keep kind records) = only same
 roles (turn kind before kids after) = kids
 
--- a row of that change, over what came of its kids
-unfoldable pub over : Change → Tree → Outcome Forest → Outcome Tree
+unfoldable pub over : Change → Tree → Outcome Forest → Outcome Tree  -- a row of that change, over what came of its kids
 over (refuse cause) t kids = refused cause
 over (keep kind′ records) (node kind mark first end kids) _ = turned (node kind′ mark first end kids) records
 over (turn kind′ before _ after) (node kind mark first end kids) (turned kids′ records) = turned (node kind′ mark first end kids′) (before ++ records ++ after)
@@ -199,6 +177,19 @@ unfoldable mutual
   convert-kids nil roles = turned nil []
   convert-kids (cons t ts) roles = both (convert-as t (roles (count ts))) (convert-kids ts roles)
 
--- left of `=`: to any target
-abbrev pub convert : Tree → Outcome Tree
+abbrev pub convert : Tree → Outcome Tree  -- left of `=`: to any target
 convert t = convert-as t any
+
+-- What conversion and the last pass of a reading could still record of a tree (for which RULES A4 asks room): a Spread, a literal with a comma after its rest, a
+-- CompoundAssign and a ShorthandInit one record each.
+abbrev pub may-record : ℕ → Bool
+may-record kind =
+    eqb kind row.ArrayRestComma or eqb kind row.ObjectRestComma or eqb kind row.Spread or eqb kind row.ShorthandInit or eqb kind row.CompoundAssign
+
+unfoldable mutual
+  pub potential : Tree → ℕ
+  potential (node kind mark first end kids) = (if may-record kind then 1 else 0) + potentials kids
+
+  pub potentials : Forest → ℕ
+  potentials nil = 0
+  potentials (cons t ts) = potential t + potentials ts

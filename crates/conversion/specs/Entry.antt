@@ -1,22 +1,11 @@
--- Conversion as its own entry (RULES X3): for any words, any row and any record buffer, the answer
--- and every word of both buffers after it.
--- Assumes nothing: these are definitions.
-use Prim.Native.Nat.{ℕ, _+_, _-_, _*_, _≤_, _<_}
-use mathlib.Core.Path.{_≡_}
-use mathlib.Core.List.{List, _++_}
-use lib.ListN.{length, take, drop, replicate}
-use Rattle.tokens.specs.declared.cause.Cause.{Cause}
+-- Conversion as its own entry (RULES X3): for any words, any row and any record buffer, the answer and every word of both buffers after it.
+use Rattle.rows.specs.Base.{ℕ, _+_, _-_, _*_, _≤_, _<_, _≡_, List, _++_, length, take, drop, replicate, Cause, Answer, Tree, size, flat, record-words}
 use Rattle.tokens.specs.declared.cause.Cause.the-variants.{Length, RecordRoom, Tree as NoTree, Outside}
-use Rattle.tokens.specs.declared.cause.Answer.{Answer}
 use Rattle.tokens.specs.declared.cause.Answer.the-variants.{Read, Refused}
-use Rattle.rows.specs.Tree.{Tree, size, flat}
-use Rattle.rows.specs.Record.{record-words}
-use Rattle.rows.specs.Words.{WellFormed}
-use Rattle.rows.specs.Part.{subtree}
+use Rattle.rows.specs.Part.{WellFormed, subtree}
 use Rattle.conversion.specs.Conversion.{Outcome, turned, refused, convert}
 
--- the answer, and both buffers after it
-pub record Result : Type 0 where
+pub record Result : Type 0 where  -- the answer, and both buffers after it
   pub answer : Answer
   pub words : List ℕ
   pub records : List ℕ
@@ -26,14 +15,12 @@ pub data Check (Fact : Type 0) (failed : Result) (rest : Fact → Result → Typ
   holds : (fact : Fact) → rest fact x → Check Fact failed rest x
   fails : (Fact → ⊥) → x ≡ failed → Check Fact failed rest x
 
--- 1: some words, and not over 12,288
-pub record Sized (words : List ℕ) : Type 0 where
+pub record Sized (words : List ℕ) : Type 0 where  -- 1: some words, and not over 12,288
   pub some : 0 < length words
   pub few : length words ≤ 12288
 
 module _ (words records : List ℕ) (row : ℕ) where
-  -- refused, it changes no word
-  abbrev pub unchanged : Cause → Result
+  abbrev pub unchanged : Cause → Result  -- refused, it changes no word
   unchanged cause = record { answer = Refused cause; words = words; records = records }
 
   -- accepted, the rows of the subtree become those of its conversion; the records are written, and the record words past them are 0
@@ -46,17 +33,14 @@ module _ (words records : List ℕ) (row : ℕ) where
         records = record-words new ++ replicate (length records - 2 * length new) 0;
       }
 
-  -- the checks 14 and 4 on a tree, then the conversion of its row to any target
-  abbrev pub Within : Tree → Result → Type 0
+  abbrev pub Within : Tree → Result → Type 0  -- the checks 14 and 4 on a tree, then the conversion of its row to any target
   Within tree =
       Check (row < size tree) (unchanged (Outside 0))
       (λ _. Check (2 * size (subtree tree row) ≤ length records) (unchanged (RecordRoom 0))
       (λ _ x. x ≡ done (subtree tree row) (convert (subtree tree row))))
 
-  -- the checks 1 and 13 before them
-  abbrev pub Entry : Result → Type 0
+  abbrev pub Entry : Result → Type 0  -- the checks 1 and 13 before them
   Entry = Check (Sized words) (unchanged (Length 0)) (λ _. Check (WellFormed words) (unchanged (NoTree 0)) (λ whole. Within (whole .tree)))
 
--- what the contract says
-pub record Answered (words records : List ℕ) (row : ℕ) (answer : Answer) (words′ records′ : List ℕ) : Type 0 where
+pub record Answered (words records : List ℕ) (row : ℕ) (answer : Answer) (words′ records′ : List ℕ) : Type 0 where  -- what the contract says
   pub is : Entry words records row (record { answer = answer; words = words′; records = records′ })

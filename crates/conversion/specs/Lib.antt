@@ -1,4 +1,3 @@
 pub mod Conversion
 pub mod TargetRule
-pub mod Potential
 pub mod Entry

@@ -1,18 +1,14 @@
--- The target rule, written from ECMA-262 alone: which rows of an expression the standard allows as the target of an assignment.
--- 13.15.1: where the left side is an ObjectLiteral or an ArrayLiteral it must cover an AssignmentPattern (13.15.5), and
--- otherwise its AssignmentTargetType (8.6.4) must be simple. A literal of kind 6 or 8 has a comma after its closing spread: no
--- production of an AssignmentPattern has that, and so no rule here has those kinds.
--- What it does not judge again: it goes down to the targets of a literal and stops at rows whose inside was judged when they were read. An Assign as an element is an initialized element, whatever
--- records its own left side got when it was read; the kids of a Member and of an Index are not looked into; nor are keys and initializers. So the trees of `[{...[a]} = b]`, `[[...a,] = b]`,
--- `[[a += 1] = b]` and `[{a = 1}.x]` are targets by this rule, and converted as trees they give no record, though ECMA-262 has no such target: the record (3, 4, 5, 8) was given when that part was
--- read. `not-judged-again` (NotJudgedAgain) computes the four.
--- Assumes nothing: these are definitions.
-use Prim.Native.Nat.{ℕ}
+-- The target rule, written from ECMA-262 alone: which rows of an expression the standard allows as the target of an assignment. 13.15.1: where the left side is an
+-- ObjectLiteral or an ArrayLiteral it must cover an AssignmentPattern (13.15.5), and otherwise its AssignmentTargetType (8.6.4) must be simple. A literal of kind 6 or 8 has a
+-- comma after its closing spread: no production of an AssignmentPattern has that, and so no rule here has those kinds. What it does not judge again: it goes down to the
+-- targets of a literal and stops at rows whose inside was judged when they were read. An Assign as an element is an initialized element, whatever records its own left side
+-- got when it was read; the kids of a Member and of an Index are not looked into; nor are keys and initializers. So the trees of `[{...[a]} = b]`, `[[...a,] = b]`, `[[a += 1]
+-- = b]` and `[{a = 1}.x]` are targets by this rule, and converted as trees they give no record, though ECMA-262 has no such target: the record (3, 4, 5, 8) was given when
+-- that part was read. `not-judged-again` (NotJudgedAgain) computes the four.
+use Rattle.rows.specs.Base.{ℕ, Tree, Forest, node, nil, cons, one}
 use Rattle.rows.specs.Row as row
-use Rattle.rows.specs.Tree.{Tree, Forest, node, nil, cons, one}
 
--- AssignmentTargetType is simple
-pub data Simple : Tree → Type 0 where
+pub data Simple : Tree → Type 0 where  -- AssignmentTargetType is simple
   -- IdentifierReference : Identifier
   identifier : {mark first end : ℕ} {kids : Forest} → Simple (node row.Identifier mark first end kids)
   -- MemberExpression : MemberExpression . IdentifierName, CallExpression : CallExpression . IdentifierName
@@ -23,8 +19,7 @@ pub data Simple : Tree → Type 0 where
   parenthesized : {mark first end : ℕ} {t : Tree} → Simple t → Simple (node row.Paren mark first end (one t))
 
 mutual
-  -- 13.15.5 DestructuringAssignmentTarget : LeftHandSideExpression, and the left side of `=`
-  pub data Target : Tree → Type 0 where
+  pub data Target : Tree → Type 0 where  -- 13.15.5 DestructuringAssignmentTarget : LeftHandSideExpression, and the left side of `=`
     simple : {t : Tree} → Simple t → Target t
     -- AssignmentPattern : ArrayAssignmentPattern
     array : {mark first end : ℕ} {ts : Forest} → Elements ts → Target (node row.Array mark first end ts)
@@ -42,8 +37,7 @@ mutual
     -- AssignmentRestElement : ... DestructuringAssignmentTarget
     rest-element : {mark first end : ℕ} {t : Tree} → Target t → Elements (one (node row.Spread mark first end (one t)))
 
-  -- AssignmentElement : DestructuringAssignmentTarget Initializer opt
-  pub data Element : Tree → Type 0 where
+  pub data Element : Tree → Type 0 where  -- AssignmentElement : DestructuringAssignmentTarget Initializer opt
     bare : {t : Tree} → Target t → Element t
     -- with its Initializer it was read as an Assign, whose left side is a target already
     initialized : {mark first end : ℕ} {kids : Forest} → Element (node row.Assign mark first end kids)
@@ -56,8 +50,7 @@ mutual
     -- AssignmentRestProperty : ... DestructuringAssignmentTarget, which is no ArrayLiteral or ObjectLiteral (13.15.5.1)
     rest-property : {mark first end : ℕ} {t : Tree} → Simple t → Properties (one (node row.Spread mark first end (one t)))
 
-  -- AssignmentProperty : IdentifierReference Initializer opt | PropertyName : AssignmentElement
-  pub data Property : Tree → Type 0 where
+  pub data Property : Tree → Type 0 where  -- AssignmentProperty : IdentifierReference Initializer opt | PropertyName : AssignmentElement
     reference : {mark first end mark′ first′ end′ : ℕ} {kids : Forest}
         → Property (node row.Shorthand mark first end (one (node row.Identifier mark′ first′ end′ kids)))
     reference-initialized : {mark first end mark′ first′ end′ : ℕ} {kids : Forest} {initializer : Tree}

@@ -1,25 +1,15 @@
 -- The three demands, of the functions of the archive that firmware calls. Each statement is about any output x that the contract of a function allows for an input i: `ByRead i x` is what
 -- vuolmaset_read promises, `ByPattern` and `ByConvert` likewise. exact/specs/Terms.antt has the words, to be read beside this file. Nothing is asked of an input but what a
 -- statement names: `Passes i`, it passes the checks 1 to 7; `NoEarly`, nowhere stand Async, `(` with no line break before it, `...` and kind 1. Assumes nothing.
-use Prim.Native.Nat.{ℕ, _*_, _≤_}
-use mathlib.Core.Path.{_≡_}
-use mathlib.Core.Bool.{Bool}
-use mathlib.Core.Logic.{_↔_}
-use mathlib.Core.List.{List}
-use lib.ListN.{length}
+use Rattle.rows.specs.Base.{ℕ, _*_, _≤_, _≡_, Bool, _↔_, List, length, Tree, Forest, size, Record}
 use Rattle.operators.specs.Precedence.{level, expression-level}
 use Rattle.lookahead.specs.Entry.{three-way-entry}
-use Rattle.rows.specs.Tree.{Tree, Forest, size}
-use Rattle.rows.specs.Record.{Record}
 use Rattle.rows.specs.Handed.{Inside, chosen}
 use Rattle.conversion.specs.TargetRule.{Target}
-use Rattle.grammar.specs.Job.{expression, binding-element}
-use Rattle.grammar.specs.Reading.{plain-reading, plain-pattern}
+use Rattle.grammar.specs.{Job.expression, Job.binding-element, Reading.plain-reading, Reading.plain-pattern, Told.ToldThreeWay, Told.ToldSubtree}
 use Rattle.ecma262.specs.Derives.{Expression, BindingElement, Derived}
-use Rattle.exact.specs.Targets.{Own, In}
+use Rattle.exact.specs.Terms.{Own, In, Input, TreeInput, Output, sheet, Passes, ByRead, ByPattern, ByConvert, Shown, Clean, Answered, Converted, ThreeWayAnswered, Bounded}
 use Rattle.agreement.specs.Terms.{ReadAs, NoEarly}
-use Rattle.grammar.specs.Told.{ToldThreeWay, ToldSubtree}
-use Rattle.exact.specs.Terms.{Input, TreeInput, Output, sheet, Passes, ByRead, ByPattern, ByConvert, Shown, Clean, Answered, Converted, ThreeWayAnswered, Bounded}
 use Rattle.exact.proofs.Demands as proved
 
 -- DEMAND 1: any bytes, one answer; read, or refused by number and place; every lent word
@@ -112,8 +102,7 @@ pub conversion-exactly-if-target : {i : TreeInput} {x : Output} → ByConvert i 
     → ((x .number ≡ 0) × (x .second ≡ 0)) ↔ Target (chosen inside)
 conversion-exactly-if-target = proved.conversion-exactly-if-target
 
--- DEMAND 3: fast equals plain
--- With no exception: what vuolmaset_read shows as read, trees and records, the plain reader reads.
+-- DEMAND 3: fast equals plain. With no exception: what vuolmaset_read shows as read, trees and records, the plain reader reads.
 pub fast-is-plain : {i : Input} {x : Output} → ByRead i x → (trees : Forest) (said : List Record) → Shown i x trees said → ReadAs (plain-reading (sheet i)) trees said
 fast-is-plain = proved.fast-is-plain
 

@@ -1,7 +1,2 @@
 pub mod Demands
-pub mod Promises
-pub mod ThreeWay
-pub mod Agreement
-pub mod Standard
-pub mod Conversion
-pub mod Examples
+pub mod Definitions

@@ -13,7 +13,7 @@ use Rattle.tokens.specs.declared.cause.Cause.{Cause}
 use Rattle.rows.specs.Row as row
 use Rattle.rows.specs.Tree.{Tree, Forest, node, nil, cons, size}
 use Rattle.rows.specs.Record.{Record}
-use Rattle.rows.specs.Words.{WellFormed}
+use Rattle.rows.specs.Part.{WellFormed}
 use Rattle.rows.specs.Handed.{Inside, chosen}
 use Rattle.conversion.specs.Conversion.{Outcome, turned, refused, Role, Change, refuse, keep, turn, is-array-or-object, Seen, seen, is-with, is-closed, as-simple, as-any, as-value, as-element, as-last-element, as-property, as-last-property, as-name, change, roles, over, both, convert-as, convert-kids, convert}
 use Rattle.conversion.specs.Entry.{Result, holds, fails, done, Within, Entry}

@@ -18,7 +18,7 @@ use Rattle.grammar.specs.Reading.{plain-reading, plain-pattern}
 use Rattle.laws.proofs.Promises.{refusals-stand, rows-fit, records-fit}
 use Rattle.ecma262.specs.Derives.{Expression, BindingElement, Derived}
 use Rattle.exact.proofs.Targets.{target-rows}
-use Rattle.exact.specs.Targets.{Own, In}
+use Rattle.exact.specs.Terms.{Own, In}
 use Rattle.agreement.specs.Terms.{ReadAs, NoEarly}
 use Rattle.agreement.proofs.Agreement.{plain-reads-too, plain-pattern-reads-too}
 use Rattle.agreement.proofs.Answers.{read-agrees, pattern-agrees}

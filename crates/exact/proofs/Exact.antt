@@ -23,7 +23,7 @@ use Rattle.ecma262.specs.Derives.{Nonterminal, Expression, BindingElement, Deri
 use Rattle.exact.proofs.Clean.{Standard, clean-expression, clean-binding}
 use Rattle.exact.proofs.Unambiguous.{clean-is-derived, clean-is-bound}
 use Rattle.exact.proofs.Targets.{target-rows}
-use Rattle.exact.specs.Targets.{Own, In}
+use Rattle.exact.specs.Terms.{Own, In}
 
 -- what the plain reader reads, whatever the notes after: it has none
 plainly : {out : Whole (Unit {0})} {t : Tree} → ReadAs out (one t) [] → out ≡ whole (one t) [] tt

@@ -15,7 +15,7 @@ use Rattle.ecma262.specs.Derives as D
 use Rattle.ecma262.specs.Derives.{Nonterminal, SimpleTarget, AssignmentPattern, TierExpression, LeftToRight, ends-in-spread, array-row, object-row, Derives, covers-nothing, cover-nothing, Derived}
 use Rattle.exact.specs.Terminals.{tier-row}
 use Rattle.exact.proofs.Terminals.{line}
-use Rattle.exact.specs.Targets.{Among, In, Own, below, here, is-pattern, is-simple, itself, later}
+use Rattle.exact.specs.Terms.{Among, In, Own, below, here, is-pattern, is-simple, itself, later}
 
 -- WHAT IS DERIVED
 -- a row of a target's kind is derived as such a target, whatever is below it

@@ -11,7 +11,7 @@ use Rattle.grammar.specs.Sheet.{Sheet}
 use Rattle.grammar.specs.Job.{Job}
 use Rattle.grammar.specs.Reading.{noted-places, whole}
 use Rattle.grammar.proofs.Checked.{ready}
-use Rattle.agreement.specs.Count.{Counted, Ended, ended-done, ended-fail}
+use Rattle.agreement.specs.Terms.{Counted, Ended, ended-done, ended-fail}
 use Rattle.agreement.proofs.Steps.{Start, ListWork, ReadWork, list-work, read-work, checked-work}
 use Rattle.exact.specs.Terms as Terms
 use Rattle.exact.specs.Terms.{Input, Output, sheet, Passes, comes-to, Answered, Bounded}

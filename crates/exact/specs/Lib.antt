@@ -1,3 +1,2 @@
 pub mod Terms
-pub mod Targets
 pub mod Terminals

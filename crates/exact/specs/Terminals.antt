@@ -1,19 +1,11 @@
 -- The reader's classes of tokens and levels of operators, to be held to the standard's lists.
--- Assumes nothing: these are definitions.
-use Prim.Native.Nat.{ℕ, suc, _≤_}
-use lib.Dec.{leb}
-use Rattle.tokens.specs.Bool.{if_then_else_, _is_, _or_, between}
-use Rattle.rows.specs.Row as Row
-use mathlib.Core.Path.{_≡_}
-use mathlib.Core.Bool.{Bool}
-use mathlib.Core.List.{List}
+use Rattle.rows.specs.Base.{ℕ, suc, _≤_, leb, if_then_else_, _is_, _or_, between, _≡_, Bool, List, is-word}
 use Rattle.tokens.specs.Kind.{Str, Number, Bang, Delete, Plus2, Minus2, Plus, Minus, PlusEq, Star2Eq}
-use Rattle.tokens.specs.Token.{is-word}
 use Rattle.operators.specs.Precedence.{expression-level}
 use Rattle.ecma262.specs.Derives.{one-of, TierExpression, LeftToRight}
+use Rattle.rows.specs.Row as Row
 
--- the row of a level: `||` and `&&`, 2 and 3, make a Logical row, the levels above a Binary one
-unfoldable pub tier-row : ℕ → ℕ
+unfoldable pub tier-row : ℕ → ℕ  -- the row of a level: `||` and `&&`, 2 and 3, make a Logical row, the levels above a Binary one
 tier-row tier = if leb tier 3 then Row.Logical else Row.Binary
 
 unfoldable pub is-key : ℕ → Bool
@@ -36,7 +28,6 @@ pub record Line (x : ℕ) (operators : List ℕ) (y row : ℕ) : Type 0 where
   pub row-is : row ≡ tier-row x
   pub of-level : (k : ℕ) → one-of operators k ≡ expression-level k is x
 
--- each level from 2 to 11 has its line
-pub record LineOf (l : ℕ) : Type 0 where
+pub record LineOf (l : ℕ) : Type 0 where  -- each level from 2 to 11 has its line
   pub operators : List ℕ
   pub is-line : LeftToRight (TierExpression l) operators (TierExpression (suc l)) (tier-row l)

@@ -1,31 +1,15 @@
 -- The words in which the demands are said: what firmware hands to an entry of the archive, what it sees afterwards, and what the numbers and words that it sees say.
--- Assumes nothing: these are definitions.
-use Prim.Native.Nat.{ℕ, _+_, _-_, _*_, _≤_, _<_}
-use mathlib.Core.Path.{_≡_}
-use mathlib.Core.Bool.{Bool}
-use mathlib.Core.List.{List, _++_}
-use lib.ListN.{length, take, drop, replicate}
-use Rattle.tokens.specs.Cause.{number, place}
-use Rattle.tokens.specs.declared.cause.Cause.{Cause}
-use Rattle.tokens.specs.declared.check.Checked.{Checked}
-use Rattle.tokens.specs.Check.{_and-then_, check-length, check-flag-length, check-flags, check-kinds}
-use Rattle.lookahead.specs.ThreeWay.{three-way}
-use Rattle.lookahead.specs.Entry.{check-place}
-use Rattle.rows.specs.Tree.{Tree, Forest, size, sizes, flat, flats}
-use Rattle.rows.specs.Record.{Record, record-words}
-use Rattle.rows.specs.Words.{WellFormed}
-use Rattle.rows.specs.Handed.{Inside, chosen}
-use Rattle.conversion.specs.Conversion.{turned, refused as not-turned, convert}
-use Rattle.conversion.specs.Entry.{Sized}
-use Rattle.grammar.specs.Sheet.{Sheet, sheet-of}
-use Rattle.grammar.specs.Job.{Job}
+use Rattle.rows.specs.Base.{ℕ, _+_, _-_, _*_, _≤_, _<_, _≡_, Bool, true, List, _++_, length, take, drop, replicate, number, place, Cause, Checked, _and-then_, check-length, check-flag-length, check-flags, check-kinds, Tree, Forest, size, sizes, flat, flats, node, cons, kind-of, first-of, end-of, Record, record-words, _is_, _or_}
+use Rattle.lookahead.specs.{ThreeWay.three-way, Entry.check-place}
+use Rattle.rows.specs.{Part.WellFormed, Handed.Inside, Handed.chosen}
+use Rattle.conversion.specs.{Conversion.turned, Conversion.refused as not-turned, Conversion.convert, Entry.Sized}
+use Rattle.grammar.specs.{Sheet.Sheet, Sheet.sheet-of, Job.Job, Lent.checks, Lent.padded, Told.ToldRead, Told.ToldPattern, Told.ToldConvert, Told.tristate-number}
 use Rattle.grammar.specs.Reading.{Whole, whole, refused, reading, box, cleared, noted-places}
-use Rattle.grammar.specs.Lent.{checks, padded}
-use Rattle.agreement.specs.Count.{Counted, deepest, Ended}
-use Rattle.grammar.specs.Told.{ToldRead, ToldPattern, ToldConvert, tristate-number}
+use Rattle.agreement.specs.Terms.{Counted, deepest, Ended}
+use Rattle.ecma262.specs.Derives.{SimpleTarget, AssignmentPattern, Derived}
+use Rattle.rows.specs.Row as Row
 
--- handed to vuolmaset_read and vuolmaset_pattern: kinds and flags, and the words that both lent buffers hold before
-pub record Input : Type 0 where
+pub record Input : Type 0 where  -- handed to vuolmaset_read and vuolmaset_pattern: kinds and flags, and the words that both lent buffers hold before
   pub kinds : List ℕ
   pub flags : List ℕ
   pub rows : List ℕ
@@ -37,8 +21,7 @@ pub record TreeInput : Type 0 where
   pub row : ℕ
   pub records : List ℕ
 
--- seen afterwards: the number returned, the three numbers told, and every word of both buffers
-pub record Output : Type 0 where
+pub record Output : Type 0 where  -- seen afterwards: the number returned, the three numbers told, and every word of both buffers
   pub number : ℕ
   pub first : ℕ
   pub second : ℕ
@@ -46,16 +29,13 @@ pub record Output : Type 0 where
   pub rows : List ℕ
   pub records : List ℕ
 
--- the list that is handed in
-abbrev pub sheet : Input → Sheet
+abbrev pub sheet : Input → Sheet  -- the list that is handed in
 sheet i = sheet-of (i .kinds) (i .flags)
 
--- it passes the checks 1 to 7
-abbrev pub Passes : Input → Type 0
+abbrev pub Passes : Input → Type 0  -- it passes the checks 1 to 7
 Passes i = checks (sheet i) (i .rows) (i .records) ≡ Checked.Fine
 
--- what the box's reader comes to on it, as an Expression or as a pattern
-abbrev pub comes-to : Job → Input → Whole (List ℕ)
+abbrev pub comes-to : Job → Input → Whole (List ℕ)  -- what the box's reader comes to on it, as an Expression or as a pattern
 comes-to job i = reading (box (sheet i)) (sheet i) job cleared
 
 -- THE CONTRACTS: this output is allowed for this input
@@ -95,8 +75,7 @@ pub record Refused (cause : Cause) (low high : ℕ) (i : Input) (x : Output) : T
   pub second : x .second ≡ 0
   pub third : x .third ≡ 0
 
--- the three ways in which vuolmaset_read and vuolmaset_pattern answer
-pub data Answered (job : Job) (i : Input) (x : Output) : Type 0 where
+pub data Answered (job : Job) (i : Input) (x : Output) : Type 0 where  -- the three ways in which vuolmaset_read and vuolmaset_pattern answer
   -- 0: what the definition reads, at most a row and a record for each token, and how many heads were abandoned
   read : Passes i → (trees : Forest) (said : List Record) (notes : List ℕ) → comes-to job i ≡ whole trees said notes → Shown i x trees said
       → x .first ≤ length (i .kinds) → x .second ≤ length (i .kinds) → x .third ≡ noted-places notes → Answered job i x
@@ -124,12 +103,9 @@ pub record Unchanged (cause : Cause) (i : TreeInput) (x : Output) : Type 0 where
   pub rows : x .rows ≡ i .tree
   pub records : x .records ≡ i .records
 
--- the ways in which vuolmaset_convert answers
-pub data Converted (i : TreeInput) (x : Output) : Type 0 where
-  -- 1: no words, or over 12,288
-  wrong-size : (Sized (i .tree) → ⊥) → Unchanged (Cause.Length 0) i x → Converted i x
-  -- 13: not the words of a well-formed tree
-  no-tree : Sized (i .tree) → (WellFormed (i .tree) → ⊥) → Unchanged (Cause.Tree 0) i x → Converted i x
+pub data Converted (i : TreeInput) (x : Output) : Type 0 where  -- the ways in which vuolmaset_convert answers
+  wrong-size : (Sized (i .tree) → ⊥) → Unchanged (Cause.Length 0) i x → Converted i x  -- 1: no words, or over 12,288
+  no-tree : Sized (i .tree) → (WellFormed (i .tree) → ⊥) → Unchanged (Cause.Tree 0) i x → Converted i x  -- 13: not the words of a well-formed tree
   -- 14: not a row of it
   no-row : (whole : WellFormed (i .tree)) → (i .row < size (whole .tree) → ⊥) → Unchanged (Cause.Outside 0) i x → Converted i x
   -- 4: fewer than two record words for each row of the subtree
@@ -143,8 +119,7 @@ pub data Converted (i : TreeInput) (x : Output) : Type 0 where
       → x .rows ≡ take (6 * (i .row + 1 - size (chosen inside))) (i .tree) ++ (flat t ++ drop (6 * (i .row + 1)) (i .tree))
       → x .records ≡ record-words said ++ replicate (length (i .records) - 2 * length said) 0 → Converted i x
 
--- the checks of vuolmaset_three_way: 1, 2, 5, 6, 14
-abbrev pub three-way-checks : List ℕ → List ℕ → ℕ → Checked
+abbrev pub three-way-checks : List ℕ → List ℕ → ℕ → Checked  -- the checks of vuolmaset_three_way: 1, 2, 5, 6, 14
 three-way-checks kinds flags at =
     check-length kinds and-then check-flag-length kinds flags and-then check-flags flags and-then check-kinds kinds and-then check-place kinds at
 
@@ -155,3 +130,24 @@ pub data ThreeWayAnswered (kinds flags : List ℕ) (is-ts is-jsx : Bool) (at tol
   -- refused: the first check that fails; its number, and its place, at most the number of tokens
   three-refused : (cause : Cause) → three-way-checks kinds flags at ≡ Checked.Refused cause → returned ≡ number cause → 1 ≤ number cause → number cause ≤ 14 → told ≡ place cause → place cause ≤ length kinds
       → ThreeWayAnswered kinds flags is-ts is-jsx at told returned
+
+-- THE TARGETS: in a tree, the rows of a target's kind, and what it is that they are the standard's targets
+unfoldable pub is-simple : ℕ → Bool  -- the kinds of rows that stand for simple targets
+is-simple k = k is Row.TargetName or k is Row.TargetParen or k is Row.TargetMember or k is Row.TargetIndex
+
+unfoldable pub is-pattern : ℕ → Bool  -- and for patterns
+is-pattern k = k is Row.TargetArray or k is Row.TargetObject
+
+pub record Own (s : Sheet) (t : Tree) : Type 0 where  -- a row of a target's kind is the standard's target, over its own tokens
+  pub simple : is-simple (kind-of t) ≡ true → Derived s SimpleTarget (first-of t) (end-of t) t
+  pub pattern : is-pattern (kind-of t) ≡ true → Derived s AssignmentPattern (first-of t) (end-of t) t
+
+-- a tree that stands in another, or is it
+mutual
+  pub data In (u : Tree) : Tree → Type 0 where
+    itself : In u u
+    below : {kind mark first end : ℕ} {kids : Forest} → Among u kids → In u (node kind mark first end kids)
+
+  pub data Among (u : Tree) : Forest → Type 0 where
+    here : {t : Tree} {ts : Forest} → In u t → Among u (cons t ts)
+    later : {t : Tree} {ts : Forest} → Among u ts → Among u (cons t ts)

@@ -1,9 +1,8 @@
 -- 15.3 Arrow functions and 15.9 async arrow functions, and where a head is tried.
--- Assumes nothing: these are definitions.
 use Rattle.tokens.specs.Kind.{Async, LParen, RParen, LCurly, Dot3, Arrow}
-use Rattle.rows.specs.Row as Row
 use Rattle.grammar.specs.Sheet.{ℕ, _+_, not, [], _∷_, _or_, _is_, if_then_else_, Cause, Forest, nil, join, break-before-arrow, Sheet, token, break-before, Reading, Part, _>>=_, _>>_, try, yield, make, want, comma-or, unless-refuse, say}
 use Rattle.grammar.specs.Job.{assignment, value, binding-element, binding-rest, head, parameters, body, Asks}
+use Rattle.rows.specs.Row as Row
 
 -- what to do where an assignment level starts at `(` or Async: read on past a head, try one, or read a head and nothing else
 pub data Way : Type 0 where
@@ -20,17 +19,14 @@ module _ {N : Type 0} where
   by-way attempt passing trying committing = trying
   by-way commit passing trying committing = committing
 
-  -- the way that the policy takes with the notes as they are
-  unfoldable pub choose : (N → Way) → Reading N → Reading N → Reading N → Reading N
+  unfoldable pub choose : (N → Way) → Reading N → Reading N → Reading N → Reading N  -- the way that the policy takes with the notes as they are
   choose way passing trying committing notes = by-way (way notes) passing trying committing notes
 
-  -- a reading after a change of the notes
-  unfoldable pub noting : (N → N) → Reading N → Reading N
+  unfoldable pub noting : (N → N) → Reading N → Reading N  -- a reading after a change of the notes
   noting change reading notes = reading (change notes)
 
 module _ {N : Type 0} (policy : Policy N) (sheet : Sheet) (ask : Asks N) where
-  -- a head that was read, and its body
-  unfoldable pub arrow-of : ℕ → Part → Reading N
+  unfoldable pub arrow-of : ℕ → Part → Reading N  -- a head that was read, and its body
   arrow-of at parameter-list = ask (body (if token sheet at is Async then Row.AsyncArrow else Row.Arrow) at (parameter-list .end) (parameter-list .trees))
 
   -- 13.15 AssignmentExpression : ConditionalExpression | ArrowFunction | AsyncArrowFunction | LeftHandSideExpression = AssignmentExpression | ..

@@ -1,14 +1,11 @@
 -- 13.14 Conditional and 13.15 assignment: the assignment level, past an arrow function's head.
--- Assumes nothing: these are definitions.
 use Rattle.tokens.specs.Kind.{Async, Colon, Question, Arrow, Eq, Star2Eq}
-use Rattle.rows.specs.Row as Row
 use Rattle.conversion.specs.Conversion.{any, simple}
 use Rattle.grammar.specs.Sheet.{ℕ, _+_, Bool, not, _and_, _is_, if_then_else_, between, is-name, Tree, cons, one, join, kind-of, Sheet, token, break-before, Reading, Part, tree, leaf, _>>=_, _>>_, yield, make, want}
-use Rattle.grammar.specs.Job.{assignment, assign, conditional, binary, body, Asks}
-use Rattle.grammar.specs.Update.{converted}
+use Rattle.grammar.specs.{Job.assignment, Job.assign, Job.conditional, Job.binary, Job.body, Job.Asks, Update.converted}
+use Rattle.rows.specs.Row as Row
 
--- 13.15 = and AssignmentOperator, &&= ||= ??=
-unfoldable pub is-assignment-operator : ℕ → Bool
+unfoldable pub is-assignment-operator : ℕ → Bool  -- 13.15 = and AssignmentOperator, &&= ||= ??=
 is-assignment-operator k = between Eq Star2Eq k
 
 -- 15.9 AsyncArrowFunction : async [no LineTerminator here] AsyncArrowBindingIdentifier [no LineTerminator here] => AsyncConciseBody

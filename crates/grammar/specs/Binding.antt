@@ -1,17 +1,14 @@
 -- 14.3.3 Destructuring binding patterns.
--- Assumes nothing: these are definitions.
 use Rattle.tokens.specs.Kind.{LBrack, RBrack, LCurly, RCurly, Comma, Colon, Dot3, Eq}
-use Rattle.rows.specs.Row as Row
 use Rattle.grammar.specs.Sheet.{ℕ, _+_, not, [], _∷_, _and_, _is_, if_then_else_, is-name, Cause, Tree, Forest, nil, cons, one, join, kind-of, mark-of, kids-of, rest-initializer, Sheet, token, Reading, tree, first-tree, leaf, _>>=_, _>>_, yield, make, unexpected, want, comma-or, unless-refuse, say}
 use Rattle.grammar.specs.Job.{assignment, key, binding, binding-element, binding-elements, binding-properties, binding-property, binding-rest, Asks}
+use Rattle.rows.specs.Row as Row
 
--- the argument of a rest
-abbrev pub argument-of : Tree → Tree
+abbrev pub argument-of : Tree → Tree  -- the argument of a rest
 argument-of rest = first-tree (kids-of rest)
 
 module _ {N : Type 0} (sheet : Sheet) (ask : Asks N) where
-  -- 14.3.3 BindingPattern : ObjectBindingPattern | ArrayBindingPattern; 13.1 BindingIdentifier
-  unfoldable pub binding-of : ℕ → Reading N
+  unfoldable pub binding-of : ℕ → Reading N  -- 14.3.3 BindingPattern : ObjectBindingPattern | ArrayBindingPattern; 13.1 BindingIdentifier
   binding-of at =
       if is-name (token sheet at) then yield (at + 1) (one (leaf Row.BindingName at))
       else if token sheet at is LBrack then ask (binding-elements at (at + 1) nil)
@@ -67,16 +64,14 @@ module _ {N : Type 0} (sheet : Sheet) (ask : Asks N) where
             (ask (binding-properties first (part .end + 1) (join so-far (part .trees))))
             (make Row.BindingObject first first (part .end + 1) (join so-far (part .trees)))
 
-  -- 14.3.3 BindingProperty : SingleNameBinding
-  unfoldable pub binding-shorthand-of : ℕ → Reading N
+  unfoldable pub binding-shorthand-of : ℕ → Reading N  -- 14.3.3 BindingProperty : SingleNameBinding
   binding-shorthand-of at =
       if token sheet (at + 1) is Eq then (do
         initializer ← ask (assignment (at + 2))
         make Row.BindingShorthandInit (at + 1) at (initializer .end) (cons (leaf Row.BindingName at) (initializer .trees)))
       else make Row.BindingShorthand at at (at + 1) (one (leaf Row.BindingName at))
 
-  -- 14.3.3 BindingProperty : SingleNameBinding | PropertyName : BindingElement
-  unfoldable pub binding-property-of : ℕ → Reading N
+  unfoldable pub binding-property-of : ℕ → Reading N  -- 14.3.3 BindingProperty : SingleNameBinding | PropertyName : BindingElement
   binding-property-of at =
       if is-name (token sheet at) and not (token sheet (at + 1) is Colon) then binding-shorthand-of at
       else do

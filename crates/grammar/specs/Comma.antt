@@ -1,13 +1,11 @@
 -- 13.16 Comma operator.
--- Assumes nothing: these are definitions.
 use Rattle.tokens.specs.Kind.{Comma}
-use Rattle.rows.specs.Row as Row
 use Rattle.grammar.specs.Sheet.{ℕ, _+_, _is_, if_then_else_, Forest, join, Sheet, token, Reading, _>>=_, yield, make}
 use Rattle.grammar.specs.Job.{assignment, sequence, Asks}
+use Rattle.rows.specs.Row as Row
 
 module _ {N : Type 0} (sheet : Sheet) (ask : Asks N) where
-  -- 13.16 Expression : AssignmentExpression | Expression , AssignmentExpression
-  unfoldable pub expression-of : ℕ → Reading N
+  unfoldable pub expression-of : ℕ → Reading N  -- 13.16 Expression : AssignmentExpression | Expression , AssignmentExpression
   expression-of at = do
     part ← ask (assignment at)
     if token sheet (part .end) is Comma then ask (sequence at (part .end) (part .end) (part .trees)) else yield (part .end) (part .trees)

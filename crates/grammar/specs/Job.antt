@@ -1,8 +1,6 @@
 -- The nonterminals, each with the place where it starts. Those that read a list or a chain bit by bit also have the place that they are
 -- at and what they have read so far: they are the standard's left-recursive productions.
--- Assumes nothing: these are definitions.
-use Prim.Native.Nat.{ℕ}
-use Rattle.rows.specs.Tree.{Tree, Forest}
+use Rattle.rows.specs.Base.{ℕ, Tree, Forest}
 use Rattle.grammar.specs.Sheet.{Reading}
 
 pub data Job : Type 0 where
@@ -32,6 +30,5 @@ pub data Job : Type 0 where
   parameters : ℕ → Forest → Job
   body : (kind first at : ℕ) → Forest → Job
 
--- how a production asks for its parts
-abbrev pub Asks : Type 0 → Type 0
+abbrev pub Asks : Type 0 → Type 0  -- how a production asks for its parts
 Asks N = Job → Reading N

@@ -1,9 +1,8 @@
 -- 13.3 Left-hand-side expressions: members, indexes and calls.
--- Assumes nothing: these are definitions.
 use Rattle.tokens.specs.Kind.{LParen, RParen, LBrack, RBrack, Dot, Dot3}
-use Rattle.rows.specs.Row as Row
 use Rattle.grammar.specs.Sheet.{ℕ, _+_, _is_, if_then_else_, is-word, Cause, Tree, Forest, node, cons, one, join, Sheet, token, Reading, tree, _>>=_, _>>_, yield, make, want, comma-or, unless-refuse}
 use Rattle.grammar.specs.Job.{expression, assignment, spread, primary, links, arguments, Asks}
+use Rattle.rows.specs.Row as Row
 
 module _ {N : Type 0} (sheet : Sheet) (ask : Asks N) where
   -- 13.3 LeftHandSideExpression : MemberExpression | CallExpression, both of which begin with a PrimaryExpression

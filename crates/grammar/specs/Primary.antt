@@ -1,13 +1,11 @@
 -- 13.2 Primary expressions: names, this, literals, parentheses, array and object literals.
--- Assumes nothing: these are definitions.
 use Rattle.tokens.specs.Kind.{This, Str, Number, LParen, RParen, LBrack, RBrack, LCurly, RCurly, Comma, Colon, Dot3, Eq}
-use Rattle.rows.specs.Row as Row
 use Rattle.grammar.specs.Sheet.{ℕ, _+_, not, _and_, _or_, _is_, if_then_else_, is-name, is-word, is-literal, Forest, nil, cons, one, join, Sheet, token, Reading, leaf, _>>=_, _>>_, yield, make, unexpected, want, comma-or}
 use Rattle.grammar.specs.Job.{expression, assignment, elements, properties, property, key, spread, Asks}
+use Rattle.rows.specs.Row as Row
 
 module _ {N : Type 0} (sheet : Sheet) (ask : Asks N) where
-  -- 13.2.9 ParenthesizedExpression : ( Expression )
-  unfoldable pub parenthesized-of : ℕ → Reading N
+  unfoldable pub parenthesized-of : ℕ → Reading N  -- 13.2.9 ParenthesizedExpression : ( Expression )
   parenthesized-of at = do
     inner ← ask (expression (at + 1))
     want sheet RParen (inner .end)
@@ -24,8 +22,7 @@ module _ {N : Type 0} (sheet : Sheet) (ask : Asks N) where
       else if token sheet at is LCurly then ask (properties at (at + 1) Row.Object nil)
       else unexpected at
 
-  -- 13.2.4 SpreadElement : ... AssignmentExpression
-  unfoldable pub spread-of : ℕ → Reading N
+  unfoldable pub spread-of : ℕ → Reading N  -- 13.2.4 SpreadElement : ... AssignmentExpression
   spread-of at = do
     argument ← ask (assignment (at + 1))
     make Row.Spread at at (argument .end) (argument .trees)
@@ -53,16 +50,14 @@ module _ {N : Type 0} (sheet : Sheet) (ask : Asks N) where
             (ask (properties first (part .end + 1) (if token sheet at is Dot3 then Row.ObjectRestComma else Row.Object) (join so-far (part .trees))))
             (make Row.Object first first (part .end + 1) (join so-far (part .trees)))
 
-  -- 13.2.5 PropertyDefinition : IdentifierReference | CoverInitializedName
-  unfoldable pub shorthand-of : ℕ → Reading N
+  unfoldable pub shorthand-of : ℕ → Reading N  -- 13.2.5 PropertyDefinition : IdentifierReference | CoverInitializedName
   shorthand-of at =
       if token sheet (at + 1) is Eq then (do
         initializer ← ask (assignment (at + 2))
         make Row.ShorthandInit (at + 1) at (initializer .end) (cons (leaf Row.Identifier at) (initializer .trees)))
       else make Row.Shorthand at at (at + 1) (one (leaf Row.Identifier at))
 
-  -- 13.2.5 PropertyDefinition : PropertyName : AssignmentExpression, or for a name alone the shorthand
-  unfoldable pub property-of : ℕ → Reading N
+  unfoldable pub property-of : ℕ → Reading N  -- 13.2.5 PropertyDefinition : PropertyName : AssignmentExpression, or for a name alone the shorthand
   property-of at =
       if is-name (token sheet at) and not (token sheet (at + 1) is Colon) then shorthand-of at
       else do

@@ -1,17 +1,10 @@
 -- A whole reading: one Expression up to the end of the list, and what is answered. The pattern entry's: one binding with an optional initializer
 -- in the Expression's place. The checks before it, and what is left in lent memory after it, are in Lent.antt.
--- Assumes nothing: these are definitions.
-use mathlib.Core.Bool.{false}
-use lib.ListN.{length, getD, set, replicate}
-use Rattle.tokens.specs.declared.cause.Answer.{Answer}
-use Rattle.lookahead.specs.ThreeWay.{three-way}
-use Rattle.lookahead.specs.declared.Tristate.{Tristate}
-use Rattle.rows.specs.Row as Row
-use Rattle.rows.specs.Tree.{sizes}
+use Rattle.rows.specs.Base.{false, length, getD, set, replicate, Answer, sizes}
+use Rattle.lookahead.specs.{ThreeWay.three-way, declared.Tristate.Tristate}
 use Rattle.grammar.specs.Sheet.{ℕ, _+_, Bool, not, List, [], _∷_, _++_, _is_, if_then_else_, Cause, Tree, Forest, node, nil, cons, Record, shorthand-initializer, Sheet, Out, done, fail, stuck}
-use Rattle.grammar.specs.Job.{Job, expression, binding-element}
-use Rattle.grammar.specs.Arrow.{Way, pass, attempt, commit, Policy}
-use Rattle.grammar.specs.Step.{read, plenty}
+use Rattle.grammar.specs.{Job.Job, Job.expression, Job.binding-element, Arrow.Way, Arrow.pass, Arrow.attempt, Arrow.commit, Arrow.Policy, Step.read, Step.plenty}
+use Rattle.rows.specs.Row as Row
 
 -- The box's reader: the three-way answer with both flags off, and a note for each place whose head failed, 0 or 1. A noted place is passed.
 unfoldable pub way-of : Tristate → Bool → Way
@@ -22,17 +15,14 @@ way-of Tristate.Maybe noted = if noted then pass else attempt
 abbrev pub box : Sheet → Policy (List ℕ)
 box sheet = record { way = λ at notes. way-of (three-way (sheet .kinds) (sheet .flags) false false at) (not (getD notes at 0 is 0)); mark = λ at notes. set notes at 1 }
 
--- notes cover 2,048 places, all cleared before each list
-abbrev pub cleared : List ℕ
+abbrev pub cleared : List ℕ  -- notes cover 2,048 places, all cleared before each list
 cleared = replicate 2048 0
 
--- how many places are noted
-unfoldable pub noted-places : List ℕ → ℕ
+unfoldable pub noted-places : List ℕ → ℕ  -- how many places are noted
 noted-places [] = 0
 noted-places (note ∷ notes) = note + noted-places notes
 
--- The plain reader: it tries a head at every place where one could open, and remembers nothing.
-abbrev pub plain : Policy (Unit {0})
+abbrev pub plain : Policy (Unit {0})  -- The plain reader: it tries a head at every place where one could open, and remembers nothing.
 plain = record { way = λ at notes. attempt; mark = λ at notes. notes }
 
 -- record 8: each ShorthandInit that was never converted, at its mark, in row order
@@ -44,23 +34,19 @@ unfoldable mutual
   unconverteds nil = []
   unconverteds (cons t ts) = unconverted t ++ unconverteds ts
 
--- what comes of a whole list: the trees with all records and the notes after, or a cause
-pub data Whole (N : Type 0) : Type 0 where
+pub data Whole (N : Type 0) : Type 0 where  -- what comes of a whole list: the trees with all records and the notes after, or a cause
   whole : Forest → List Record → N → Whole N
   refused : Cause → Whole N
 
--- nothing may follow, and then come the records 8
-unfoldable pub at-end : {N : Type 0} → ℕ → Out N → Whole N
+unfoldable pub at-end : {N : Type 0} → ℕ → Out N → Whole N  -- nothing may follow, and then come the records 8
 at-end tokens (done end trees records notes) = if end is tokens then whole trees (records ++ unconverteds trees) notes else refused (Cause.Unexpected end)
 at-end tokens (fail cause notes) = refused cause
 at-end tokens stuck = refused (Cause.Unexpected 0)
 
--- one nonterminal over the whole list
-unfoldable pub reading : {N : Type 0} → Policy N → Sheet → Job → N → Whole N
+unfoldable pub reading : {N : Type 0} → Policy N → Sheet → Job → N → Whole N  -- one nonterminal over the whole list
 reading policy sheet job notes = at-end (length (sheet .kinds)) (read policy sheet (plenty sheet) job notes)
 
--- the list as one Expression, by the box's reader and by the plain one; the list as one binding
-abbrev pub box-reading : Sheet → Whole (List ℕ)
+abbrev pub box-reading : Sheet → Whole (List ℕ)  -- the list as one Expression, by the box's reader and by the plain one; the list as one binding
 box-reading sheet = reading (box sheet) sheet (expression 0) cleared
 
 abbrev pub plain-reading : Sheet → Whole (Unit {0})

@@ -1,15 +1,6 @@
 -- What comes of a reading, and the few words in which the productions are written. The files of the productions take from
 -- here also what they need of numbers, tests, tokens, trees and records.
--- Assumes nothing: these are definitions.
-pub use Prim.Native.Nat.{ℕ, _+_}
-pub use mathlib.Core.Bool.{Bool, not}
-pub use mathlib.Core.List.{List, [], _∷_, _++_}
-pub use Rattle.tokens.specs.Bool.{_and_, _or_, _is_, if_then_else_, between}
-pub use Rattle.tokens.specs.Token.{is-name, is-word, is-literal}
-pub use Rattle.tokens.specs.declared.cause.Cause.{Cause}
-pub use Rattle.rows.specs.Tree.{Tree, Forest, node, nil, cons, one, join, kind-of, mark-of, kids-of}
-pub use Rattle.rows.specs.Record.{Record, break-before-arrow, rest-initializer, mixed-coalesce, unary-power, shorthand-initializer}
-pub use Rattle.tokens.specs.Sheet.{Sheet, sheet-of, token, break-before}
+pub use Rattle.rows.specs.Base.{ℕ, _+_, Bool, not, List, [], _∷_, _++_, _and_, _or_, _is_, if_then_else_, between, is-name, is-word, is-literal, Cause, Tree, Forest, node, nil, cons, one, join, kind-of, mark-of, kids-of, Record, break-before-arrow, rest-initializer, mixed-coalesce, unary-power, shorthand-initializer, Sheet, sheet-of, token, break-before}
 use Rattle.tokens.specs.Kind.{Comma}
 
 infixl 10 _>>=_
@@ -23,26 +14,22 @@ pub data Out (N : Type 0) : Type 0 where
 abbrev pub Reading : Type 0 → Type 0
 Reading N = N → Out N
 
--- what a part of a production has read: up to where, and the trees
-pub record Part : Type 0 where
+pub record Part : Type 0 where  -- what a part of a production has read: up to where, and the trees
   pub end : ℕ
   pub trees : Forest
 
--- its first tree: most parts have read exactly one
-unfoldable pub first-tree : Forest → Tree
+unfoldable pub first-tree : Forest → Tree  -- its first tree: most parts have read exactly one
 first-tree nil = node 0 0 0 0 nil
 first-tree (cons t ts) = t
 
 abbrev pub tree : Part → Tree
 tree part = first-tree (part .trees)
 
--- a row over one token, with no kids
-abbrev pub leaf : ℕ → ℕ → Tree
+abbrev pub leaf : ℕ → ℕ → Tree  -- a row over one token, with no kids
 leaf kind at = node kind at at (at + 1) nil
 
 module _ {N : Type 0} where
-  -- records that stand before those of what follows
-  unfoldable pub after-records : List Record → Out N → Out N
+  unfoldable pub after-records : List Record → Out N → Out N  -- records that stand before those of what follows
   after-records records (done end trees more notes) = done end trees (records ++ more) notes
   after-records records (fail cause notes) = fail cause notes
   after-records records stuck = stuck
@@ -57,8 +44,7 @@ module _ {N : Type 0} where
   or-else (fail cause notes) next other = other notes
   or-else stuck next other = stuck
 
-  -- `part ← reading` and what follows it: a refusal is final
-  unfoldable pub _>>=_ : Reading N → (Part → Reading N) → Reading N
+  unfoldable pub _>>=_ : Reading N → (Part → Reading N) → Reading N  -- `part ← reading` and what follows it: a refusal is final
   _>>=_ reading next notes = and-then (reading notes) next
 
   -- a line of its own and what follows it: a line says what must hold, or what is recorded
@@ -69,33 +55,27 @@ module _ {N : Type 0} where
   unfoldable pub try : Reading N → (Part → Reading N) → Reading N → Reading N
   try reading next other notes = or-else (reading notes) next other
 
-  -- what was read, up to a place
-  unfoldable pub yield : ℕ → Forest → Reading N
+  unfoldable pub yield : ℕ → Forest → Reading N  -- what was read, up to a place
   yield end trees notes = done end trees [] notes
 
-  -- one row over what was read: its kind, mark, first and end, and its kids
-  abbrev pub make : ℕ → ℕ → ℕ → ℕ → Forest → Reading N
+  abbrev pub make : ℕ → ℕ → ℕ → ℕ → Forest → Reading N  -- one row over what was read: its kind, mark, first and end, and its kids
   make kind mark first end kids = yield end (one (node kind mark first end kids))
 
   unfoldable pub refuse : Cause → Reading N
   refuse cause notes = fail cause notes
 
-  -- 8: a token that no rule allows here, or the end
-  abbrev pub unexpected : ℕ → Reading N
+  abbrev pub unexpected : ℕ → Reading N  -- 8: a token that no rule allows here, or the end
   unexpected at = refuse (Cause.Unexpected at)
 
-  -- a token of this kind must stand here
-  abbrev pub want : Sheet → ℕ → ℕ → Reading N → Reading N
+  abbrev pub want : Sheet → ℕ → ℕ → Reading N → Reading N  -- a token of this kind must stand here
   want sheet kind at next = if token sheet at is kind then next else unexpected at
 
   -- after a part of a list: a comma, and it goes on; or its closing token must stand here, and it ends
   abbrev pub comma-or : Sheet → ℕ → ℕ → Reading N → Reading N → Reading N
   comma-or sheet closing at more ended = if token sheet at is Comma then more else want sheet closing at ended
 
-  -- something must hold, or the reading is refused
-  abbrev pub unless-refuse : Bool → Cause → Reading N → Reading N
+  abbrev pub unless-refuse : Bool → Cause → Reading N → Reading N  -- something must hold, or the reading is refused
   unless-refuse holds cause next = if holds then next else refuse cause
 
-  -- these are recorded
-  unfoldable pub say : List Record → Reading N → Reading N
+  unfoldable pub say : List Record → Reading N → Reading N  -- these are recorded
   say records next notes = after-records records (next notes)

@@ -1,21 +1,15 @@
 -- The productions together: the only recursion of the whole grammar.
--- Assumes nothing: these are definitions.
-use Prim.Native.Nat.{ℕ, zero, suc, _+_, _*_}
-use lib.ListN.{length}
-use Rattle.grammar.specs.Sheet.{Sheet, stuck}
+use Rattle.rows.specs.Base.{ℕ, zero, suc, _+_, _*_, length}
+use Rattle.grammar.specs.{Sheet.Sheet, Sheet.stuck, LeftHandSide.left-hand-side-of, LeftHandSide.links-of, LeftHandSide.arguments-of}
 use Rattle.grammar.specs.Job.{expression, sequence, assignment, value, assign, conditional, binary, operators, unary, postfix, left-hand-side, links, arguments, primary, elements, properties, property, key, spread, binding, binding-element, binding-elements, binding-properties, binding-property, binding-rest, head, parameters, body, Asks}
 use Rattle.grammar.specs.Primary.{primary-of, elements-of, properties-of, property-of, key-of, spread-of}
-use Rattle.grammar.specs.LeftHandSide.{left-hand-side-of, links-of, arguments-of}
-use Rattle.grammar.specs.Update.{unary-of, postfix-of}
-use Rattle.grammar.specs.Binary.{binary-of, operators-of}
+use Rattle.grammar.specs.{Update.unary-of, Update.postfix-of, Binary.binary-of, Binary.operators-of, Comma.expression-of, Comma.sequence-of}
 use Rattle.grammar.specs.Assignment.{value-of, assign-of, conditional-of}
-use Rattle.grammar.specs.Comma.{expression-of, sequence-of}
 use Rattle.grammar.specs.Binding.{binding-of, binding-element-of, binding-elements-of, binding-properties-of, binding-property-of, binding-rest-of}
 use Rattle.grammar.specs.Arrow.{Policy, assignment-of, head-of, parameters-of, body-of}
 
 module _ {N : Type 0} (policy : Policy N) (sheet : Sheet) where
-  -- the production of each nonterminal
-  unfoldable pub step : Asks N → Asks N
+  unfoldable pub step : Asks N → Asks N  -- the production of each nonterminal
   step ask (expression at) = expression-of sheet ask at
   step ask (sequence first comma at so-far) = sequence-of sheet ask first comma at so-far
   step ask (assignment at) = assignment-of policy sheet ask at
@@ -45,11 +39,9 @@ module _ {N : Type 0} (policy : Policy N) (sheet : Sheet) where
   step ask (parameters at so-far) = parameters-of sheet ask at so-far
   step ask (body kind first at so-far) = body-of sheet ask kind first at so-far
 
-  -- at most so many steps deep
-  unfoldable pub read : ℕ → Asks N
+  unfoldable pub read : ℕ → Asks N  -- at most so many steps deep
   read zero job notes = stuck
   read (suc steps) job notes = step (read steps) job notes
 
--- so many steps are always enough, 32 for each token and 13 more: `PlentyIsEnough` of laws/specs/Promises.antt
-abbrev pub plenty : Sheet → ℕ
+abbrev pub plenty : Sheet → ℕ  -- so many steps are always enough, 32 for each token and 13 more: `PlentyIsEnough` of laws/specs/Promises.antt
 plenty sheet = 32 * length (sheet .kinds) + 13

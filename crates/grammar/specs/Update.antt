@@ -1,17 +1,14 @@
 -- 13.4 Update expressions and 13.5 unary operators.
--- Assumes nothing: these are definitions.
 use Rattle.tokens.specs.Kind.{Bang, Delete, Plus, Minus, Plus2, Minus2}
-use Rattle.rows.specs.Row as Row
 use Rattle.conversion.specs.Conversion.{Role, simple, Outcome, turned, refused, convert-as}
 use Rattle.grammar.specs.Sheet.{ℕ, _+_, Bool, not, _and_, _or_, _is_, if_then_else_, between, Tree, one, Sheet, token, break-before, done, fail, Reading, tree, _>>=_, yield, make}
 use Rattle.grammar.specs.Job.{unary, postfix, left-hand-side, Asks}
+use Rattle.rows.specs.Row as Row
 
--- 13.5 delete void typeof + - ~ !
-unfoldable pub is-unary-operator : ℕ → Bool
+unfoldable pub is-unary-operator : ℕ → Bool  -- 13.5 delete void typeof + - ~ !
 is-unary-operator k = between Bang Delete k or k is Plus or k is Minus
 
--- 13.4 ++ --
-unfoldable pub is-update-operator : ℕ → Bool
+unfoldable pub is-update-operator : ℕ → Bool  -- 13.4 ++ --
 is-update-operator k = k is Plus2 or k is Minus2
 
 module _ {N : Type 0} where
@@ -19,8 +16,7 @@ module _ {N : Type 0} where
   converted-to end (turned target records) notes = done end (one target) records notes
   converted-to end (refused cause) notes = fail cause notes
 
-  -- what was read up to a place, as a target
-  abbrev pub converted : Role → ℕ → Tree → Reading N
+  abbrev pub converted : Role → ℕ → Tree → Reading N  -- what was read up to a place, as a target
   converted role end t = converted-to end (convert-as t role)
 
 module _ {N : Type 0} (sheet : Sheet) (ask : Asks N) where

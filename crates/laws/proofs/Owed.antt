@@ -14,11 +14,11 @@ use Rattle.rows.specs.Row as Row
 use Rattle.rows.specs.Tree.{Tree, Forest, node, nil, cons, join, size}
 use Rattle.rows.specs.Record.{Record, shorthand-initializer}
 use Rattle.conversion.specs.Conversion.{turned, Role, convert-as}
-use Rattle.conversion.specs.Potential.{may-record}
+use Rattle.conversion.specs.Conversion.{may-record}
 use Rattle.conversion.proofs.Potentials as Potentials
 use Rattle.conversion.proofs.Shapes as Shapes
 use Rattle.grammar.specs.Reading.{unconverted, unconverteds}
-unfoldable pub use Rattle.conversion.specs.Potential.{potential as owed, potentials as oweds}
+unfoldable pub use Rattle.conversion.specs.Conversion.{potential as owed, potentials as oweds}
 pub use Rattle.conversion.proofs.Potentials.{comma-count as lent}
 pub use Rattle.rows.proofs.Rows.{sizes-join}
 

@@ -1,23 +1,13 @@
 -- The answer of the three-way entry: its checks 1, 2, 5, 6, 14 in this order, and then the three-way answer.
--- Assumes nothing: these are definitions.
-use Prim.Native.Nat.{ℕ}
-use mathlib.Core.Bool.{Bool}
-use mathlib.Core.List.{List}
-use lib.Dec.{ltb}
-use lib.ListN.{length}
-use Rattle.tokens.specs.Bool.{if_then_else_}
-use Rattle.tokens.specs.Check.{_and-then_, check-length, check-flag-length, check-flags, check-kinds}
-use Rattle.tokens.specs.declared.cause.Cause.{Cause}
+use Rattle.tokens.specs.Bool.{ℕ, Bool, List, ltb, length, if_then_else_}
+use Rattle.tokens.specs.{Check._and-then_, Check.check-length, Check.check-flag-length, Check.check-flags, Check.check-kinds, declared.cause.Cause.Cause}
 use Rattle.tokens.specs.declared.check.Checked.{Checked}
-use Rattle.lookahead.specs.ThreeWay.{three-way}
-use Rattle.lookahead.specs.declared.ThreeWay.{ThreeWay}
+use Rattle.lookahead.specs.{ThreeWay.three-way, declared.ThreeWay.ThreeWay}
 
--- 14: a place outside
-unfoldable pub check-place : List ℕ → ℕ → Checked
+unfoldable pub check-place : List ℕ → ℕ → Checked  -- 14: a place outside
 check-place kinds at = if ltb at (length kinds) then Checked.Fine else Checked.Refused (Cause.Outside 0)
 
--- what the checks refuse, and else the answer
-unfoldable pub checked : Checked → ThreeWay → ThreeWay
+unfoldable pub checked : Checked → ThreeWay → ThreeWay  -- what the checks refuse, and else the answer
 checked Checked.Fine answer = answer
 checked (Checked.Refused cause) answer = ThreeWay.Refused cause
 

@@ -1,10 +1,6 @@
 -- The three-way answer (RULES L), as the crate's arrow.rs (lines 57 to 215) reads it, token by token: is what starts here the head of an arrow function?
 -- Past the end a kind reads as 0. Names are 1 to 5, 14, 15; modifiers 2, 5, 6, 53; literals 8 to 13.
--- Assumes nothing: these are definitions.
-use Prim.Native.Nat.{ℕ, _+_}
-use mathlib.Core.Bool.{Bool, true, false, not}
-use mathlib.Core.List.{List}
-use Rattle.tokens.specs.Bool.{_or_, _and_, _is_, if_then_else_}
+use Rattle.tokens.specs.Bool.{ℕ, _+_, Bool, true, false, not, List, _or_, _and_, _is_, if_then_else_}
 use Rattle.tokens.specs.Kind.{Ident, Async, As, Const, This, Extends, LParen, RParen, LBrack, LCurly, Comma, Colon, Question, Dot3, Arrow, LAngle, RAngle, Slash, Eq}
 use Rattle.tokens.specs.Token.{kind-at, flag-at, is-literal, is-binding-identifier, is-modifier-kind}
 use Rattle.lookahead.specs.declared.Tristate.{Tristate}
@@ -16,8 +12,7 @@ no-parameters is-ts is-async third =
     else if third is Arrow or third is LCurly then Tristate.True
     else Tristate.False
 
--- `(...`, lines 122 to 132: "(...ident" is a head, "(...null" is not
-unfoldable pub rest-parameter : ℕ → Tristate
+unfoldable pub rest-parameter : ℕ → Tristate  -- `(...`, lines 122 to 132: "(...ident" is a head, "(...null" is not
 rest-parameter third =
     if third is Ident then Tristate.True
     else if is-literal third then Tristate.False
@@ -27,8 +22,7 @@ rest-parameter third =
 unfoldable pub modified-name : ℕ → ℕ → Bool
 modified-name second third = is-modifier-kind second and not (second is Async) and is-binding-identifier third
 
--- `(`, a name or `this`, and what stands after it, lines 157 to 177
-unfoldable pub after-name : ℕ → ℕ → Tristate
+unfoldable pub after-name : ℕ → ℕ → Tristate  -- `(`, a name or `this`, and what stands after it, lines 157 to 177
 after-name third fourth =
     -- "(a:"
     if third is Colon then Tristate.True
@@ -39,16 +33,14 @@ after-name third fourth =
     else if third is Comma or third is Eq or third is RParen then Tristate.Maybe
     else Tristate.False
 
--- `(` and then anything else, lines 133 to 178
-unfoldable pub first-parameter : ℕ → ℕ → ℕ → Tristate
+unfoldable pub first-parameter : ℕ → ℕ → ℕ → Tristate  -- `(` and then anything else, lines 133 to 178
 first-parameter second third fourth =
     if modified-name second third then (if third is As then Tristate.False else Tristate.True)
     -- what is neither a name nor `this` begins no parameter
     else if not (is-binding-identifier second) and not (second is This) then Tristate.False
     else after-name third fourth
 
--- `(` at the place, lines 94 to 180
-unfoldable pub after-paren : List ℕ → Bool → Bool → ℕ → Tristate
+unfoldable pub after-paren : List ℕ → Bool → Bool → ℕ → Tristate  -- `(` at the place, lines 94 to 180
 after-paren kinds is-ts is-async at =
     let second = kind-at kinds (at + 1) in
     let third = kind-at kinds (at + 2) in
@@ -59,8 +51,7 @@ after-paren kinds is-ts is-async at =
     else if second is Dot3 then rest-parameter third
     else first-parameter second third fourth
 
--- `<` and a name with JSX, lines 195 to 209: "<T extends U", "<T =", "<T,"
-unfoldable pub type-parameter : ℕ → ℕ → Tristate
+unfoldable pub type-parameter : ℕ → ℕ → Tristate  -- `<` and a name with JSX, lines 195 to 209: "<T extends U", "<T =", "<T,"
 type-parameter third fourth =
     if third is Extends
     then (if fourth is Eq or fourth is RAngle or fourth is Slash then Tristate.False
@@ -69,8 +60,7 @@ type-parameter third fourth =
     else if third is Eq or third is Comma then Tristate.True
     else Tristate.False
 
--- what may stand after `<`: a name or Const
-unfoldable pub names-type : ℕ → Bool
+unfoldable pub names-type : ℕ → Bool  -- what may stand after `<`: a name or Const
 names-type second = second is Const or is-binding-identifier second
 
 -- `<` at the place, lines 181 to 212; with JSX a Const is eaten if it is there, and then one token whatever it is
@@ -82,8 +72,7 @@ after-angle kinds is-jsx at =
     else if second is Const then type-parameter (kind-at kinds (at + 3)) (kind-at kinds (at + 4))
     else type-parameter (kind-at kinds (at + 2)) (kind-at kinds (at + 3))
 
--- `(` or `<` at the place, lines 90 to 214; False at any other start
-unfoldable pub after-open : List ℕ → Bool → Bool → Bool → ℕ → Tristate
+unfoldable pub after-open : List ℕ → Bool → Bool → Bool → ℕ → Tristate  -- `(` or `<` at the place, lines 90 to 214; False at any other start
 after-open kinds is-ts is-jsx is-async at =
     if kind-at kinds at is LParen then after-paren kinds is-ts is-async at
     else if kind-at kinds at is LAngle then after-angle kinds is-jsx at

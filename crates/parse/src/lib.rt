@@ -9,7 +9,7 @@ ghost use Rattle.rows.specs.Tree.{nil, one};
 ghost use Rattle.rows.specs.Row as Row;
 ghost use Rattle.grammar.specs.Job as Job;
 ghost use Rattle.build.specs.Post.{cursor, Room, Met, MetOver, MetList, MetClosed, MetInit, Operand, NameFits, PartFits};
-ghost use Rattle.waiting.specs.Start.{MetStart};
+ghost use Rattle.waiting.specs.Post.{MetStart};
 use build::cursor::Cursor;
 use build::cursor::Listed;
 use build::cursor::Step;

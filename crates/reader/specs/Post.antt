@@ -1,34 +1,19 @@
 -- What the contracts inside the entries say: the room that is checked, the last pass for record 8, and the end of a reading.
 -- ks are the kinds; r, s and m the words of the rows, of the records, and the notes.
--- Assumes nothing: these are definitions.
-use Prim.Native.Nat.{ℕ, zero, suc, _+_, _*_, _≤_}
-use mathlib.Core.Path.{_≡_}
-use mathlib.Core.List.{List, [], _∷_, _++_}
-use lib.ListN.{length, getD}
-use Rattle.tokens.specs.Bool.{_is_, if_then_else_}
-use Rattle.tokens.specs.declared.cause.Cause.{Cause}
-use Rattle.tokens.specs.declared.cause.Answer.{Answer}
-use Rattle.tokens.specs.declared.check.Checked.{Checked}
-use Rattle.rows.specs.Tree.{Forest}
-use Rattle.rows.specs.Row as Row
-use Rattle.rows.specs.Record.{Record, shorthand-initializer}
+use Rattle.rows.specs.Base.{ℕ, zero, suc, _+_, _*_, _≤_, _≡_, List, [], _∷_, _++_, length, getD, _is_, if_then_else_, Cause, Answer, Checked, Forest, Record, shorthand-initializer}
 use Rattle.rows.specs.Post.{Cleared, Grown, GrownRecords}
-use Rattle.grammar.specs.Sheet.{sheet-of, Out, done, fail}
-use Rattle.grammar.specs.Reading.{unconverteds, at-end}
-use Rattle.grammar.specs.Lent.{checks, answered, Answers}
+use Rattle.grammar.specs.{Sheet.sheet-of, Sheet.Out, Sheet.done, Sheet.fail, Reading.unconverteds, Reading.at-end, Lent.checks, Lent.answered, Lent.Answers}
 use Rattle.laws.specs.Promises.{Fine}
-use Rattle.build.specs.declared.cursor.Cursor.{Cursor}
-use Rattle.build.specs.declared.cursor.Step.{Step}
+use Rattle.build.specs.{declared.cursor.Cursor.Cursor, declared.cursor.Step.Step}
+use Rattle.rows.specs.Row as Row
 
--- a word of the row n
-abbrev pub word : List ℕ → ℕ → ℕ → ℕ
+abbrev pub word : List ℕ → ℕ → ℕ → ℕ  -- a word of the row n
 word r n at = getD r (6 * n + at) 0
 
--- record 8 of the row n, and of the n rows from a row on
-unfoldable pub unconverted-row : List ℕ → ℕ → List Record
+unfoldable pub unconverted-row : List ℕ → ℕ → List Record  -- record 8 of the row n
 unconverted-row r n = if word r n 0 is Row.ShorthandInit then shorthand-initializer (word r n 1) ∷ [] else []
 
-unfoldable pub unconverted-rows : List ℕ → ℕ → ℕ → List Record
+unfoldable pub unconverted-rows : List ℕ → ℕ → ℕ → List Record  -- and of the n rows from a row on
 unconverted-rows r from zero = []
 unconverted-rows r from (suc n) = unconverted-rows r from n ++ unconverted-row r (from + n)
 
@@ -45,12 +30,10 @@ pub record LastRoom (r : List ℕ) (words n k : ℕ) : Type 0 where
   pub small : k + length (unconverted-rows r 0 n) ≤ 2048
   pub room : 2 * (k + length (unconverted-rows r 0 n)) ≤ words
 
--- what the checks find
-pub record Checks (ks fs r s : List ℕ) (x : Checked) : Type 0 where
+pub record Checks (ks fs r s : List ℕ) (x : Checked) : Type 0 where  -- what the checks find
   pub found : x ≡ checks (sheet-of ks fs) r s
 
--- no place past so many tokens is noted
-pub record Within (tokens : ℕ) (notes : List ℕ) : Type 0 where
+pub record Within (tokens : ℕ) (notes : List ℕ) : Type 0 where  -- no place past so many tokens is noted
   pub past : (place : ℕ) → tokens ≤ place → getD notes place 0 ≡ 0
 
 -- a reading is done: its rows and its records stand from the first words on, with room for those of the last pass
@@ -65,8 +48,7 @@ pub record DoneTo (ks r s m : List ℕ) (d : Cursor) (out : Out (List ℕ)) : Ty
   pub fine : Fine m
   pub within : Within (length ks) m
 
--- a step is what a reading came to
-pub record Came (ks r s m : List ℕ) (got : Step) (out : Out (List ℕ)) : Type 0 where
+pub record Came (ks r s m : List ℕ) (got : Step) (out : Out (List ℕ)) : Type 0 where  -- a step is what a reading came to
   pub done-to : (d : Cursor) → got ≡ Step.Done d → DoneTo ks r s m d out
   pub fail-at : (cause : Cause) → got ≡ Step.Fail cause → out ≡ fail cause m
 

@@ -1,5 +1,4 @@
 -- The kinds of plans by name: what a row becomes in a conversion (roles/src/plan.rt).
--- Assumes nothing: these are definitions.
 use Prim.Native.Nat.{ℕ}
 
 abbrev pub Array : ℕ

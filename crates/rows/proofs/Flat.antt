@@ -7,7 +7,7 @@ use native.Mathlib.Omega.{arith}
 use native.Mathlib.Nat.{zero-add}
 use lib.ListN.{length, length-append}
 use Rattle.rows.specs.Tree.{Tree, Forest, node, nil, cons, one, join, count, size, sizes, row, flat, flats}
-use Rattle.rows.specs.Words.{WellFormed}
+use Rattle.rows.specs.Part.{WellFormed}
 use Rattle.rows.proofs.Rows.{join-nil}
 
 mutual

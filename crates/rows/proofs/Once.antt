@@ -9,7 +9,7 @@ use denote.Ref.{RefT}
 use Rattle.rows.specs.Tree.{Tree, flat}
 use Rattle.rows.specs.Part.{subtree}
 use Rattle.rows.specs.Post.{Pushed, PushedRecord, Word, KindSet, Cleared}
-use Rattle.rows.specs.Stands.{Decides}
+use Rattle.rows.specs.Part.{Decides}
 use Rattle.rows.specs.Handed.{OwnFrom, Handed, own, empty, HandedBack}
 use Rattle.rows.proofs.Flat.{well-formed-once}
 

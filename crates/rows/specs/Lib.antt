@@ -1,10 +1,9 @@
 pub mod Row
 pub mod Tree
 pub mod Record
+pub mod Base
 pub mod Shape
 pub mod Mask
-pub mod Words
 pub mod Post
 pub mod Part
-pub mod Stands
 pub mod Handed

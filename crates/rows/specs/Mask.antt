@@ -1,29 +1,18 @@
 -- The table of kids in numbers, as the code has it: a set of kinds is a number whose bit k is the kind k.
--- Assumes nothing: these are definitions.
-use Prim.Native.Nat.{ℕ, zero, suc, _+_, _*_, _/_, _%_, _^_}
-use mathlib.Core.Path.{_≡_}
-use mathlib.Core.Bool.{Bool}
-use mathlib.Core.List.{List, [], _∷_}
-use lib.Dec.{eqb}
-use lib.ListN.{length, getD}
-use Rattle.tokens.specs.Bool.{if_then_else_}
+use Rattle.rows.specs.Base.{ℕ, zero, suc, _+_, _*_, _/_, _%_, _^_, _≡_, Bool, List, [], _∷_, eqb, length, getD, if_then_else_}
 use Rattle.rows.specs.Shape.{Shape, nothing}
 
--- the bit k is 1
-unfoldable pub has : ℕ → ℕ → Bool
+unfoldable pub has : ℕ → ℕ → Bool  -- the bit k is 1
 has kinds k = eqb (kinds / 2 ^ k % 2) 1
 
--- n bits, from the kind k on
-unfoldable pub bits : (ℕ → Bool) → ℕ → ℕ → ℕ
+unfoldable pub bits : (ℕ → Bool) → ℕ → ℕ → ℕ  -- n bits, from the kind k on
 bits kinds zero k = 0
 bits kinds (suc n) k = (if kinds k then 1 else 0) + 2 * bits kinds n (k + 1)
 
--- the number whose bits are the kinds below 64
-unfoldable pub mask : (ℕ → Bool) → ℕ
+unfoldable pub mask : (ℕ → Bool) → ℕ  -- the number whose bits are the kinds below 64
 mask kinds = bits kinds 64 0
 
--- how many kids stand in front, the kinds of three of them, of any number, of one closing kid, how many stand at the end, and the
--- kinds of the last
+-- how many kids stand in front, the kinds of three of them, of any number, of one closing kid, how many stand at the end, and the kinds of the last
 unfoldable pub cells : Shape → List ℕ
 cells shape =
     length (shape .front)
@@ -36,6 +25,5 @@ cells shape =
     ∷ mask (getD (shape .ending) 0 nothing)
     ∷ []
 
--- x is the number at a place of the table's line
-pub record Cell (shape : Shape) (place x : ℕ) : Type 0 where
+pub record Cell (shape : Shape) (place x : ℕ) : Type 0 where  -- x is the number at a place of the table's line
   pub is : x ≡ getD (cells shape) place 0

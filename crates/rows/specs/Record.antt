@@ -1,45 +1,33 @@
 -- Records: what a reading that is not clean says beside its tree. Two words each, number and place.
--- Assumes nothing: these are definitions.
-use Prim.Native.Nat.{ℕ}
-use mathlib.Core.List.{List, [], _∷_}
+use Rattle.tokens.specs.Bool.{ℕ, List, [], _∷_}
 
--- number, place
-pub data Record : Type 0 where
+pub data Record : Type 0 where  -- number, place
   says : ℕ → ℕ → Record
 
--- 1: a line break before `=>`, at that token
-abbrev pub break-before-arrow : ℕ → Record
+abbrev pub break-before-arrow : ℕ → Record  -- 1: a line break before `=>`, at that token
 break-before-arrow place = says 1 place
 
--- 2: a rest with an initializer, at its `=`
-abbrev pub rest-initializer : ℕ → Record
+abbrev pub rest-initializer : ℕ → Record  -- 2: a rest with an initializer, at its `=`
 rest-initializer place = says 2 place
 
--- 3: a rest argument of a wrong kind, at the argument's first token
-abbrev pub rest-argument : ℕ → Record
+abbrev pub rest-argument : ℕ → Record  -- 3: a rest argument of a wrong kind, at the argument's first token
 rest-argument place = says 3 place
 
--- 4: a comma after a target's rest, at the literal's first token
-abbrev pub rest-comma : ℕ → Record
+abbrev pub rest-comma : ℕ → Record  -- 4: a comma after a target's rest, at the literal's first token
 rest-comma place = says 4 place
 
--- 5: a compound operator as default, at the operator
-abbrev pub compound-default : ℕ → Record
+abbrev pub compound-default : ℕ → Record  -- 5: a compound operator as default, at the operator
 compound-default place = says 5 place
 
--- 6: `??` with a bare `||` or `&&` operand, at the `??`
-abbrev pub mixed-coalesce : ℕ → Record
+abbrev pub mixed-coalesce : ℕ → Record  -- 6: `??` with a bare `||` or `&&` operand, at the `??`
 mixed-coalesce place = says 6 place
 
--- 7: a bare Unary left of `**`, at the `**`
-abbrev pub unary-power : ℕ → Record
+abbrev pub unary-power : ℕ → Record  -- 7: a bare Unary left of `**`, at the `**`
 unary-power place = says 7 place
 
--- 8: a ShorthandInit that was never converted, at its mark
-abbrev pub shorthand-initializer : ℕ → Record
+abbrev pub shorthand-initializer : ℕ → Record  -- 8: a ShorthandInit that was never converted, at its mark
 shorthand-initializer place = says 8 place
 
--- records as words
-unfoldable pub record-words : List Record → List ℕ
+unfoldable pub record-words : List Record → List ℕ  -- records as words
 record-words [] = []
 record-words (says number place ∷ records) = number ∷ place ∷ record-words records

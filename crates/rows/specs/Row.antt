@@ -1,5 +1,4 @@
 -- The kinds of rows by name, as RULES R5 numbers them.
--- Assumes nothing: these are definitions.
 use Prim.Native.Nat.{ℕ}
 
 abbrev pub Identifier : ℕ  -- a name that is read

@@ -1,71 +1,51 @@
 -- Well-formed trees: which kids a row of each kind has. One table gives it for all kinds.
--- Assumes nothing: these are definitions.
-use Prim.Native.Nat.{ℕ, _+_}
-use mathlib.Core.Bool.{Bool, true, false}
-use mathlib.Core.List.{List, [], _∷_}
-use lib.Dec.{leb, ltb}
-use lib.ListN.{length, getD}
-use Rattle.tokens.specs.Bool.{_or_, _and_, _is_, if_then_else_, between}
+use Rattle.rows.specs.Base.{ℕ, _+_, Bool, true, false, List, [], _∷_, leb, ltb, length, getD, _or_, _and_, _is_, if_then_else_, between, Tree, Forest, node, nil, cons, count, kind-of, kids-of}
 use Rattle.rows.specs.Row.{Identifier, Paren, Array, ArrayRestComma, Object, ObjectRestComma, Hole, Spread, Shorthand, ShorthandInit, Property, Key, ComputedKey, Member, Index, Call, Unary, PrefixUpdate, PostfixUpdate, Binary, Logical, Conditional, Assign, CompoundAssign, Sequence, Arrow, AsyncArrow, BindingName, BindingArray, BindingObject, BindingRest, BindingDefault, BindingShorthand, BindingShorthandInit, TargetName, TargetParen, TargetArray, TargetObject, TargetRest, TargetDefault, TargetMember, TargetIndex, TargetProperty, TargetShorthand, TargetShorthandInit}
-use Rattle.rows.specs.Tree.{Tree, Forest, node, nil, cons, count, kind-of, kids-of}
 
 infixr 30 _∪_
--- the listed kinds: 1 to 36 and 40 to 50
-unfoldable pub is-listed : ℕ → Bool
+unfoldable pub is-listed : ℕ → Bool  -- the listed kinds: 1 to 36 and 40 to 50
 is-listed kind = between Identifier BindingShorthandInit kind or between TargetName TargetShorthandInit kind
 
--- L: what may be called, or have a member: 1 to 8, 16 to 18
-unfoldable pub is-left-hand-side : ℕ → Bool
+unfoldable pub is-left-hand-side : ℕ → Bool  -- L: what may be called, or have a member: 1 to 8, 16 to 18
 is-left-hand-side kind = between Identifier ObjectRestComma kind or between Member Call kind
 
--- U: an operand of a Unary: L, 19 to 21
-unfoldable pub is-unary : ℕ → Bool
+unfoldable pub is-unary : ℕ → Bool  -- U: an operand of a Unary: L, 19 to 21
 is-unary kind = is-left-hand-side kind or between Unary PostfixUpdate kind
 
--- B: an operand of a Binary: U, 22
-unfoldable pub is-binary : ℕ → Bool
+unfoldable pub is-binary : ℕ → Bool  -- B: an operand of a Binary: U, 22
 is-binary kind = is-unary kind or kind is Binary
 
--- G: an operand of a Logical, and what stands before `?`: B, 23
-unfoldable pub is-logical : ℕ → Bool
+unfoldable pub is-logical : ℕ → Bool  -- G: an operand of a Logical, and what stands before `?`: B, 23
 is-logical kind = is-binary kind or kind is Logical
 
--- S: an AssignmentExpression: G, 24 to 26, 28, 29
-unfoldable pub is-assignment : ℕ → Bool
+unfoldable pub is-assignment : ℕ → Bool  -- S: an AssignmentExpression: G, 24 to 26, 28, 29
 is-assignment kind = is-logical kind or between Conditional CompoundAssign kind or between Arrow AsyncArrow kind
 
--- E: an Expression: S, 27
-unfoldable pub is-expression : ℕ → Bool
+unfoldable pub is-expression : ℕ → Bool  -- E: an Expression: S, 27
 is-expression kind = is-assignment kind or kind is Sequence
 
--- the body of an arrow: S, but no 7 or 8
-unfoldable pub is-body : ℕ → Bool
+unfoldable pub is-body : ℕ → Bool  -- the body of an arrow: S, but no 7 or 8
 is-body kind = if between Object ObjectRestComma kind then false else is-assignment kind
 
--- a Binding: 30 to 32
-unfoldable pub is-binding : ℕ → Bool
+unfoldable pub is-binding : ℕ → Bool  -- a Binding: 30 to 32
 is-binding kind = between BindingName BindingObject kind
 
--- a Binding with or without an initializer: 30 to 32, 34
-unfoldable pub is-parameter : ℕ → Bool
+unfoldable pub is-parameter : ℕ → Bool  -- a Binding with or without an initializer: 30 to 32, 34
 is-parameter kind = is-binding kind or kind is BindingDefault
 
--- a simple target: 40, 41, 46, 47
-unfoldable pub is-simple-target : ℕ → Bool
+unfoldable pub is-simple-target : ℕ → Bool  -- a simple target: 40, 41, 46, 47
 is-simple-target kind = between TargetName TargetParen kind or between TargetMember TargetIndex kind
 
--- a target: a simple one, 42, 43
-unfoldable pub is-target : ℕ → Bool
+unfoldable pub is-target : ℕ → Bool  -- a target: a simple one, 42, 43
 is-target kind = is-simple-target kind or between TargetArray TargetObject kind
 
--- the one kind k; no kind; the kinds of two sets
-unfoldable pub only : ℕ → ℕ → Bool
+unfoldable pub only : ℕ → ℕ → Bool  -- the one kind k
 only k kind = kind is k
 
-unfoldable pub nothing : ℕ → Bool
+unfoldable pub nothing : ℕ → Bool  -- no kind
 nothing kind = false
 
-abbrev pub _∪_ : (ℕ → Bool) → (ℕ → Bool) → ℕ → Bool
+abbrev pub _∪_ : (ℕ → Bool) → (ℕ → Bool) → ℕ → Bool  -- the kinds of two sets
 _∪_ these those kind = these kind or those kind
 
 -- the kids of a row, each by the kinds that it may have: fixed ones in front, then any number of the same kinds, then at most one
@@ -79,12 +59,10 @@ pub record Shape : Type 0 where
 abbrev pub shape : List (ℕ → Bool) → (ℕ → Bool) → (ℕ → Bool) → List (ℕ → Bool) → Shape
 shape front many closing ending = record { front = front; many = many; closing = closing; ending = ending }
 
--- these kids and no others
-abbrev pub exactly : List (ℕ → Bool) → Shape
+abbrev pub exactly : List (ℕ → Bool) → Shape  -- these kids and no others
 exactly front = shape front nothing nothing []
 
--- the kids of each kind; a kind that is not here has none
-unfoldable pub shape-of : ℕ → Shape
+unfoldable pub shape-of : ℕ → Shape  -- the kids of each kind; a kind that is not here has none
 shape-of kind =
     if kind is Paren then exactly (is-expression ∷ [])
     else if kind is Array then shape [] (is-assignment ∪ only Hole ∪ only Spread) nothing []
@@ -123,42 +101,35 @@ shape-of kind =
     else if kind is TargetShorthandInit then exactly (only TargetName ∷ is-assignment ∷ [])
     else exactly []
 
--- the kids of the shape are at least so many
-unfoldable pub least : Shape → ℕ
+unfoldable pub least : Shape → ℕ  -- the kids of the shape are at least so many
 least s = length (s .front) + length (s .ending)
 
--- a kid with so many kids before it and so many after it may be of this kind
-unfoldable pub may-be : Shape → ℕ → ℕ → ℕ → Bool
+unfoldable pub may-be : Shape → ℕ → ℕ → ℕ → Bool  -- a kid with so many kids before it and so many after it may be of this kind
 may-be s before after kid =
     if ltb before (length (s .front)) then getD (s .front) before nothing kid
     else if ltb after (length (s .ending)) then getD (s .ending) after nothing kid
     else (s .many) kid or (after is length (s .ending) and (s .closing) kid)
 
--- what the last kid of a kid may be: the value of a Property is an S in an Object, and a Binding or 34 in a BindingObject, in which
--- a rest is over a bare name
+-- what the last kid of a kid may be: the value of a Property is an S in an Object, and a Binding or 34 in a BindingObject, in which a rest is over a bare name
 unfoldable pub may-end : ℕ → ℕ → ℕ → Bool
 may-end kind kid last =
     if kid is Property then (if kind is BindingObject then is-parameter last else is-assignment last)
     else if kid is BindingRest and kind is BindingObject then last is BindingName
     else true
 
--- a row of this kind may have a kid of kind `kid`, with so many kids before it and so many after it, its own last kid of kind `last`
--- (0 if it has none)
+-- a row of this kind may have a kid of kind `kid`, with so many kids before it and so many after it, its own last kid of kind `last` (0 if it has none)
 unfoldable pub fits : ℕ → ℕ → ℕ → ℕ → ℕ → Bool
 fits kind before after kid last = may-be (shape-of kind) before after kid and may-end kind kid last
 
--- the kind of the last tree, and `kind` if there is none
-unfoldable pub last-kind : ℕ → Forest → ℕ
+unfoldable pub last-kind : ℕ → Forest → ℕ  -- the kind of the last tree, and `kind` if there is none
 last-kind kind nil = kind
 last-kind kind (cons t ts) = last-kind (kind-of t) ts
 
--- these kids of a row of this kind, with so many before them, are where they may stand
-unfoldable pub all-fit : ℕ → ℕ → Forest → Bool
+unfoldable pub all-fit : ℕ → ℕ → Forest → Bool  -- these kids of a row of this kind, with so many before them, are where they may stand
 all-fit kind before nil = true
 all-fit kind before (cons t ts) = fits kind before (count ts) (kind-of t) (last-kind 0 (kids-of t)) and all-fit kind (before + 1) ts
 
--- the kind is listed, and the kids are enough and where they may stand
-unfoldable pub is-shaped : ℕ → Forest → Bool
+unfoldable pub is-shaped : ℕ → Forest → Bool  -- the kind is listed, and the kids are enough and where they may stand
 is-shaped kind kids = is-listed kind and leb (least (shape-of kind)) (count kids) and all-fit kind 0 kids
 
 -- listed kinds, and kids of the kinds and number that the table gives; any kind as root

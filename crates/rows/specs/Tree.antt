@@ -1,12 +1,9 @@
 -- Trees, and the rows that a tree is written as: six words a row, the kids before their parent, left to right.
 -- Everything that speaks of trees speaks of `Tree`; only `flat` knows words.
--- Assumes nothing: these are definitions.
-use Prim.Native.Nat.{ℕ, _+_}
-use mathlib.Core.List.{List, [], _∷_, _++_}
+use Rattle.tokens.specs.Bool.{ℕ, _+_, List, [], _∷_, _++_}
 
 mutual
-  -- kind, mark, first, end, kids
-  pub data Tree : Type 0 where
+  pub data Tree : Type 0 where  -- kind, mark, first, end, kids
     node : ℕ → ℕ → ℕ → ℕ → Forest → Tree
 
   pub data Forest : Type 0 where
@@ -16,13 +13,11 @@ mutual
 abbrev pub one : Tree → Forest
 one t = cons t nil
 
--- two forests, one after the other
-unfoldable pub join : Forest → Forest → Forest
+unfoldable pub join : Forest → Forest → Forest  -- two forests, one after the other
 join nil us = us
 join (cons t ts) us = cons t (join ts us)
 
--- how many trees
-unfoldable pub count : Forest → ℕ
+unfoldable pub count : Forest → ℕ  -- how many trees
 count nil = 0
 count (cons t ts) = count ts + 1
 
@@ -35,8 +30,7 @@ unfoldable mutual
   sizes nil = 0
   sizes (cons t ts) = size t + sizes ts
 
--- the words of a row: kind, mark, first, end, kids, size
-abbrev pub row : ℕ → ℕ → ℕ → ℕ → ℕ → ℕ → List ℕ
+abbrev pub row : ℕ → ℕ → ℕ → ℕ → ℕ → ℕ → List ℕ  -- the words of a row: kind, mark, first, end, kids, size
 row kind mark first end kids size = kind ∷ mark ∷ first ∷ end ∷ kids ∷ size ∷ []
 
 unfoldable mutual
@@ -47,8 +41,7 @@ unfoldable mutual
   flats nil = []
   flats (cons t ts) = flat t ++ flats ts
 
--- the words of a tree's root row
-unfoldable pub kind-of : Tree → ℕ
+unfoldable pub kind-of : Tree → ℕ  -- the words of a tree's root row
 kind-of (node kind mark first end kids) = kind
 
 unfoldable pub mark-of : Tree → ℕ

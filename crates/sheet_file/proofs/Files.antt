@@ -10,7 +10,7 @@ use lib.ListN.{length, take, drop, length-drop, drop-of-length-le}
 use lib.Seq.{drop-drop, take-all}
 use borrow.Author.Tests.{eqb-true, eqb-false}
 use denote.Ref.{RefT}
-use Rattle.rows.specs.Stands.{Decides}
+use Rattle.rows.specs.Part.{Decides}
 use Rattle.rows.specs.Handed.{OwnFrom}
 use Rattle.sheet_file.specs.Layout.{block, Sheet}
 use Rattle.sheet_file.specs.Post.{Begins, Block, Opens, Handed, HandedBack, KindsHanded, FlagsHanded}

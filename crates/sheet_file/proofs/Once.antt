@@ -7,7 +7,7 @@ use mathlib.Core.List.{List}
 use native.Mathlib.Omega.{arith}
 use lib.ListN.{length}
 use denote.Ref.{RefT}
-use Rattle.rows.specs.Stands.{Decides}
+use Rattle.rows.specs.Part.{Decides}
 use Rattle.rows.proofs.Once.{decided-once, own-once}
 use Rattle.sheet_file.specs.Layout.{layout, Sheet}
 use Rattle.sheet_file.specs.Post.{Handed, HandedBack, KindsHanded, FlagsHanded}

@@ -1,12 +1,7 @@
 -- Sheet files (RULES F1): which bytes are the file of which kinds and flags.
--- Assumes nothing: these are definitions.
-use Prim.Native.Nat.{ℕ, zero, suc, _/_, _%_, _≤_}
-use mathlib.Core.Path.{_≡_}
-use mathlib.Core.List.{List, [], _∷_, _++_}
-use lib.ListN.{length}
+use Rattle.rows.specs.Base.{ℕ, zero, suc, _/_, _%_, _≤_, _≡_, List, [], _∷_, _++_, length}
 
--- the low bytes of a number, so many of them, the lowest first
-abbrev pub little-endian : ℕ → ℕ → List ℕ
+abbrev pub little-endian : ℕ → ℕ → List ℕ  -- the low bytes of a number, so many of them, the lowest first
 little-endian zero n = []
 little-endian (suc count) n = n % 256 ∷ little-endian count (n / 256)
 
@@ -16,16 +11,13 @@ u16 n = little-endian 2 n
 abbrev pub u32 : ℕ → List ℕ
 u32 n = little-endian 4 n
 
--- a block: u32 payload length, u16 block kind, payload
-abbrev pub block : ℕ → List ℕ → List ℕ
+abbrev pub block : ℕ → List ℕ → List ℕ  -- a block: u32 payload length, u16 block kind, payload
 block kind payload = u32 (length payload) ++ (u16 kind ++ payload)
 
--- two blocks, kinds (block kind 1) then flags (2), and nothing after
-abbrev pub layout : List ℕ → List ℕ → List ℕ
+abbrev pub layout : List ℕ → List ℕ → List ℕ  -- two blocks, kinds (block kind 1) then flags (2), and nothing after
 layout kinds flags = block 1 kinds ++ block 2 flags
 
--- the bytes are the file of these kinds and flags; a payload has at most 4,096 bytes
-pub record Sheet (bytes : List ℕ) : Type 0 where
+pub record Sheet (bytes : List ℕ) : Type 0 where  -- the bytes are the file of these kinds and flags; a payload has at most 4,096 bytes
   pub kinds : List ℕ
   pub flags : List ℕ
   pub text : bytes ≡ layout kinds flags

@@ -1,13 +1,8 @@
 -- What the contracts say: which part of a file is handed back, and what a block's head says.
--- Assumes nothing: these are definitions.
-use Prim.Native.Nat.{ℕ, _+_, _*_, _≤_}
-use mathlib.Core.Path.{_≡_}
-use mathlib.Core.List.{List, [], _++_}
-use lib.ListN.{length, getD, take, drop}
 use denote.Ref.{RefT}
+use Rattle.rows.specs.Base.{ℕ, _+_, _*_, _≤_, _≡_, List, [], _++_, length, getD, take, drop}
 use Rattle.rows.specs.Handed.{OwnFrom}
-use Rattle.sheet_file.specs.Layout.{block, Sheet}
-use Rattle.sheet_file.specs.declared.Found.{Found}
+use Rattle.sheet_file.specs.{Layout.block, Layout.Sheet, declared.Found.Found}
 
 -- the part of a sheet's file that is wanted; of any other file an empty part
 pub data Handed (bytes : List ℕ) (wanted : Sheet bytes → List ℕ) (part : List ℕ) : Type 0 where
@@ -27,18 +22,15 @@ KindsHanded bytes part = HandedBack bytes (λ s. s .kinds) (λ s. 6) part
 abbrev pub FlagsHanded : RefT (List ℕ) → RefT (List ℕ) → Type 0
 FlagsHanded bytes part = HandedBack bytes (λ s. s .flags) (λ s. 6 + length (s .kinds) + 6) part
 
--- the number that the first four bytes are, the lowest first
-abbrev pub first-u32 : List ℕ → ℕ
+abbrev pub first-u32 : List ℕ → ℕ  -- the number that the first four bytes are, the lowest first
 first-u32 bytes = getD bytes 0 0 + 256 * (getD bytes 1 0 + 256 * (getD bytes 2 0 + 256 * getD bytes 3 0))
 
--- the bytes begin with a block of this kind, whose payload has n bytes
-pub record Begins (bytes : List ℕ) (kind n : ℕ) : Type 0 where
+pub record Begins (bytes : List ℕ) (kind n : ℕ) : Type 0 where  -- the bytes begin with a block of this kind, whose payload has n bytes
   pub few : n ≤ 4096
   pub inside : 6 + n ≤ length bytes
   pub text : bytes ≡ block kind (take n (drop 6 bytes)) ++ drop (6 + n) bytes
 
--- the bytes begin with the block of this payload
-pub record Block (bytes : List ℕ) (kind : ℕ) (payload rest : List ℕ) : Type 0 where
+pub record Block (bytes : List ℕ) (kind : ℕ) (payload rest : List ℕ) : Type 0 where  -- the bytes begin with the block of this payload
   pub few : length payload ≤ 4096
   pub text : bytes ≡ block kind payload ++ rest
 

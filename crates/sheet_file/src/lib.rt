@@ -2,7 +2,7 @@
 ghost use Prim.Native.Nat.{_≤_};
 ghost use mathlib.Core.Path.{_≡_};
 ghost use lib.ListN.{length};
-ghost use Rattle.rows.specs.Stands.{Decides};
+ghost use Rattle.rows.specs.Part.{Decides};
 ghost use Rattle.sheet_file.specs.Layout.{Sheet};
 ghost use Rattle.sheet_file.specs.Post.{KindsHanded, FlagsHanded, Opens, first-u32};
 

@@ -21,7 +21,7 @@ use Rattle.roles.specs.Plan as code
 use Rattle.roles.specs.Meaning as means
 use Rattle.roles.specs.ShortCut.{is-element, named-kind}
 use Rattle.targets.specs.Post.{Subtree, SizeInside, WordInside, FirstRow, near, begins-of, PlanAt, Filled, Made, RowConverted}
-use Rattle.targets.specs.Named.{all-elements, PlainArray, PlainReady, PlainTurned}
+use Rattle.targets.specs.Post.{all-elements, PlainArray, PlainReady, PlainTurned}
 use Rattle.targets.specs.declared.Conversion.the-variants.{Turned, Refused}
 use Rattle.targets.proofs.Flat.{Walk, Next, walk-start, walk-some, walk-next, walk-past, whole-next, root-inside, kid-tree, kid-size, kid-text}
 use Rattle.targets.proofs.Looking.{reads-kind, reads-size}

@@ -14,10 +14,10 @@ use Rattle.tokens.specs.declared.cause.Answer.the-variants.{Read}
 use Rattle.tokens.specs.declared.cause.Answer.the-variants as answer
 use Rattle.rows.specs.Tree.{Tree, one, size, sizes, flat, flats}
 use Rattle.rows.specs.Record.{Record, record-words}
-use Rattle.rows.specs.Words.{WellFormed}
+use Rattle.rows.specs.Part.{WellFormed}
 use Rattle.rows.specs.Part.{Rooted, subtree}
 use Rattle.rows.specs.Post.{Word, Cleared}
-use Rattle.rows.specs.Stands.{Decides}
+use Rattle.rows.specs.Part.{Decides}
 use Rattle.trees.proofs.Whole.{subtree-in}
 use Rattle.rows.proofs.Flat.{long}
 use Rattle.rows.proofs.Records.{length-record-words}

@@ -24,7 +24,7 @@ use Rattle.conversion.proofs.RuleHolds.{refused-turned}
 use Rattle.targets.specs.declared.Conversion.{Conversion}
 use Rattle.targets.specs.declared.Conversion.the-variants.{Turned, Refused}
 use Rattle.roles.specs.Plan as code
-use Rattle.targets.specs.Named.{NameUnder}
+use Rattle.targets.specs.Post.{NameUnder}
 use Rattle.targets.proofs.Near.{convert-near}
 use Rattle.conversion.proofs.Potentials.{comma-count, pays, potential-size, turned-records}
 use Rattle.targets.proofs.Flat.{Walk, Next, some-rows, walk-start, walk-some, walk-next, walk-past, whole-next, root-inside, kid-tree, kid-size, kid-text, size-root}

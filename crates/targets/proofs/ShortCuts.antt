@@ -20,7 +20,7 @@ use Rattle.conversion.proofs.RuleHolds.{by-test, both-true, one-kid}
 use Rattle.roles.specs.Plan as code
 use Rattle.roles.specs.Meaning.{commas, kid, aim}
 use Rattle.roles.specs.ShortCut.{is-value, is-element, is-initialized, ends-in-target, named-kind}
-use Rattle.targets.specs.Named.{Named, NameAt, NameBelow, NameUnder, NameInside, NameSet, named-at}
+use Rattle.targets.specs.Post.{Named, NameAt, NameBelow, NameUnder, NameInside, NameSet, named-at}
 use Rattle.conversion.proofs.Potentials.{turned-is, turned-records}
 use Rattle.targets.proofs.Flat.{root-words, root-text, root-inside, Walk, Next, walk-start, walk-more, walk-next, kid-tree, kid-size, kid-text, whole-next}
 use Rattle.targets.proofs.Looking.{reads-kind, reads-kids, reads-size, no-kid}

@@ -21,7 +21,7 @@ use Rattle.conversion.specs.Conversion as def
 use Rattle.conversion.specs.Conversion.{Outcome, turned, refused, roles, over, convert-as, convert-kids}
 use Rattle.roles.specs.Meaning as means
 use Rattle.targets.specs.Post.{Subtree, SizeInside, FirstRow, begins-of, begins-before, PlanAt, Filled, NoteFits, Written, FinishFits, Finished, Ready, Made, TurnedRow}
-use Rattle.targets.specs.Named.{all-elements}
+use Rattle.targets.specs.Post.{all-elements}
 use Rattle.roles.specs.ShortCut.{is-element}
 use Rattle.conversion.proofs.RuleHolds.{refused-turned}
 use Rattle.conversion.proofs.Potentials.{turned-is, turned-records}

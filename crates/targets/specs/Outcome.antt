@@ -1,27 +1,19 @@
 -- What the code's own Conversion says of an outcome: the number of its records, or its cause; and the number that stands for one.
--- Assumes nothing: these are definitions.
-use Prim.Native.Nat.{ℕ, _+_, _/_, _%_}
-use mathlib.Core.List.{List}
-use lib.ListN.{length}
-use Rattle.tokens.specs.Bool.{if_then_else_, _is_}
+use Rattle.rows.specs.Base.{ℕ, _+_, _/_, _%_, List, length, if_then_else_, _is_}
 use Rattle.tokens.specs.declared.cause.Cause.the-variants.{Target as NoTarget, Spread as SpreadNotLast}
 use Rattle.conversion.specs.Conversion.{Outcome, turned, refused, Change, refuse, keep, turn}
-use Rattle.targets.specs.declared.Conversion.{Conversion}
-use Rattle.targets.specs.declared.Conversion.the-variants.{Turned, Refused}
+use Rattle.targets.specs.{declared.Conversion.Conversion, declared.Conversion.the-variants.Turned, declared.Conversion.the-variants.Refused}
 
--- the number of records, or the refusal
-abbrev pub found : {A : Type 0} → Outcome A → Conversion
+abbrev pub found : {A : Type 0} → Outcome A → Conversion  -- the number of records, or the refusal
 found (turned a records) = Turned (length records)
 found (refused cause) = Refused cause
 
--- what is found of a row and of the rows after it
-abbrev pub both : Conversion → Conversion → Conversion
+abbrev pub both : Conversion → Conversion → Conversion  -- what is found of a row and of the rows after it
 both (Refused cause) rest = Refused cause
 both (Turned n) (Refused cause) = Refused cause
 both (Turned n) (Turned m) = Turned (n + m)
 
--- what a change gives by itself: its refusal, or the records beside those of the kids
-abbrev pub own : Change → Conversion
+abbrev pub own : Change → Conversion  -- what a change gives by itself: its refusal, or the records beside those of the kids
 own (refuse cause) = Refused cause
 own (keep kind records) = Turned (length records)
 own (turn kind before kids after) = Turned (length before + length after)

@@ -9,7 +9,7 @@ ghost use Rattle.roles.specs.Meaning as means;
 ghost use Rattle.targets.specs.Outcome as outcome;
 ghost use Rattle.conversion.specs.Entry.{Answered};
 ghost use Rattle.targets.specs.Post.{Subtree, WordInside, SizeInside, FirstRow, PlanAt, Judged, Sums, Own, NoteFits, Written, FinishFits, Finished, Ready, TurnedRow, Room, RowConverted};
-ghost use Rattle.targets.specs.Named.{NameUnder, NameBelow, NameInside, NameSet, PlainArray, PlainReady, PlainTurned};
+ghost use Rattle.targets.specs.Post.{NameUnder, NameBelow, NameInside, NameSet, PlainArray, PlainReady, PlainTurned};
 use roles::Seen;
 use roles::plan;
 use roles::plans;

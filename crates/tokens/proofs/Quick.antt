@@ -16,7 +16,7 @@ use Rattle.tokens.specs.Check.{first-such, check-flags, check-kinds, nes
 use Rattle.tokens.specs.Kind as Kind
 use Rattle.tokens.specs.declared.cause.Cause.{Cause}
 use Rattle.tokens.specs.declared.check.Checked.{Checked}
-use Rattle.tokens.specs.Quick.{all-between, one-of, count, openings, closings, Counted}
+use Rattle.tokens.specs.Check.{all-between, one-of, count, openings, closings, Counted}
 
 -- a bound holds of the smaller or the larger of two where it holds of both
 least-two : (low a b : ℕ) → leb low (min a b) ≡ leb low a and leb low b

@@ -1,6 +1,5 @@
 -- The fourteen refusals, RULES A1 to A14: the number of each, and its place.
--- Assumes nothing: these are definitions.
-use Prim.Native.Nat.{ℕ}
+use Rattle.tokens.specs.Bool.{ℕ}
 use Rattle.tokens.specs.declared.cause.Cause.{Cause}
 use Rattle.tokens.specs.declared.cause.Cause.the-variants.{Length, FlagLength, RowRoom, RecordRoom, Flag, Kind, Nesting, Unexpected, Target, Spread, RestName, RestLast, Tree, Outside}
 

@@ -1,5 +1,4 @@
 -- The kinds of tokens by name, as RULES T4 numbers them: 1 to 78.
--- Assumes nothing: these are definitions.
 use Prim.Native.Nat.{ℕ}
 
 abbrev pub Ident : ℕ  -- a name

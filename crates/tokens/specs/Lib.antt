@@ -3,5 +3,3 @@ pub mod Bool
 pub mod Token
 pub mod Cause
 pub mod Check
-pub mod Quick
-pub mod Sheet

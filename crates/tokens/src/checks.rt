@@ -4,7 +4,7 @@ ghost use mathlib.Core.Bool.{true};
 ghost use Prim.Native.Nat.{_+_, _≤_};
 ghost use lib.ListN.{length};
 ghost use Rattle.tokens.specs.Check.{check-length, check-flag-length, check-flags, check-kinds, check-nesting, depth-after};
-ghost use Rattle.tokens.specs.Quick.{all-between, one-of, Counted};
+ghost use Rattle.tokens.specs.Check.{all-between, one-of, Counted};
 use crate::cause::Cause;
 use crate::check::Checked;
 use crate::kind;

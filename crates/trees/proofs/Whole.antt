@@ -10,9 +10,9 @@ use lib.Seq.{take-length}
 use denote.Ref.{RefT}
 use borrow.Author.Tests.{eqb-true, eqb-false}
 use Rattle.rows.specs.Tree.{Tree, size, sizes, flat, flats}
-use Rattle.rows.specs.Words.{WellFormed}
+use Rattle.rows.specs.Part.{WellFormed}
 use Rattle.rows.specs.Part.{Rooted, subtree}
-use Rattle.rows.specs.Stands.{Decides, Stands}
+use Rattle.rows.specs.Part.{Decides, Stands}
 use Rattle.rows.specs.Handed.{OwnFrom, Inside, Handed, own, empty, HandedBack}
 use Rattle.rows.proofs.Flat.{some-row, long}
 use Rattle.rows.proofs.Parts.{part-whole}

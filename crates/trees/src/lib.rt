@@ -1,6 +1,6 @@
 // The check of a tree: whether words are a well-formed one, and its subtrees.
-ghost use Rattle.rows.specs.Words.{WellFormed};
-ghost use Rattle.rows.specs.Stands.{Decides};
+ghost use Rattle.rows.specs.Part.{WellFormed};
+ghost use Rattle.rows.specs.Part.{Decides};
 ghost use Rattle.rows.specs.Handed.{HandedBack};
 use rows::row_word;
 

@@ -1,7 +1,7 @@
 // The check of a tree, row by row: the kids of a row are found from the last to the first, since a kid's root stands just below
 // its next sibling's first row.
 ghost use Prim.Native.Nat.{_≤_};
-ghost use Rattle.rows.specs.Stands.{Decides, Stands, Before, KidsStand, LastKind, KidFits};
+ghost use Rattle.rows.specs.Part.{Decides, Stands, Before, KidsStand, LastKind, KidFits};
 use rows::row_word;
 
 // The kind of a row's last kid, and 0 if it has none.

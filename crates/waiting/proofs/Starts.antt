@@ -28,7 +28,7 @@ use Rattle.waiting.proofs.Value.{async-stands, value-asyncs, value-refu
 use Rattle.waiting.proofs.Binary.{binary-grouped, binary-refuses}
 use Rattle.waiting.specs.Waiting.{Choice, is-operation, floor-of, begun, Whole, all-words, Spare, Comes-all, Outcome, Starts, Opens, Ends, Awaits}
 use Rattle.waiting.specs.Post.{spot, start-of, GroupAt, BodyFits, WaitsBody, Goes, StartFits, AfterStart}
-use Rattle.waiting.specs.Start.{OpenedTo, OperandTo, MetStart}
+use Rattle.waiting.specs.Post.{OpenedTo, OperandTo, MetStart}
 use Rattle.waiting.specs.declared.Next.{Next}
 use Rattle.waiting.specs.declared.Spot.{Spot}
 use Rattle.waiting.specs.declared.Start.{Start}

@@ -1,57 +1,39 @@
 -- What the functions on rows that wait promise. r and s are the words of rows and records before, r′ and s′ those after.
--- Assumes nothing: these are definitions.
-use Prim.Native.Nat.{ℕ, _+_, _-_, _*_, _≤_, _<_}
-use mathlib.Core.Path.{_≡_}
-use mathlib.Core.Bool.{Bool, true, false, not}
-use mathlib.Core.List.{List, _++_}
-use lib.Dec.{leb, ltb}
-use lib.ListN.{length, getD, take, drop}
-use Rattle.tokens.specs.Bool.{_and_, _is_, if_then_else_}
+use Rattle.rows.specs.Base.{ℕ, _+_, _-_, _*_, _≤_, _<_, _≡_, Bool, true, false, not, List, _++_, leb, ltb, length, getD, take, drop, _and_, _is_, if_then_else_, Cause}
 use Rattle.tokens.specs.Kind.{LCurly, Colon, Arrow, Eq}
-use Rattle.tokens.specs.declared.cause.Cause.{Cause}
 use Rattle.operators.specs.Precedence.{expression-level}
-use Rattle.rows.specs.Row as Row
 use Rattle.rows.specs.Post.{Pushed, KindSet}
+use Rattle.targets.specs.declared.Conversion.{Conversion}
+use Rattle.grammar.specs.{Binary.operation-kind, Binary.right-floor, Sheet.sheet-of, Job.assignment, Job.value, Job.unary, Job.body, Assignment.is-async-name}
+use Rattle.build.specs.Post.{cursor, TopRoom, Leafed, Met, MetAfter, HeadFits, Refused}
+use Rattle.build.specs.{declared.cursor.Cursor.Cursor, declared.cursor.Step.Step, Operation.Finished}
+use Rattle.heads.specs.declared.Head.{Head}
+use Rattle.waiting.specs.Waiting.{kind-for, Breaks, Waiting, is-operation, awaits-operand, Whole, Held, Comes-all, Ends, Linked, Awaits, Choice}
+use Rattle.waiting.specs.{declared.Group.Group, declared.Next.Next, declared.Spot.Spot, declared.Start.Start}
+use Rattle.rows.specs.Row as Row
 use Rattle.roles.specs.Meaning as means
 use Rattle.targets.specs.Post as Targets
-use Rattle.targets.specs.declared.Conversion.{Conversion}
-use Rattle.grammar.specs.Binary.{operation-kind, right-floor}
-use Rattle.build.specs.Post.{cursor, TopRoom, Leafed}
-use Rattle.build.specs.declared.cursor.Cursor.{Cursor}
-use Rattle.build.specs.declared.cursor.Step.{Step}
-use Rattle.heads.specs.declared.Head.{Head}
-use Rattle.build.specs.Operation.{Finished}
-use Rattle.waiting.specs.Waiting.{kind-for, Breaks, Waiting, is-operation, awaits-operand, Whole, Held, Comes-all, Ends, Linked, Awaits}
-use Rattle.waiting.specs.declared.Group.{Group}
-use Rattle.waiting.specs.declared.Next.{Next}
-use Rattle.waiting.specs.declared.Spot.{Spot}
-use Rattle.waiting.specs.declared.Start.{Start}
 
--- a word of a row
-abbrev pub word : List ℕ → ℕ → ℕ → ℕ
+abbrev pub word : List ℕ → ℕ → ℕ → ℕ  -- a word of a row
 word r n i = getD r (6 * n + i) 0
 
--- the cursor at the end of a group
-abbrev pub end-of : Group → Cursor
+abbrev pub end-of : Group → Cursor  -- the cursor at the end of a group
 end-of g = cursor (g .at) (g .rows) (g .records)
 
--- where a part or an operand starts
-abbrev pub spot : Cursor → ℕ → Bool → Spot
+abbrev pub spot : Cursor → ℕ → Bool → Spot  -- where a part or an operand starts
 spot c top part = record { at = c .at; rows = c .rows; records = c .records; top = top; part = part }
 
 abbrev pub start-of : Spot → Cursor
 start-of s = cursor (s .at) (s .rows) (s .records)
 
--- the group of an operand
-abbrev pub operand-of : Cursor → Spot → Group
+abbrev pub operand-of : Cursor → Spot → Group  -- the group of an operand
 operand-of d s = record { at = d .at; rows = d .rows; records = d .records; first = s .at; from = s .rows; top = s .top }
 
 -- the innermost row that waits is an operator's, and its right operand ends before an operator of this level
 abbrev pub ends-operand : List ℕ → ℕ → ℕ → ℕ → Bool
 ends-operand r top base level = if ltb top base then (if is-operation (getD r (6 * top) 0) then leb level (word r top 4) else false) else false
 
--- an operator waits in the row `top`, and there is room for its row and its record
-pub record OperationFits (r s : List ℕ) (g : Group) : Type 0 where
+pub record OperationFits (r s : List ℕ) (g : Group) : Type 0 where  -- an operator waits in the row `top`, and there is room for its row and its record
   pub inside : 6 * g .top + 6 ≤ length r
   pub room : g .rows ≤ g .top
   pub deep : 2 * g .records + 2 ≤ length s
@@ -73,8 +55,7 @@ pub record FinishedOperation (ks r s : List ℕ) (g : Group) (r′ s′ : List �
   pub made : Finished ks (take (6 * (g .top + 1)) r) s (end-of g) (word r (g .top) 1) (word r (g .top) 2) (word r (g .top) 3) (word r (g .top) 5) low s′ (end-of u)
   pub text : r′ ≡ low ++ drop (6 * (g .top + 1)) r
 
--- there is room for one more row that waits
-pub record WaitFits (words : ℕ) (g : Group) : Type 0 where
+pub record WaitFits (words : ℕ) (g : Group) : Type 0 where  -- there is room for one more row that waits
   pub some : 1 ≤ g .top
   pub inside : 6 * g .top ≤ words
   pub place-small : g .at ≤ 2048
@@ -82,13 +63,11 @@ pub record WaitFits (words : ℕ) (g : Group) : Type 0 where
   pub first-small : g .first ≤ 2048
   pub from-small : g .from ≤ 2048
 
--- an operator waits
-pub record WaitsOperand (ks r : List ℕ) (g : Group) (r′ : List ℕ) (x : Next) : Type 0 where
+pub record WaitsOperand (ks r : List ℕ) (g : Group) (r′ : List ℕ) (x : Next) : Type 0 where  -- an operator waits
   pub gives : x ≡ Next.Read (spot (cursor (g .at + 1) (g .rows) (g .records)) (g .top - 1) false)
   pub pushed : Pushed r (g .top - 1) (operation-kind (getD ks (g .at) 0)) (g .at) (g .first) (g .rows) (right-floor (getD ks (g .at) 0)) (g .from) r′
 
--- a Conditional waits for its `:`
-pub record WaitsChoice (r : List ℕ) (g : Group) (r′ : List ℕ) (x : Next) : Type 0 where
+pub record WaitsChoice (r : List ℕ) (g : Group) (r′ : List ℕ) (x : Next) : Type 0 where  -- a Conditional waits for its `:`
   pub gives : x ≡ Next.Read (spot (cursor (g .at + 1) (g .rows) (g .records)) (g .top - 1) true)
   pub pushed : Pushed r (g .top - 1) 0 (g .at) (g .first) 0 3 (g .from) r′
 
@@ -109,8 +88,7 @@ pub record WaitsRight (ks r s : List ℕ) (g : Group) (r′ s′ : List ℕ) (x 
   pub refused : (cause : Cause) → turned ≡ Conversion.Refused cause → RightRefused r g low r′ cause x
   pub waits : (count : ℕ) → turned ≡ Conversion.Turned count → RightWaits ks r g low r′ count x
 
--- there is room for an arrow that waits, and for its record
-pub record BodyFits (words records : ℕ) (d : Cursor) (h : Head) (top : ℕ) : Type 0 where
+pub record BodyFits (words records : ℕ) (d : Cursor) (h : Head) (top : ℕ) : Type 0 where  -- there is room for an arrow that waits, and for its record
   pub some : 1 ≤ top
   pub inside : 6 * top ≤ words
   pub place-small : d .at ≤ 2048
@@ -136,13 +114,11 @@ pub record WaitsBody (ks fs r s : List ℕ) (d : Cursor) (h : Head) (top : ℕ) 
   pub block : getD ks (d .at + 1) 0 ≡ LCurly → BodyRefused r s d r′ s′ x
   pub waits : (getD ks (d .at + 1) 0 ≡ LCurly → ⊥) → BodyWaits fs r s d h top r′ s′ x
 
--- a row waits for its last part in the row `top`, and there is room for it
-pub record LastPartFits (r : List ℕ) (c : Cursor) (top : ℕ) : Type 0 where
+pub record LastPartFits (r : List ℕ) (c : Cursor) (top : ℕ) : Type 0 where  -- a row waits for its last part in the row `top`, and there is room for it
   pub inside : 6 * top + 6 ≤ length r
   pub fits : TopRoom (6 * (top + 1)) c (word r top 1) (word r top 2) (c .at) (word r top 4) (word r top 5)
 
--- a Conditional at its `:`
-pub record Colons (r : List ℕ) (c : Cursor) (top : ℕ) (r′ : List ℕ) (x : Next) : Type 0 where
+pub record Colons (r : List ℕ) (c : Cursor) (top : ℕ) (r′ : List ℕ) (x : Next) : Type 0 where  -- a Conditional at its `:`
   pub gives : x ≡ Next.Read (spot (cursor (c .at + 1) (c .rows) (c .records)) top true)
   pub set : KindSet r top Row.Conditional r′
 
@@ -154,12 +130,10 @@ pub record Otherwise (ks r : List ℕ) (c : Cursor) (top : ℕ) (r′ : List ℕ
   pub colon : getD ks (c .at) 0 ≡ Colon → Colons r c top r′ x
   pub no-colon : (getD ks (c .at) 0 ≡ Colon → ⊥) → NoColon r c r′ x
 
--- `=>` stands after a group that is one Identifier
-abbrev pub opens-body : List ℕ → List ℕ → Group → Bool
+abbrev pub opens-body : List ℕ → List ℕ → Group → Bool  -- `=>` stands after a group that is one Identifier
 opens-body ks r g = getD ks (g .at) 0 is Arrow and word r (g .rows - 1) 0 is Row.Identifier
 
--- the arrow of one name
-abbrev pub name-head : Group → Head
+abbrev pub name-head : Group → Head  -- the arrow of one name
 name-head g = record { kind = Row.Arrow; first = g .first; from = g .from; kids = 1 }
 
 -- the row of a binding was written over that of the name, and the arrow waits
@@ -216,8 +190,7 @@ pub record Level (ks fs r s : List ℕ) (g : Group) (base : ℕ) : Type 0 where
 pub record FollowedLevel (ks fs r s : List ℕ) (g : Group) (base : ℕ) (r′ s′ : List ℕ) (x : Next) : Type 0 where
   pub goes : (all : Whole) (m : List ℕ) (ws : List Waiting) → GroupAt ks fs all m ws r s g base → awaits-operand ws ≡ false → expression-level (getD ks (g .at) 0) ≡ 0 → Goes ks fs all m (g .at) r′ s′ base x
 
--- past a start: what it asks for, by its cases
-pub record StartFits (ks fs r s : List ℕ) (got : Start) (n : Spot) (base : ℕ) : Type 0 where
+pub record StartFits (ks fs r s : List ℕ) (got : Start) (n : Spot) (base : ℕ) : Type 0 where  -- past a start: what it asks for, by its cases
   pub opened : (d : Cursor) (h : Head) → got ≡ Start.Opened d h → BodyFits (length r) (length s) d h (n .top)
   pub operand : (d : Cursor) → got ≡ Start.Operand d → Grouping ks fs r s (operand-of d n) base
 
@@ -230,3 +203,36 @@ pub record AfterStart (ks fs r s : List ℕ) (got : Start) (n : Spot) (base : �
   pub failed : (cause : Cause) → got ≡ Start.Fail cause → StartFailed r s r′ s′ cause x
   pub opened : (d : Cursor) (h : Head) → got ≡ Start.Opened d h → WaitsBody ks fs r s d h (n .top) r′ s′ x
   pub operand : (d : Cursor) → got ≡ Start.Operand d → Followed ks fs r s (operand-of d n) base r′ s′ x
+
+-- What the reader of a start promises: a head was read, and whatever its body comes to, the assignment level does; or an operand was read, past a head that was
+-- given up or without one; or the start was refused. First of a head that was read up to its `=>`:
+pub record OpenedTo (ks fs r₀ s₀ m₀ r s m : List ℕ) (part : Bool) (at n k : ℕ) (d : Cursor) (h : Head) : Type 0 where
+  pub is-part : part ≡ true
+  pub fits : HeadFits ks d h
+  pub forward : at < d .at
+  pub more : n ≤ d .rows
+  pub few : d .rows + at ≤ n + d .at
+  pub said : d .records + at ≤ k + d .at
+  pub no-operation : is-operation (h .kind) ≡ false
+  pub no-choice : h .kind ≡ Choice → ⊥
+  pub goes : (r′ s′ m′ : List ℕ) (x : Step) → MetAfter ks fs r s m r′ s′ m′ (body (h .kind) (h .first) (d .at)) (h .from) (d .rows) (h .kids) (d .records) x
+      → Met ks fs r₀ s₀ m₀ r′ s′ m′ (assignment at) n k x
+
+-- an operand was read, from rows, records and notes from which the assignment level past a head is read
+pub record OperandTo (ks fs r₀ s₀ m₀ r s m : List ℕ) (part : Bool) (at n k : ℕ) (d : Cursor) : Type 0 where
+  pub rows₁ : List ℕ
+  pub records₁ : List ℕ
+  pub notes₁ : List ℕ
+  pub rows-long : length rows₁ ≡ length r₀
+  pub records-long : length records₁ ≡ length s₀
+  pub plain : part ≡ true → is-async-name (sheet-of ks fs) at ≡ false
+  pub past : part ≡ true → (r′ s′ m′ : List ℕ) (x : Step) → Met ks fs rows₁ records₁ notes₁ r′ s′ m′ (value at) n k x → Met ks fs r₀ s₀ m₀ r′ s′ m′ (assignment at) n k x
+  pub rows-same : part ≡ false → rows₁ ≡ r₀
+  pub records-same : part ≡ false → records₁ ≡ s₀
+  pub notes-same : part ≡ false → notes₁ ≡ m₀
+  pub read : Met ks fs rows₁ records₁ notes₁ r s m (unary at) n k (Step.Done d)
+
+pub record MetStart (ks fs r₀ s₀ m₀ r s m : List ℕ) (part : Bool) (at n k : ℕ) (x : Start) : Type 0 where
+  pub opened-to : (d : Cursor) (h : Head) → x ≡ Start.Opened d h → OpenedTo ks fs r₀ s₀ m₀ r s m part at n k d h
+  pub operand-to : (d : Cursor) → x ≡ Start.Operand d → OperandTo ks fs r₀ s₀ m₀ r s m part at n k d
+  pub fail-at : (cause : Cause) → x ≡ Start.Fail cause → Refused ks fs r₀ s₀ m₀ r s m (if part then assignment at else unary at) n k cause

@@ -1,28 +1,15 @@
 -- Rows that wait for their last part, and what is left to come of a reading while they wait. Each says what it makes of the part that it waits for,
 -- in terms of what the reader of that part promises (`Met`); the outermost makes the whole.
--- Assumes nothing: these are definitions.
-use Prim.Native.Nat.{ℕ, _+_, _*_, _≤_, _<_, _-_}
-use mathlib.Core.Path.{_≡_}
-use mathlib.Core.List.{List, [], _∷_, _++_}
-use lib.ListN.{length, getD, drop}
-use Rattle.rows.specs.Tree.{Tree, one, row}
-use Rattle.rows.specs.Record.{Record, break-before-arrow}
-use Rattle.grammar.specs.Sheet.{Out, after-records, sheet-of}
-use Rattle.grammar.specs.Job.{binary, operators, Job, assignment, value, body}
-use Rattle.conversion.specs.Potential.{potential as owed}
+use Rattle.rows.specs.Base.{ℕ, _+_, _*_, _≤_, _<_, _-_, _≡_, List, [], _∷_, _++_, length, getD, drop, Tree, one, row, Record, break-before-arrow, Bool, true, false, not, if_then_else_, _is_, _or_, Cause}
+use Rattle.grammar.specs.{Sheet.Out, Sheet.after-records, Sheet.sheet-of, Job.binary, Job.operators, Job.Job, Job.assignment, Job.value, Job.body}
+use Rattle.grammar.specs.{Assignment.is-async-name, Binary.operation-kind, Binary.right-floor}
+use Rattle.conversion.specs.Conversion.{potential as owed}
 use Rattle.build.specs.Post.{Comes, Made, cursor, Met, MetAfter, Topped, TopRoom}
-use Rattle.build.specs.declared.cursor.Cursor.{Cursor}
-use mathlib.Core.Bool.{Bool, true, false, not}
-use Rattle.tokens.specs.Bool.{if_then_else_, _is_, _or_}
-use Rattle.rows.specs.Row as Row
+use Rattle.build.specs.{declared.cursor.Cursor.Cursor, Operation.Finished, declared.cursor.Step.Step}
 use Rattle.rows.specs.Post.{GrownRecords}
 use Rattle.tokens.specs.Kind.{Colon}
-use Rattle.tokens.specs.declared.cause.Cause.{Cause}
-use Rattle.grammar.specs.Assignment.{is-async-name}
-use Rattle.grammar.specs.Binary.{operation-kind, right-floor}
 use Rattle.heads.specs.declared.Head.{Head}
-use Rattle.build.specs.Operation.{Finished}
-use Rattle.build.specs.declared.cursor.Step.{Step}
+use Rattle.rows.specs.Row as Row
 
 -- What began at `first`, with n rows and k records before it, is one tree up to here, and the rest of it is what follows at the place.
 pub record Grouped (ks fs r₀ s₀ m₀ : List ℕ) (floor first n k : ℕ) (r s m : List ℕ) (here : Cursor) (at : ℕ) : Type 0 where
@@ -39,12 +26,10 @@ pub record Grouped (ks fs r₀ s₀ m₀ : List ℕ) (floor first n k : ℕ) (r 
   pub made : Made r₀ s₀ n k r s here (one tree) said
   pub rest : (out : Out (List ℕ)) → Comes ks fs (operators floor first at tree) m out → Comes ks fs (binary floor first) m₀ (after-records said out)
 
--- the row that `=` and the other operators make
-abbrev pub kind-for : Bool → ℕ
+abbrev pub kind-for : Bool → ℕ  -- the row that `=` and the other operators make
 kind-for plain = if plain then Row.Assign else Row.CompoundAssign
 
--- the record of a line break before an arrow
-abbrev pub broken : List ℕ → ℕ → List Record
+abbrev pub broken : List ℕ → ℕ → List Record  -- the record of a line break before an arrow
 broken fs at = if getD fs at 0 is 1 then break-before-arrow at ∷ [] else []
 
 -- past an arrow, with a record if a line break stands before it
@@ -55,12 +40,10 @@ pub record Breaks (fs s₀ : List ℕ) (c : Cursor) (s : List ℕ) (d : Cursor) 
   pub long : length s ≡ length s₀
   pub said : GrownRecords s₀ (c .records) s (d .records) (broken fs (c .at))
 
--- the kind of a Conditional that waits for its `:`
-abbrev pub Choice : ℕ
+abbrev pub Choice : ℕ  -- the kind of a Conditional that waits for its `:`
 Choice = 0
 
--- Binary and Logical rows
-abbrev pub is-operation : ℕ → Bool
+abbrev pub is-operation : ℕ → Bool  -- Binary and Logical rows
 is-operation kind = kind is Row.Binary or kind is Row.Logical
 
 -- An operator with its left operand, up to the row `left`; a row that lacks its last part only; a Conditional before its `:`.
@@ -69,8 +52,7 @@ pub data Waiting : Type 0 where
   part : (kind mark first kids from : ℕ) → is-operation kind ≡ false → (kind ≡ Choice → ⊥) → Waiting
   choice : (mark first from : ℕ) → Waiting
 
--- its words
-abbrev pub words : List ℕ → Waiting → List ℕ
+abbrev pub words : List ℕ → Waiting → List ℕ  -- its words
 words ks (operation mark first left from) = row (operation-kind (getD ks mark 0)) mark first left (right-floor (getD ks mark 0)) from
 words ks (part kind mark first kids from _ _) = row kind mark first 0 kids from
 words ks (choice mark first from) = row Choice mark first 0 3 from
@@ -79,15 +61,13 @@ unfoldable pub all-words : List ℕ → List Waiting → List ℕ
 all-words ks [] = []
 all-words ks (w ∷ ws) = words ks w ++ all-words ks ws
 
--- from the row `top` on these wait, up to the row `base`
-pub record Held (ks r : List ℕ) (top base : ℕ) (ws : List Waiting) : Type 0 where
+pub record Held (ks r : List ℕ) (top base : ℕ) (ws : List Waiting) : Type 0 where  -- from the row `top` on these wait, up to the row `base`
   pub rows : top + length ws ≡ base
   pub room : 6 * base ≤ length r
   pub tail : List ℕ
   pub text : drop (6 * top) r ≡ all-words ks ws ++ tail
 
--- whether the innermost is an operator, and the floor of the operand that is waited for
-abbrev pub awaits-operand : List Waiting → Bool
+abbrev pub awaits-operand : List Waiting → Bool  -- whether the innermost is an operator, and the floor of the operand that is waited for
 awaits-operand (operation mark first left from ∷ ws) = true
 awaits-operand (part kind mark first kids from _ _ ∷ ws) = false
 awaits-operand (choice mark first from ∷ ws) = false
@@ -103,8 +83,7 @@ floor-of ks [] = 0
 abbrev pub begun : List ℕ → List Waiting → ℕ → Job
 begun ks ws first = if awaits-operand ws then binary (floor-of ks ws) first else value first
 
--- where the whole began: the words of rows and records, the notes, the place and both counts
-pub record Whole : Type 0 where
+pub record Whole : Type 0 where  -- where the whole began: the words of rows and records, the notes, the place and both counts
   pub rows : List ℕ
   pub records : List ℕ
   pub notes : List ℕ
@@ -112,8 +91,7 @@ pub record Whole : Type 0 where
   pub made : ℕ
   pub said : ℕ
 
--- room for what is read at a cursor, below the row from which on rows wait
-pub record Spare (ks s : List ℕ) (top : ℕ) (c : Cursor) : Type 0 where
+pub record Spare (ks s : List ℕ) (top : ℕ) (c : Cursor) : Type 0 where  -- room for what is read at a cursor, below the row from which on rows wait
   pub short : length ks ≤ 2048
   pub wide : length ks + c .rows ≤ top + c .at
   pub deep : 2 * length ks ≤ length s
@@ -122,8 +100,7 @@ pub record Spare (ks s : List ℕ) (top : ℕ) (c : Cursor) : Type 0 where
   pub said : c .records ≤ c .at
 
 module _ (ks fs : List ℕ) (all : Whole) where
-  -- the whole comes to this
-  abbrev pub Comes-all : List ℕ → List ℕ → List ℕ → Step → Type 0
+  abbrev pub Comes-all : List ℕ → List ℕ → List ℕ → Step → Type 0  -- the whole comes to this
   Comes-all r s m x = Met ks fs (all .rows) (all .records) (all .notes) r s m (assignment (all .at)) (all .made) (all .said) x
 
   -- a part was refused, and so is the whole; or it was read, and then comes what is next
@@ -178,8 +155,7 @@ module _ (ks fs : List ℕ) (all : Whole) where
     pub no-colon : (getD ks (d .at) 0 ≡ Colon → ⊥) → Comes-all r s m (Step.Fail (Cause.Unexpected (d .at)))
     pub colon : getD ks (d .at) 0 ≡ Colon → Starts (λ r′ s′ m′ e. PartEnds (λ r″ u. next r″ s′ m′ u) operand r′ top e Row.Conditional mark first 3 from) (assignment (d .at + 1)) r s m (cursor (d .at + 1) (d .rows) (d .records))
 
-  -- a part has ended, and these wait, up to the row `base`
-  unfoldable pub Ends : ℕ → List Waiting → List ℕ → List ℕ → List ℕ → Cursor → Type 0
+  unfoldable pub Ends : ℕ → List Waiting → List ℕ → List ℕ → List ℕ → Cursor → Type 0  -- a part has ended, and these wait, up to the row `base`
   Ends base [] r s m d = Comes-all r s m (Step.Done d)
   Ends base (operation mark first left from ∷ ws) r s m d =
       OperationEnds (λ r′ s′ u. Linked (Ends base ws) ws (base - length ws) r′ s′ m u first from) r s (base - length ws) d mark first left from

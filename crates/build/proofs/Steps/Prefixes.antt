@@ -19,7 +19,7 @@ use Rattle.rows.specs.Row as Row
 use Rattle.rows.specs.Post.{Grown}
 use Rattle.rows.proofs.Rows.{grown-row}
 use Rattle.conversion.specs.Conversion.{simple}
-use Rattle.conversion.specs.Potential.{potential, potentials}
+use Rattle.conversion.specs.Conversion.{potential, potentials}
 use Rattle.targets.specs.Post as Targets
 use Rattle.targets.specs.declared.Conversion.{Conversion}
 use Rattle.grammar.specs.Sheet.{done, fail}

@@ -13,7 +13,7 @@ use Rattle.rows.proofs.Rows.{count-join}
 use Rattle.grammar.specs.Sheet.{done, fail, leaf}
 use Rattle.grammar.specs.Job.{assignment, key, binding-element, binding-property}
 use Rattle.laws.proofs.Bounds.{bounded}
-use Rattle.build.specs.Keys.{is-shorthand}
+use Rattle.build.specs.Operation.{is-shorthand}
 use Rattle.build.specs.Post.{Room, Comes, Met, MetInit, Leafed, Topped}
 use Rattle.build.specs.declared.cursor.Cursor.{Cursor}
 use Rattle.build.specs.declared.cursor.Step.{Step}

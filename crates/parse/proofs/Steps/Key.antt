@@ -11,7 +11,7 @@ use Rattle.rows.specs.Row as Row
 use Rattle.grammar.specs.Job.{assignment, key}
 use Rattle.laws.proofs.Good.{and-left}
 use Rattle.laws.proofs.Bounds.{bounded}
-use Rattle.build.specs.Keys.{is-key, is-shorthand}
+use Rattle.build.specs.Operation.{is-key, is-shorthand}
 use Rattle.build.specs.Post.{Room, Met, Leafed, Topped}
 use Rattle.build.specs.declared.cursor.Cursor.{Cursor}
 use Rattle.build.specs.declared.cursor.Step.{Step}

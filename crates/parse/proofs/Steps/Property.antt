@@ -14,7 +14,7 @@ use Rattle.rows.specs.Row as Row
 use Rattle.rows.proofs.Rows.{count-join}
 use Rattle.grammar.specs.Sheet.{done, fail, leaf}
 use Rattle.grammar.specs.Job.{assignment, key, property}
-use Rattle.build.specs.Keys.{is-shorthand}
+use Rattle.build.specs.Operation.{is-shorthand}
 use Rattle.build.specs.Post.{Room, Comes, Made, Met, Leafed, Topped}
 use Rattle.build.specs.declared.cursor.Cursor.{Cursor}
 use Rattle.build.specs.declared.cursor.Step.{Step}

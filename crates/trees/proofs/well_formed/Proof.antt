@@ -5,7 +5,7 @@ use native.Mathlib.Omega.{arith}
 use borrow.Author.Count.{below-more}
 use borrow.Author.Needs.{needs}
 use borrow.Author.Tests.{not-true, not-false}
-use Rattle.rows.specs.Stands.{Stands}
+use Rattle.rows.specs.Part.{Stands}
 use Rattle.trees.proofs.Walks.{never}
 use Rattle.trees.proofs.Whole.{no-words, too-many, no-multiple, falls, last-says}
 use Rattle.trees.proofs.well_formed.Statement.{statement}

@@ -2,7 +2,7 @@
 -- Made from answers/checks-one_of.ans by tools/fill.py. Assumes nothing.
 use borrow.Author.Needs.{needs}
 use borrow.Author.Tests.{eq-eqb, ne-eqb}
-use Rattle.tokens.specs.Quick.{one-of}
+use Rattle.tokens.specs.Check.{one-of}
 use Rattle.tokens.proofs.checks.one_of.Statement.{statement}
 use Rattle.tokens.proofs.checks.one_of.Tie as tie
 
