@@ -17,10 +17,21 @@ use Rattle.rows.specs.Record.{Record}
 use Rattle.conversion.specs.Conversion.{Role, Outcome, turned, refused, convert-as}
 use Rattle.grammar.specs.Sheet.{Sheet, token, Out, done, fail, stuck, Reading, Part, after-records, and-then, or-else, _>>=_, try, yield, refuse, say}
 use Rattle.grammar.specs.Job.{Job, Asks}
-use Rattle.grammar.specs.Update.{converted-to, converted}
-use Rattle.grammar.specs.Arrow.{Way, pass, attempt, commit, Policy, by-way, choose, noting}
+use Rattle.grammar.specs.Comma.{expression-of, sequence-of}
+use Rattle.grammar.specs.Assignment.{assign-of, conditional-of, after-binary, value-of}
+use Rattle.grammar.specs.Binary.{binary-of, operators-of}
+use Rattle.grammar.specs.Update.{converted-to, converted, unary-of, postfix-of}
+use Rattle.grammar.specs.LeftHandSide.{left-hand-side-of, links-of, arguments-of}
+use Rattle.grammar.specs.Primary.{parenthesized-of, primary-of, spread-of, elements-of, properties-of, shorthand-of, property-of, key-of}
+use Rattle.grammar.specs.Binding.{binding-of, binding-element-of, binding-rest-of, binding-elements-of, binding-properties-of, binding-shorthand-of, binding-property-of}
+use Rattle.grammar.specs.Arrow.{Way, pass, attempt, commit, Policy, by-way, choose, noting, arrow-of, assignment-of, parenthesized-head-of, head-of, parameters-of, body-of}
 use Rattle.grammar.specs.Step.{step, read, plenty}
 use Rattle.grammar.specs.Reading.{unconverteds, whole, refused as refused-whole, at-end, reading}
+
+-- every production: to unfold this is to unfold them all
+unfoldable pub productions : Type 0
+unfolding step expression-of sequence-of assignment-of arrow-of value-of after-binary assign-of conditional-of binary-of operators-of unary-of postfix-of left-hand-side-of links-of arguments-of primary-of parenthesized-of elements-of properties-of property-of shorthand-of key-of spread-of binding-of binding-element-of binding-elements-of binding-properties-of binding-property-of binding-shorthand-of binding-rest-of head-of parenthesized-head-of parameters-of body-of
+productions = Unit {0}
 
 -- what may be said of what is done: up to where, the trees, the records
 abbrev pub Meaning : Type 1
