@@ -20,18 +20,15 @@ use Rattle.rows.specs.Record.{Record}
 use Rattle.conversion.specs.Conversion.{Outcome, turned, refused, Role, any, simple, element, last-element, property as property-role, last-property, value as value-role, name, same, Change, refuse, keep, turn, is-array-or-object, Seen, seen, is-with, is-closed, as-simple, as-any, as-value, as-element, as-last-element, as-property, as-last-property, as-name, change, roles, over, both as both-kids, convert-as, convert-kids}
 use Rattle.grammar.specs.Sheet.{Sheet, token, break-before, done, fail, Part, first-tree, tree, leaf}
 use Rattle.grammar.specs.Job.{Job, expression, sequence, assignment, value, assign, conditional, binary, operators, unary, postfix, left-hand-side, links, arguments, primary, elements, properties, property, key, spread, binding, binding-element, binding-elements, binding-properties, binding-property, binding-rest, head, parameters, body, Asks}
-use Rattle.grammar.specs.Comma.{expression-of, sequence-of}
-use Rattle.grammar.specs.Assignment.{is-assignment-operator, assign-of, conditional-of, after-binary, is-async-name, value-of}
-use Rattle.grammar.specs.Binary.{operation-kind, right-floor, binary-of, operators-of}
-use Rattle.grammar.specs.Update.{is-unary-operator, is-update-operator, converted, unary-of, postfix-of}
-use Rattle.grammar.specs.LeftHandSide.{left-hand-side-of, links-of, arguments-of}
-use Rattle.grammar.specs.Primary.{parenthesized-of, primary-of, spread-of, elements-of, properties-of, shorthand-of, property-of, key-of}
-use Rattle.grammar.specs.Binding.{binding-of, binding-element-of, binding-rest-of, binding-elements-of, argument-of, binding-properties-of, binding-shorthand-of, binding-property-of}
-use Rattle.grammar.specs.Arrow.{Policy, arrow-of, assignment-of, parenthesized-head-of, head-of, parameters-of, body-of}
+use Rattle.grammar.specs.Assignment.{is-assignment-operator, is-async-name}
+use Rattle.grammar.specs.Binary.{operation-kind, right-floor}
+use Rattle.grammar.specs.Update.{is-unary-operator, is-update-operator, converted}
+use Rattle.grammar.specs.Binding.{argument-of}
+use Rattle.grammar.specs.Arrow.{Policy, arrow-of, parenthesized-head-of}
 use Rattle.grammar.specs.Step.{step, read, plenty}
 use Rattle.grammar.specs.Reading.{whole, refused as refused-whole, reading}
-use Rattle.laws.proofs.Good.{came, Refused, failed, followed, stopped, refused-by, Meaning, Reads, Answers, good-given, good-done, good-fail, yields, refuses, says, follows, tries, test, token-test, chooses, notes, converts, so, both, inside, and-right}
-use Rattle.laws.proofs.Bounds.{Any, Nothing, limits, Bound, all-bounded, bounded-at, fee, fee-comma, fee-one}
+use Rattle.laws.proofs.Good.{productions, came, Refused, failed, followed, stopped, refused-by, Meaning, Reads, Answers, good-given, good-done, good-fail, yields, refuses, says, follows, tries, test, token-test, chooses, notes, converts, so, both, inside, and-right}
+use Rattle.laws.proofs.Bounds.{Any, reads, Nothing, limits, Bound, all-bounded, bounded-at, fee, fee-comma, fee-one}
 use Rattle.laws.proofs.Rel.{async-inside, operator-inside}
 use Rattle.laws.specs.Promises.{Inside, Lie, Lies, next, none, row-lies}
 
@@ -247,7 +244,8 @@ Is job end trees records = Placed job end trees
 lie-leaf : {low high kind : ℕ} (at : ℕ) → low ≤ at → at < high → Lie low high (one (leaf kind at))
 lie-leaf at l h = lie-one (row l (omega arith) (omega arith) (omega arith) (no-trees (omega arith)))
 
-module _ {N : Type 0} (sheet : Sheet) {ask : Asks N} (g : Answers Any (λ job. Bound (limits sheet job)) Nothing ask) (h : Answers (Fit sheet) Is (Inside sheet) ask) where
+-- THE PRODUCTIONS
+module _ {N : Type 0} (policy : Policy N) (sheet : Sheet) {ask : Asks N} (g : Answers Any (λ job. Bound (limits sheet job)) Nothing ask) (h : Answers (Fit sheet) Is (Inside sheet) ask) where
   asked : (job : Job) → Fit sheet job → Reads (λ end trees records. Bound (limits sheet job) end trees records × Placed job end trees) (Inside sheet) (ask job)
   asked job fit = both (g .with job tt) (h .with job fit)
 
@@ -270,29 +268,53 @@ module _ {N : Type 0} (sheet : Sheet) {ask : Asks N} (g : Answers Any (λ job. B
       fell cause e (stays u _ e′ k) = let z : _≡_ {A = ℕ} 0 1 = cc in absurd (omega arith)
       fell cause e (falls cause′ e′ a b u) = let c : cause′ ≡ cause = cc in rw c at (inside-of cause′ b u)
 
+  -- another part, or a spread
+  or-spread : (at rows : ℕ) (other : Job) → Reads (λ end trees records. Bound (reads sheet at rows 0) end trees records × Lie at end trees) (Inside sheet) (ask other)
+      → (dots : Bool) → token sheet at is Dot3 ≡ dots
+      → Reads (λ end trees records. Bound (reads sheet at rows 0) end trees records × Lie at end trees) (Inside sheet) (ask (if dots then spread at else other))
+  or-spread at rows other o true e =
+      so (asked (spread at) (inside sheet at (λ k. k is Dot3) refl e)) (λ end trees records b. (record { within = omega arith; single = b .0 .single }, b .1))
+  or-spread at rows other o false e = o
+
+  -- 15.3 and 15.9
+  parenthesized-head-lies : (at : ℕ) → at ≤ length (sheet .kinds) → Reads (Is (head at)) (Inside sheet) (parenthesized-head-of sheet ask at)
+  unfolding productions
+  parenthesized-head-lies at i =
+      token-test sheet _ _
+      (λ t. follows (asked (parameters (at + 1) nil) (omega arith))
+      (λ list rs b. token-test sheet _ _ (λ t. yields _ _ (b .1 at (no-trees (omega arith)))) (refuses _ (omega arith))))
+      (refuses _ (omega arith))
+
+  -- 13.15, where a head is tried
+  arrow-lies : (at : ℕ) (list : Part) (rs : List Record) → Bound (limits sheet (head at)) (list .end) (list .trees) rs × Lie at (list .end) (list .trees)
+      → Reads (Is (assignment at)) (Inside sheet) (arrow-of policy sheet ask at list)
+  unfolding productions
+  arrow-lies at list rs b = last (body (if token sheet at is Async then Row.AsyncArrow else Row.Arrow) at (list .end) (list .trees)) (omega arith, b .1)
+
+  -- every production
+  step-lies : (job : Job) → Fit sheet job → Reads (Is job) (Inside sheet) (step policy sheet ask job)
+  unfolding productions is-word is-assignment-operator is-unary-operator is-update-operator fee
   -- 13.16
-  expression-lies : (at : ℕ) → at ≤ length (sheet .kinds) → Reads (Is (expression at)) (Inside sheet) (expression-of sheet ask at)
-  unfolding expression-of
-  expression-lies at i =
+  step-lies (expression at) i =
       follows (asked (assignment at) i)
       (λ part rs b. token-test sheet _ _
       (λ t. last (sequence at (part .end) (part .end) (part .trees)) (omega arith, omega arith, omega (arith, fee-comma (t .kind-is)), b .1))
       (yields _ _ (b .1)))
-
-  sequence-lies : (first comma at : ℕ) (so-far : Forest) → Fit sheet (sequence first comma at so-far)
-      → Reads (Is (sequence first comma at so-far)) (Inside sheet) (sequence-of sheet ask first comma at so-far)
-  unfolding sequence-of fee
-  sequence-lies first comma at so-far fit =
+  step-lies (sequence first comma at so-far) fit =
       test (token sheet at is Comma)
       (λ t. let i = inside sheet at (λ k. k is Comma) refl t in follows (asked (assignment (at + 1)) (omega arith))
       (λ part rs b. last (sequence first comma (part .end) (join so-far (part .trees)))
       (omega arith, omega arith, omega (arith, fee-one (token sheet (part .end))), lie-join (fit .3) (lie-wide (b .1) (omega arith) (omega arith)))))
       (λ f. let k = rw f at (fit .2) in yields _ _ (lie-one (row (omega arith) (omega arith) (omega arith) (omega arith) (fit .3))))
-
+  step-lies (assignment at) i =
+      test (token sheet at is LParen or token sheet at is Async)
+      (λ _. chooses (policy .way at)
+      (last (value at) i)
+      (tries (asked (head at) i) (arrow-lies at) (notes (policy .mark at) (last (value at) i)))
+      (follows (asked (head at) i) (arrow-lies at)))
+      (λ _. last (value at) i)
   -- 13.15 and 13.14
-  value-lies : (at : ℕ) → at ≤ length (sheet .kinds) → Reads (Is (value at)) (Inside sheet) (value-of sheet ask at)
-  unfolding value-of after-binary is-assignment-operator
-  value-lies at i =
+  step-lies (value at) i =
       test (is-async-name sheet at)
       (λ t. let j = async-inside sheet at t in last (body Row.AsyncArrow at (at + 2) (one (leaf Row.BindingName (at + 1)))) (j, lie-leaf (at + 1) (omega arith) (omega arith)))
       (λ _. follows (asked (binary 0 at) i)
@@ -304,18 +326,12 @@ module _ {N : Type 0} (sheet : Sheet) {ask : Asks N} (g : Answers Any (λ job. B
       (λ _. token-test sheet _ _
       (λ t. last (conditional at (left .end) (tree left)) (t .here, lie-first (b .0 .single) (b .1)))
       (yields _ _ (b .1))))))
-
-  assign-lies : (first at : ℕ) (left : Tree) → Fit sheet (assign first at left) → Reads (Is (assign first at left)) (Inside sheet) (assign-of sheet ask first at left)
-  unfolding assign-of
-  assign-lies first at left fit =
+  step-lies (assign first at left) fit =
       let o = lies-order (fit .1) in
       follows (turn-to (if token sheet at is Eq then any else simple) at left (fit .1) (omega arith))
       (λ target rs b. follows (asked (assignment (at + 1)) (omega arith))
       (λ right more c. yields _ _ (lie-one (row (omega arith) (omega arith) (omega arith) (omega arith) (lie-join (b .1) (lie-wide (c .1) (omega arith) (omega arith)))))))
-
-  conditional-lies : (first at : ℕ) (left : Tree) → Fit sheet (conditional first at left) → Reads (Is (conditional first at left)) (Inside sheet) (conditional-of sheet ask first at left)
-  unfolding conditional-of
-  conditional-lies first at left fit =
+  step-lies (conditional first at left) fit =
       let o = lies-order (fit .1) in
       follows (asked (assignment (at + 1)) (omega arith))
       (λ if-true rs b. token-test sheet _ _
@@ -323,27 +339,17 @@ module _ {N : Type 0} (sheet : Sheet) {ask : Asks N} (g : Answers Any (λ job. B
       (λ if-false more c. yields _ _ (lie-one (row (omega arith) (omega arith) (omega arith) (omega arith)
       (then-lie at (fit .1) (lie-join {middle = if-true .end} (lie-wide (b .1) (omega arith) (omega arith)) (lie-wide (c .1) (omega arith) (omega arith))))))))
       (refuses _ (omega arith)))
-
   -- 13.6 to 13.13
-  binary-lies : (floor at : ℕ) → at ≤ length (sheet .kinds) → Reads (Is (binary floor at)) (Inside sheet) (binary-of sheet ask floor at)
-  unfolding binary-of
-  binary-lies floor at i = follows (asked (unary at) i) (λ left rs b. last (operators floor at (left .end) (tree left)) (omega arith, lie-first (b .0 .single) (b .1)))
-
-  operators-lies : (floor first at : ℕ) (left : Tree) → Fit sheet (operators floor first at left)
-      → Reads (Is (operators floor first at left)) (Inside sheet) (operators-of sheet ask floor first at left)
-  unfolding operators-of
-  operators-lies floor first at left fit =
+  step-lies (binary floor at) i = follows (asked (unary at) i) (λ left rs b. last (operators floor at (left .end) (tree left)) (omega arith, lie-first (b .0 .single) (b .1)))
+  step-lies (operators floor first at left) fit =
       let o = lies-order (fit .1) in
       test (ltb floor (expression-level (token sheet at)))
       (λ t. let i = operator-inside sheet at floor t in follows (asked (binary (right-floor (token sheet at)) (at + 1)) (omega arith))
       (λ right rs b. says _ (last (operators floor first (right .end) (node (operation-kind (token sheet at)) at first (right .end) (cons left (right .trees))))
       (omega arith, row (omega arith) (omega arith) (omega arith) (omega arith) (then-lie at (fit .1) (lie-wide (b .1) (omega arith) (omega arith)))))))
       (λ _. yields _ _ (lie-one (fit .1)))
-
   -- 13.5 and 13.4
-  unary-lies : (at : ℕ) → at ≤ length (sheet .kinds) → Reads (Is (unary at)) (Inside sheet) (unary-of sheet ask at)
-  unfolding unary-of is-unary-operator is-update-operator
-  unary-lies at i =
+  step-lies (unary at) i =
       test (is-unary-operator (token sheet at))
       (λ t. let j = inside sheet at is-unary-operator refl t in follows (asked (unary (at + 1)) (omega arith))
       (λ operand rs b. yields _ _ (lie-one (row (omega arith) (omega arith) (omega arith) (omega arith) (lie-wide (b .1) (omega arith) (omega arith))))))
@@ -352,24 +358,15 @@ module _ {N : Type 0} (sheet : Sheet) {ask : Asks N} (g : Answers Any (λ job. B
       (λ operand rs b. follows (turn-to simple (operand .end) (tree operand) (lie-first (b .0 .single) (b .1)) (omega arith))
       (λ target more c. yields _ _ (lie-one (row (omega arith) (omega arith) (omega arith) (omega arith) (lie-wide (c .1) (omega arith) (omega arith)))))))
       (λ _. last (postfix at) i))
-
-  postfix-lies : (at : ℕ) → at ≤ length (sheet .kinds) → Reads (Is (postfix at)) (Inside sheet) (postfix-of sheet ask at)
-  unfolding postfix-of
-  postfix-lies at i =
+  step-lies (postfix at) i =
       follows (asked (left-hand-side at) i)
       (λ operand rs b. test (is-update-operator (token sheet (operand .end)) and not (break-before sheet (operand .end)))
       (λ t. follows (turn-to simple (operand .end) (tree operand) (lie-first (b .0 .single) (b .1)) (omega arith))
       (λ target more c. yields _ _ (lie-one (row (omega arith) (omega arith) (omega arith) (omega arith) (lie-wide (c .1) (omega arith) (omega arith))))))
       (λ _. yields _ _ (b .1)))
-
   -- 13.3
-  left-hand-side-lies : (at : ℕ) → at ≤ length (sheet .kinds) → Reads (Is (left-hand-side at)) (Inside sheet) (left-hand-side-of sheet ask at)
-  unfolding left-hand-side-of
-  left-hand-side-lies at i = follows (asked (primary at) i) (λ base rs b. last (links at (base .end) (tree base)) (omega arith, lie-first (b .0 .single) (b .1)))
-
-  links-lies : (first at : ℕ) (left : Tree) → Fit sheet (links first at left) → Reads (Is (links first at left)) (Inside sheet) (links-of sheet ask first at left)
-  unfolding links-of is-word
-  links-lies first at left fit =
+  step-lies (left-hand-side at) i = follows (asked (primary at) i) (λ base rs b. last (links at (base .end) (tree base)) (omega arith, lie-first (b .0 .single) (b .1)))
+  step-lies (links first at left) fit =
       let o = lies-order (fit .1) in
       token-test sheet _ _
       (λ t. test (is-word (token sheet (at + 1)))
@@ -386,28 +383,17 @@ module _ {N : Type 0} (sheet : Sheet) {ask : Asks N} (g : Answers Any (λ job. B
       (λ t. follows (asked (arguments first (at + 1) (one left)) (omega arith, omega arith, lie-one (lies-wide (fit .1) (omega arith) (omega arith))))
       (λ call rs b. last (links first (call .end) (tree call)) (omega arith, lie-first (b .0 .single) (b .1))))
       (yields _ _ (lie-one (fit .1)))))
-
-  argument-lies : (at : ℕ) (dots : Bool) → token sheet at is Dot3 ≡ dots → at ≤ length (sheet .kinds)
-      → Reads (λ end trees records. Bound (limits sheet (assignment at)) end trees records × Lie at end trees) (Inside sheet) (ask (if dots then spread at else assignment at))
-  argument-lies at true e i = asked (spread at) (inside sheet at (λ k. k is Dot3) refl e)
-  argument-lies at false e i = asked (assignment at) i
-
-  arguments-lies : (first at : ℕ) (so-far : Forest) → Fit sheet (arguments first at so-far) → Reads (Is (arguments first at so-far)) (Inside sheet) (arguments-of sheet ask first at so-far)
-  unfolding arguments-of
-  arguments-lies first at so-far fit =
+  step-lies (arguments first at so-far) fit =
       token-test sheet _ _
       (λ t. yields _ _ (lie-one (row (omega arith) (omega arith) (omega arith) (omega arith) (lie-wide (fit .2) (omega arith) (omega arith)))))
-      (follows (argument-lies at (token sheet at is Dot3) refl (omega arith))
+      (follows (or-spread at 0 (assignment at) (asked (assignment at) (omega arith)) (token sheet at is Dot3) refl)
       (λ argument rs b. token-test sheet _ _
       (λ t. last (arguments first (argument .end + 1) (join so-far (argument .trees))) (omega arith, omega arith, lie-join (fit .2) (lie-wide (b .1) (omega arith) (omega arith))))
       (token-test sheet _ _
       (λ t. yields _ _ (lie-one (row (omega arith) (omega arith) (omega arith) (omega arith) (lie-join (fit .2) (lie-wide (b .1) (omega arith) (omega arith))))))
       (refuses _ (omega arith)))))
-
   -- 13.2
-  primary-lies : (at : ℕ) → at ≤ length (sheet .kinds) → Reads (Is (primary at)) (Inside sheet) (primary-of sheet ask at)
-  unfolding primary-of parenthesized-of
-  primary-lies at i =
+  step-lies (primary at) i =
       test (is-name (token sheet at)) (λ t. yields _ _ (lie-leaf at (omega arith) (omega arith)))
       (λ _. token-test sheet _ _ (λ t. yields _ _ (lie-leaf at (omega arith) (omega arith)))
       (test (is-literal (token sheet at)) (λ t. yields _ _ (lie-leaf at (omega arith) (omega arith)))
@@ -417,43 +403,23 @@ module _ {N : Type 0} (sheet : Sheet) {ask : Asks N} (g : Answers Any (λ job. B
       (token-test sheet _ _ (λ t. last (elements at (at + 1) Row.Array nil) (omega arith, omega arith, no-trees (omega arith)))
       (token-test sheet _ _ (λ t. last (properties at (at + 1) Row.Object nil) (omega arith, omega arith, no-trees (omega arith)))
       (refuses _ (omega arith)))))))
-
-  spread-lies : (at : ℕ) → at < length (sheet .kinds) → Reads (Is (spread at)) (Inside sheet) (spread-of sheet ask at)
-  unfolding spread-of
-  spread-lies at i = follows (asked (assignment (at + 1)) (omega arith)) (λ argument rs b. yields _ _ (lie-one (row (omega arith) (omega arith) (omega arith) (omega arith) (lie-wide (b .1) (omega arith) (omega arith)))))
-
-  elements-lies : (first at kind : ℕ) (so-far : Forest) → Fit sheet (elements first at kind so-far) → Reads (Is (elements first at kind so-far)) (Inside sheet) (elements-of sheet ask first at kind so-far)
-  unfolding elements-of
-  elements-lies first at kind so-far fit =
+  step-lies (elements first at kind so-far) fit =
       token-test sheet _ _ (λ t. yields _ _ (lie-one (row (omega arith) (omega arith) (omega arith) (omega arith) (lie-wide (fit .2) (omega arith) (omega arith)))))
       (token-test sheet _ _
       (λ t. last (elements first (at + 1) Row.Array (join so-far (one (leaf Row.Hole at)))) (omega arith, omega arith, lie-join (fit .2) (lie-leaf at (omega arith) (omega arith))))
-      (follows (argument-lies at (token sheet at is Dot3) refl (omega arith))
+      (follows (or-spread at 0 (assignment at) (asked (assignment at) (omega arith)) (token sheet at is Dot3) refl)
       (λ element rs b. token-test sheet _ _
       (λ t. last (elements first (element .end + 1) (if token sheet at is Dot3 then Row.ArrayRestComma else Row.Array) (join so-far (element .trees)))
       (omega arith, omega arith, lie-join (fit .2) (lie-wide (b .1) (omega arith) (omega arith))))
       (token-test sheet _ _ (λ t. yields _ _ (lie-one (row (omega arith) (omega arith) (omega arith) (omega arith) (lie-join (fit .2) (lie-wide (b .1) (omega arith) (omega arith)))))) (refuses _ (omega arith))))))
-
-  property-or-spread-lies : (at : ℕ) (dots : Bool) → token sheet at is Dot3 ≡ dots → at ≤ length (sheet .kinds)
-      → Reads (λ end trees records. Bound (limits sheet (property at)) end trees records × Lie at end trees) (Inside sheet) (ask (if dots then spread at else property at))
-  property-or-spread-lies at true e i =
-      so (asked (spread at) (inside sheet at (λ k. k is Dot3) refl e)) (λ end trees records b. (record { within = omega arith; single = b .0 .single }, b .1))
-  property-or-spread-lies at false e i = asked (property at) i
-
-  properties-lies : (first at kind : ℕ) (so-far : Forest) → Fit sheet (properties first at kind so-far)
-      → Reads (Is (properties first at kind so-far)) (Inside sheet) (properties-of sheet ask first at kind so-far)
-  unfolding properties-of
-  properties-lies first at kind so-far fit =
+  step-lies (properties first at kind so-far) fit =
       token-test sheet _ _ (λ t. yields _ _ (lie-one (row (omega arith) (omega arith) (omega arith) (omega arith) (lie-wide (fit .2) (omega arith) (omega arith)))))
-      (follows (property-or-spread-lies at (token sheet at is Dot3) refl (omega arith))
+      (follows (or-spread at 1 (property at) (asked (property at) (omega arith)) (token sheet at is Dot3) refl)
       (λ part rs b. token-test sheet _ _
       (λ t. last (properties first (part .end + 1) (if token sheet at is Dot3 then Row.ObjectRestComma else Row.Object) (join so-far (part .trees)))
       (omega arith, omega arith, lie-join (fit .2) (lie-wide (b .1) (omega arith) (omega arith))))
       (token-test sheet _ _ (λ t. yields _ _ (lie-one (row (omega arith) (omega arith) (omega arith) (omega arith) (lie-join (fit .2) (lie-wide (b .1) (omega arith) (omega arith)))))) (refuses _ (omega arith)))))
-
-  property-lies : (at : ℕ) → at ≤ length (sheet .kinds) → Reads (Is (property at)) (Inside sheet) (property-of sheet ask at)
-  unfolding property-of shorthand-of
-  property-lies at i =
+  step-lies (property at) i =
       test (is-name (token sheet at) and not (token sheet (at + 1) is Colon))
       (λ n. token-test sheet _ _
       (λ t. follows (asked (assignment (at + 2)) (omega arith))
@@ -463,41 +429,25 @@ module _ {N : Type 0} (sheet : Sheet) {ask : Asks N} (g : Answers Any (λ job. B
       (λ name rs b. token-test sheet _ _
       (λ t. follows (asked (assignment (name .end + 1)) (omega arith)) (λ content more c. yields _ _ (lie-one (row (omega arith) (omega arith) (omega arith) (omega arith) (lie-join (b .1) (lie-wide (c .1) (omega arith) (omega arith)))))))
       (refuses _ (omega arith))))
-
-  key-lies : (at : ℕ) → at ≤ length (sheet .kinds) → Reads (Is (key at)) (Inside sheet) (key-of sheet ask at)
-  unfolding key-of
-  key-lies at i =
+  step-lies (key at) i =
       test (is-word (token sheet at) or token sheet at is Str or token sheet at is Number) (λ t. yields _ _ (lie-leaf at (omega arith) (omega arith)))
       (λ _. token-test sheet _ _
       (λ t. follows (asked (assignment (at + 1)) (omega arith))
       (λ inner rs b. token-test sheet _ _ (λ t. yields _ _ (lie-one (row (omega arith) (omega arith) (omega arith) (omega arith) (lie-wide (b .1) (omega arith) (omega arith))))) (refuses _ (omega arith))))
       (refuses _ (omega arith)))
-
+  step-lies (spread at) i = follows (asked (assignment (at + 1)) (omega arith)) (λ argument rs b. yields _ _ (lie-one (row (omega arith) (omega arith) (omega arith) (omega arith) (lie-wide (b .1) (omega arith) (omega arith)))))
   -- 14.3.3
-  binding-lies : (at : ℕ) → at ≤ length (sheet .kinds) → Reads (Is (binding at)) (Inside sheet) (binding-of sheet ask at)
-  unfolding binding-of
-  binding-lies at i =
+  step-lies (binding at) i =
       test (is-name (token sheet at)) (λ t. yields _ _ (lie-leaf at (omega arith) (omega arith)))
       (λ _. token-test sheet _ _ (λ t. last (binding-elements at (at + 1) nil) (omega arith, omega arith, no-trees (omega arith)))
       (token-test sheet _ _ (λ t. last (binding-properties at (at + 1) nil) (omega arith, omega arith, no-trees (omega arith)))
       (refuses _ (omega arith))))
-
-  binding-element-lies : (at : ℕ) → at ≤ length (sheet .kinds) → Reads (Is (binding-element at)) (Inside sheet) (binding-element-of sheet ask at)
-  unfolding binding-element-of
-  binding-element-lies at i =
+  step-lies (binding-element at) i =
       follows (asked (binding at) i)
       (λ target rs b. token-test sheet _ _
       (λ t. follows (asked (assignment (target .end + 1)) (omega arith)) (λ initializer more c. yields _ _ (lie-one (row (omega arith) (omega arith) (omega arith) (omega arith) (lie-join (b .1) (lie-wide (c .1) (omega arith) (omega arith)))))))
       (yields _ _ (b .1)))
-
-  binding-rest-lies : (at : ℕ) → at < length (sheet .kinds) → Reads (Is (binding-rest at)) (Inside sheet) (binding-rest-of sheet ask at)
-  unfolding binding-rest-of
-  binding-rest-lies at i = follows (asked (binding-element (at + 1)) (omega arith)) (λ argument rs b. says _ (yields _ _ (lie-one (row (omega arith) (omega arith) (omega arith) (omega arith) (lie-wide (b .1) (omega arith) (omega arith))))))
-
-  binding-elements-lies : (first at : ℕ) (so-far : Forest) → Fit sheet (binding-elements first at so-far)
-      → Reads (Is (binding-elements first at so-far)) (Inside sheet) (binding-elements-of sheet ask first at so-far)
-  unfolding binding-elements-of
-  binding-elements-lies first at so-far fit =
+  step-lies (binding-elements first at so-far) fit =
       token-test sheet _ _ (λ t. yields _ _ (lie-one (row (omega arith) (omega arith) (omega arith) (omega arith) (lie-wide (fit .2) (omega arith) (omega arith)))))
       (token-test sheet _ _
       (λ t. last (binding-elements first (at + 1) (join so-far (one (leaf Row.Hole at)))) (omega arith, omega arith, lie-join (fit .2) (lie-leaf at (omega arith) (omega arith))))
@@ -507,11 +457,7 @@ module _ {N : Type 0} (sheet : Sheet) {ask : Asks N} (g : Answers Any (λ job. B
       (λ element rs b. token-test sheet _ _
       (λ t. last (binding-elements first (element .end + 1) (join so-far (element .trees))) (omega arith, omega arith, lie-join (fit .2) (lie-wide (b .1) (omega arith) (omega arith))))
       (token-test sheet _ _ (λ t. yields _ _ (lie-one (row (omega arith) (omega arith) (omega arith) (omega arith) (lie-join (fit .2) (lie-wide (b .1) (omega arith) (omega arith)))))) (refuses _ (omega arith)))))))
-
-  binding-properties-lies : (first at : ℕ) (so-far : Forest) → Fit sheet (binding-properties first at so-far)
-      → Reads (Is (binding-properties first at so-far)) (Inside sheet) (binding-properties-of sheet ask first at so-far)
-  unfolding binding-properties-of
-  binding-properties-lies first at so-far fit =
+  step-lies (binding-properties first at so-far) fit =
       token-test sheet _ _ (λ t. yields _ _ (lie-one (row (omega arith) (omega arith) (omega arith) (omega arith) (lie-wide (fit .2) (omega arith) (omega arith)))))
       (token-test sheet _ _
       (λ t. follows (asked (binding-rest at) (t .here))
@@ -522,10 +468,7 @@ module _ {N : Type 0} (sheet : Sheet) {ask : Asks N} (g : Answers Any (λ job. B
       (λ part rs b. token-test sheet _ _
       (λ t. last (binding-properties first (part .end + 1) (join so-far (part .trees))) (omega arith, omega arith, lie-join (fit .2) (lie-wide (b .1) (omega arith) (omega arith))))
       (token-test sheet _ _ (λ t. yields _ _ (lie-one (row (omega arith) (omega arith) (omega arith) (omega arith) (lie-join (fit .2) (lie-wide (b .1) (omega arith) (omega arith)))))) (refuses _ (omega arith))))))
-
-  binding-property-lies : (at : ℕ) → at ≤ length (sheet .kinds) → Reads (Is (binding-property at)) (Inside sheet) (binding-property-of sheet ask at)
-  unfolding binding-property-of binding-shorthand-of
-  binding-property-lies at i =
+  step-lies (binding-property at) i =
       test (is-name (token sheet at) and not (token sheet (at + 1) is Colon))
       (λ n. token-test sheet _ _
       (λ t. follows (asked (assignment (at + 2)) (omega arith))
@@ -535,28 +478,14 @@ module _ {N : Type 0} (sheet : Sheet) {ask : Asks N} (g : Answers Any (λ job. B
       (λ name rs b. token-test sheet _ _
       (λ t. follows (asked (binding-element (name .end + 1)) (omega arith)) (λ content more c. yields _ _ (lie-one (row (omega arith) (omega arith) (omega arith) (omega arith) (lie-join (b .1) (lie-wide (c .1) (omega arith) (omega arith)))))))
       (refuses _ (omega arith))))
-
-  -- 15.3 and 15.9
-  parenthesized-head-lies : (at : ℕ) → at ≤ length (sheet .kinds) → Reads (Is (head at)) (Inside sheet) (parenthesized-head-of sheet ask at)
-  unfolding parenthesized-head-of
-  parenthesized-head-lies at i =
-      token-test sheet _ _
-      (λ t. follows (asked (parameters (at + 1) nil) (omega arith))
-      (λ list rs b. token-test sheet _ _ (λ t. yields _ _ (b .1 at (no-trees (omega arith)))) (refuses _ (omega arith))))
-      (refuses _ (omega arith))
-
-  head-lies : (at : ℕ) → at ≤ length (sheet .kinds) → Reads (Is (head at)) (Inside sheet) (head-of sheet ask at)
-  unfolding head-of
-  head-lies at i =
+  step-lies (binding-rest at) i = follows (asked (binding-element (at + 1)) (omega arith)) (λ argument rs b. says _ (yields _ _ (lie-one (row (omega arith) (omega arith) (omega arith) (omega arith) (lie-wide (b .1) (omega arith) (omega arith))))))
+  step-lies (head at) i =
       token-test sheet _ _
       (λ t. test (not (break-before sheet (at + 1)))
       (λ _. so (parenthesized-head-lies (at + 1) (omega arith)) (λ end trees more c. lie-wide c (omega arith) (omega arith)))
       (λ _. refuses _ (omega arith)))
       (parenthesized-head-lies at i)
-
-  parameters-lies : (at : ℕ) (so-far : Forest) → at ≤ length (sheet .kinds) → Reads (Is (parameters at so-far)) (Inside sheet) (parameters-of sheet ask at so-far)
-  unfolding parameters-of
-  parameters-lies at so-far i =
+  step-lies (parameters at so-far) i =
       token-test sheet _ _ (λ t. yields _ _ (λ low k. lie-wide k (omega arith) (omega arith)))
       (token-test sheet _ _
       (λ t. follows (asked (binding-rest at) (t .here))
@@ -565,64 +494,12 @@ module _ {N : Type 0} (sheet : Sheet) {ask : Asks N} (g : Answers Any (λ job. B
       (λ parameter rs b. token-test sheet _ _
       (λ t. so (asked (parameters (parameter .end + 1) (join so-far (parameter .trees))) (omega arith)) (λ end trees more c low k. c .1 low (lie-join k (lie-wide (b .1) (omega arith) (omega arith)))))
       (token-test sheet _ _ (λ t. yields _ _ (λ low k. lie-join k (lie-wide (b .1) (omega arith) (omega arith)))) (refuses _ (omega arith))))))
-
-  body-lies : (kind first at : ℕ) (so-far : Forest) → Fit sheet (body kind first at so-far) → Reads (Is (body kind first at so-far)) (Inside sheet) (body-of sheet ask kind first at so-far)
-  unfolding body-of
-  body-lies kind first at so-far fit =
+  step-lies (body kind first at so-far) fit =
       let o = lie-order (fit .1) in
       says _ (test (not (token sheet (at + 1) is LCurly))
       (λ _. follows (asked (assignment (at + 1)) (omega arith))
       (λ inner rs b. yields _ _ (lie-one (row (omega arith) (omega arith) (omega arith) (omega arith) (lie-join (fit .1) (lie-wide (b .1) (omega arith) (omega arith)))))))
       (λ _. refuses _ (omega arith)))
-
-  -- 13.15, where a head is tried
-  arrow-lies : (policy : Policy N) (at : ℕ) (list : Part) (rs : List Record) → Bound (limits sheet (head at)) (list .end) (list .trees) rs × Lie at (list .end) (list .trees)
-      → Reads (Is (assignment at)) (Inside sheet) (arrow-of policy sheet ask at list)
-  unfolding arrow-of
-  arrow-lies policy at list rs b = last (body (if token sheet at is Async then Row.AsyncArrow else Row.Arrow) at (list .end) (list .trees)) (omega arith, b .1)
-
-  assignment-lies : (policy : Policy N) (at : ℕ) → at ≤ length (sheet .kinds) → Reads (Is (assignment at)) (Inside sheet) (assignment-of policy sheet ask at)
-  unfolding assignment-of
-  assignment-lies policy at i =
-      test (token sheet at is LParen or token sheet at is Async)
-      (λ _. chooses (policy .way at)
-      (last (value at) i)
-      (tries (asked (head at) i) (arrow-lies policy at) (notes (policy .mark at) (last (value at) i)))
-      (follows (asked (head at) i) (arrow-lies policy at)))
-      (λ _. last (value at) i)
-
--- every production
-step-lies : {N : Type 0} (policy : Policy N) (sheet : Sheet) {ask : Asks N} → Answers Any (λ job. Bound (limits sheet job)) Nothing ask → Answers (Fit sheet) Is (Inside sheet) ask
-    → (job : Job) → Fit sheet job → Reads (Is job) (Inside sheet) (step policy sheet ask job)
-unfolding step
-step-lies policy sheet g h (expression at) fit = expression-lies sheet g h at fit
-step-lies policy sheet g h (sequence first comma at so-far) fit = sequence-lies sheet g h first comma at so-far fit
-step-lies policy sheet g h (assignment at) fit = assignment-lies sheet g h policy at fit
-step-lies policy sheet g h (value at) fit = value-lies sheet g h at fit
-step-lies policy sheet g h (assign first at left) fit = assign-lies sheet g h first at left fit
-step-lies policy sheet g h (conditional first at left) fit = conditional-lies sheet g h first at left fit
-step-lies policy sheet g h (binary floor at) fit = binary-lies sheet g h floor at fit
-step-lies policy sheet g h (operators floor first at left) fit = operators-lies sheet g h floor first at left fit
-step-lies policy sheet g h (unary at) fit = unary-lies sheet g h at fit
-step-lies policy sheet g h (postfix at) fit = postfix-lies sheet g h at fit
-step-lies policy sheet g h (left-hand-side at) fit = left-hand-side-lies sheet g h at fit
-step-lies policy sheet g h (links first at left) fit = links-lies sheet g h first at left fit
-step-lies policy sheet g h (arguments first at so-far) fit = arguments-lies sheet g h first at so-far fit
-step-lies policy sheet g h (primary at) fit = primary-lies sheet g h at fit
-step-lies policy sheet g h (elements first at kind so-far) fit = elements-lies sheet g h first at kind so-far fit
-step-lies policy sheet g h (properties first at kind so-far) fit = properties-lies sheet g h first at kind so-far fit
-step-lies policy sheet g h (property at) fit = property-lies sheet g h at fit
-step-lies policy sheet g h (key at) fit = key-lies sheet g h at fit
-step-lies policy sheet g h (spread at) fit = spread-lies sheet g h at fit
-step-lies policy sheet g h (binding at) fit = binding-lies sheet g h at fit
-step-lies policy sheet g h (binding-element at) fit = binding-element-lies sheet g h at fit
-step-lies policy sheet g h (binding-elements first at so-far) fit = binding-elements-lies sheet g h first at so-far fit
-step-lies policy sheet g h (binding-properties first at so-far) fit = binding-properties-lies sheet g h first at so-far fit
-step-lies policy sheet g h (binding-property at) fit = binding-property-lies sheet g h at fit
-step-lies policy sheet g h (binding-rest at) fit = binding-rest-lies sheet g h at fit
-step-lies policy sheet g h (head at) fit = head-lies sheet g h at fit
-step-lies policy sheet g h (parameters at so-far) fit = parameters-lies sheet g h at so-far fit
-step-lies policy sheet g h (body kind first at so-far) fit = body-lies sheet g h kind first at so-far fit
 
 -- THE STATEMENTS
 module _ {N : Type 0} (policy : Policy N) (sheet : Sheet) where
