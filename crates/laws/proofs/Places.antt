@@ -17,7 +17,8 @@ use Rattle.operators.specs.Precedence.{expression-level}
 use Rattle.rows.specs.Row as Row
 use Rattle.rows.specs.Tree.{Tree, Forest, node, nil, cons, one, join, count, kind-of}
 use Rattle.rows.specs.Record.{Record}
-use Rattle.conversion.specs.Conversion.{Outcome, turned, refused, Role, any, simple, element, last-element, property as property-role, last-property, value as value-role, name, same, Change, refuse, keep, turn, is-array-or-object, Seen, seen, is-with, is-closed, as-simple, as-any, as-value, as-element, as-last-element, as-property, as-last-property, as-name, change, roles, over, both as both-kids, convert-as, convert-kids}
+use Rattle.conversion.specs.Conversion.{Outcome, turned, refused, Role, any, simple, Change, refuse, keep, turn, seen, change, roles, over, both as both-kids, convert-as, convert-kids}
+use Rattle.conversion.proofs.Potentials.{Fair, refuses as refuses-first, changes}
 use Rattle.grammar.specs.Sheet.{Sheet, token, break-before, done, fail, Part, first-tree, tree, leaf}
 use Rattle.grammar.specs.Job.{Job, expression, sequence, assignment, value, assign, conditional, binary, operators, unary, postfix, left-hand-side, links, arguments, primary, elements, properties, property, key, spread, binding, binding-element, binding-elements, binding-properties, binding-property, binding-rest, head, parameters, body, Asks}
 use Rattle.grammar.specs.Assignment.{is-assignment-operator, is-async-name}
@@ -76,69 +77,6 @@ record Numbered (cause : Cause) : Type 0 where
   from-nine : 9 ≤ number cause
   to-ten : number cause ≤ 10
 
--- a row that is refused as a target is refused at its first token
-data AtFirst (first : ℕ) (c : Change) : Type 0 where
-  refuses-there : (cause : Cause) → c ≡ refuse cause → place cause ≡ first → Numbered cause → AtFirst first c
-  keeps : (kind : ℕ) (records : List Record) → c ≡ keep kind records → AtFirst first c
-  turns : (kind : ℕ) (before : List Record) (each : ℕ → Role) (after : List Record) → c ≡ turn kind before each after → AtFirst first c
-
-first-if : {first : ℕ} (holds : Bool) {c d : Change} → AtFirst first c → AtFirst first d → AtFirst first (if holds then c else d)
-first-if true h g = h
-first-if false h g = g
-
-module _ (r : Seen) where
-  simple-first : AtFirst (r .first) (as-simple r)
-  unfolding as-simple
-  simple-first =
-      first-if (r .kind is Row.Identifier) (keeps _ _ refl)
-      (first-if (r .kind is Row.Member) (keeps _ _ refl)
-      (first-if (r .kind is Row.Index) (keeps _ _ refl)
-      (first-if (is-with r Row.Paren 1 and not (is-array-or-object (r .last))) (turns _ _ _ _ refl) (refuses-there _ refl refl (omega arith)))))
-
-  any-first : AtFirst (r .first) (as-any r)
-  unfolding as-any
-  any-first =
-      first-if (r .kind is Row.Array) (turns _ _ _ _ refl)
-      (first-if (is-closed r Row.ArrayRestComma) (turns _ _ _ _ refl)
-      (first-if (r .kind is Row.Object) (turns _ _ _ _ refl)
-      (first-if (is-closed r Row.ObjectRestComma) (turns _ _ _ _ refl) simple-first)))
-
-  value-first : AtFirst (r .first) (as-value r)
-  unfolding as-value
-  value-first = first-if (r .kind is Row.Assign) (keeps _ _ refl) (first-if (r .kind is Row.CompoundAssign) (keeps _ _ refl) any-first)
-
-  element-first : AtFirst (r .first) (as-element r)
-  unfolding as-element
-  element-first = first-if (r .kind is Row.Hole) (keeps _ _ refl) (first-if (r .kind is Row.Spread) (refuses-there _ refl refl (omega arith)) value-first)
-
-  last-element-first : (comma : List Record) → AtFirst (r .first) (as-last-element comma r)
-  unfolding as-last-element
-  last-element-first comma = first-if (is-with r Row.Spread 1) (turns _ _ _ _ refl) element-first
-
-  property-first : AtFirst (r .first) (as-property r)
-  unfolding as-property
-  property-first =
-      first-if (is-with r Row.Shorthand 1) (turns _ _ _ _ refl)
-      (first-if (is-with r Row.ShorthandInit 2) (turns _ _ _ _ refl)
-      (first-if (is-with r Row.Property 2) (turns _ _ _ _ refl)
-      (first-if (r .kind is Row.Spread) (refuses-there _ refl refl (omega arith)) (refuses-there _ refl refl (omega arith)))))
-
-  last-property-first : (comma : List Record) → AtFirst (r .first) (as-last-property comma r)
-  unfolding as-last-property
-  last-property-first comma = first-if (is-with r Row.Spread 1) (turns _ _ _ _ refl) property-first
-
-  change-first : (role : Role) → AtFirst (r .first) (change role r)
-  unfolding change as-name
-  change-first any = any-first
-  change-first simple = simple-first
-  change-first element = element-first
-  change-first (last-element comma) = last-element-first comma
-  change-first property-role = property-first
-  change-first (last-property comma) = last-property-first comma
-  change-first value-role = value-first
-  change-first name = first-if (r .kind is Row.Identifier) (keeps _ _ refl) (refuses-there _ refl refl (omega arith))
-  change-first same = keeps _ _ refl
-
 -- what comes of a tree lies where it lay, or is refused inside it
 data Stays (low high : ℕ) (o : Outcome Tree) : Type 0 where
   stays : (t : Tree) (records : List Record) → o ≡ turned t records → Lies low high t → Stays low high o
@@ -148,13 +86,13 @@ data AllStay (low high : ℕ) (o : Outcome Forest) : Type 0 where
   all-stay : (ts : Forest) (records : List Record) → o ≡ turned ts records → Lie low high ts → AllStay low high o
   one-falls : (cause : Cause) → o ≡ refused cause → low ≤ place cause → place cause < high → Numbered cause → AllStay low high o
 
-over-stays : {low high mark first end : ℕ} {kids : Forest} (kind : ℕ) (c : Change) {o : Outcome Forest} → low ≤ first → first ≤ mark → mark < end → end ≤ high → Lie first end kids
-    → AtFirst first c → AllStay first end o → Stays low high (over c (node kind mark first end kids) o)
-unfolding over
-over-stays kind c l m e h k (refuses-there cause q p u) s = rw q (falls cause refl (omega arith) (omega arith) u)
-over-stays kind c l m e h k (keeps kind′ records q) s = rw q (stays _ _ refl (row l m e h k))
-over-stays kind c l m e h k (turns kind′ before each after q) (all-stay ts records q′ k′) = rw (q, q′) (stays _ _ refl (row l m e h k′))
-over-stays kind c l m e h k (turns kind′ before each after q) (one-falls cause q′ a b u) = rw (q, q′) (falls cause refl (omega arith) (omega arith) u)
+over-stays : {low high mark first end w : ℕ} {kids : Forest} (kind : ℕ) (c : Change) {o : Outcome Forest} → low ≤ first → first ≤ mark → mark < end → end ≤ high → Lie first end kids
+    → Fair (seen (node kind mark first end kids)) w c → AllStay first end o → Stays low high (over c (node kind mark first end kids) o)
+unfolding over seen
+over-stays kind (refuse cause) l m e h k (refuses-first p u v) s = falls cause refl (omega arith) (omega arith) (omega arith)
+over-stays kind (keep kind′ records) l m e h k f s = stays _ _ refl (row l m e h k)
+over-stays kind (turn kind′ before each after) l m e h k f (all-stay ts records q k′) = rw q (stays _ _ refl (row l m e h k′))
+over-stays kind (turn kind′ before each after) l m e h k f (one-falls cause q a b u) = rw q (falls cause refl (omega arith) (omega arith) u)
 
 both-stay : {low middle high : ℕ} {o : Outcome Tree} {o′ : Outcome Forest} → Stays low middle o → middle ≤ high → AllStay middle high o′ → low ≤ middle → AllStay low high (both-kids o o′)
 unfolding both-kids
@@ -167,7 +105,7 @@ mutual
 
   convert-stays : (t : Tree) (role : Role) {low high : ℕ} → Lies low high t → Stays low high (convert-as t role)
   convert-stays (node kind mark first end kids) role (row-lies l m e h k) =
-      over-stays kind (change role (seen (node kind mark first end kids))) l m e h k (change-first (seen (node kind mark first end kids)) role)
+      over-stays kind (change role (seen (node kind mark first end kids))) l m e h k (changes (node kind mark first end kids) role)
       (kids-stay kids (roles (change role (seen (node kind mark first end kids)))) k)
 
   kids-stay : (ts : Forest) (each : ℕ → Role) {low high : ℕ} → Lie low high ts → AllStay low high (convert-kids ts each)
