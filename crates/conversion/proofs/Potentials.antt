@@ -2,7 +2,7 @@
 -- than what could be recorded of the tree, and of a comma that is handed down to the last kid.
 -- Assumes nothing.
 use Prim.Native.Nat.{ℕ, _+_, _≤_}
-use mathlib.Core.Path.{_≡_, refl, sym}
+use mathlib.Core.Path.{_≡_, refl, sym, ap}
 use mathlib.Core.Bool.{Bool, true, false, not}
 use mathlib.Core.List.{List, [], _∷_, _++_}
 use native.Mathlib.Omega.{arith}
@@ -14,12 +14,13 @@ use Rattle.tokens.specs.declared.cause.Cause.{Cause}
 use Rattle.rows.specs.Row as row
 use Rattle.rows.specs.Tree.{Tree, Forest, node, nil, cons, count, first-of, size, sizes}
 use Rattle.rows.specs.Record.{Record, rest-argument, rest-comma, compound-default}
-use Rattle.conversion.specs.Conversion.{Outcome, turned, refused, Role, Change, refuse, keep, turn, only, each, is-with, is-closed, is-array-or-object, is-reference, last-of, inner-kind, Seen, seen, as-simple, as-any, as-value, as-element, as-last-element, as-property, as-last-property, as-name, change, roles, over, both, convert-as, convert-kids}
+use Rattle.conversion.specs.Conversion.{Outcome, turned, refused, Role, Change, refuse, keep, turn, only, each, is-with, is-closed, is-array-or-object, is-reference, last-of, inner-kind, Seen, seen, as-simple, as-any, as-value, as-element, as-last-element, as-property, as-last-property, as-name, change, roles, over, convert-as, convert-kids}
 use Rattle.tokens.specs.Cause.{number, place}
 use Rattle.conversion.proofs.Relabelled.{Relabel, kept, target}
 use Rattle.conversion.proofs.KidRoles.{elements, properties, key-and-value, name-and-initializer}
 use Rattle.conversion.specs.Potential.{may-record, potential, potentials}
-use Rattle.conversion.proofs.RuleHolds.{both-true, refused-turned, follows}
+use Rattle.conversion.proofs.RuleHolds.{both-true, refused-turned, follows, cons-parts}
+pub use Rattle.conversion.proofs.RuleHolds.{turned-is, turned-records}
 
 abbrev pub weight : ℕ → ℕ
 weight kind = if may-record kind then 1 else 0
@@ -158,13 +159,6 @@ changes (node k m f e kids) role =
     (none-or-one (is-reference (inner-kind (last-of kids)) or is-array-or-object (inner-kind (last-of kids))) (rest-argument (first-of (last-of kids))))
     (none-or-one (is-reference (inner-kind (last-of kids))) (rest-argument (first-of (last-of kids))))
 
--- what an outcome holds
-pub turned-is : {A : Type 0} {a b : A} {rs ss : List Record} → turned a rs ≡ turned b ss → a ≡ b
-turned-is e = cc
-
-pub turned-records : {A : Type 0} {a b : A} {rs ss : List Record} → turned a rs ≡ turned b ss → rs ≡ ss
-turned-records e = cc
-
 -- the comma that kids are handed
 abbrev pub extra : (ℕ → Role) → Forest → ℕ
 extra each nil = 0
@@ -193,19 +187,6 @@ over-pays {w} (turn kind before each after) (turns l few quiet) k m f e kids (tu
     simp length-append (omega (arith, p .is, extra-less each kids)) in
     record { is = rw (sym (turned-is h), sym (turned-records h)) fits }
 
-both-pays : (x : Outcome Tree) (y : Outcome Forest) (ts′ : Forest) (rs : List Record) {v w : ℕ} → both x y ≡ turned ts′ rs
-    → ((t′ : Tree) (rs′ : List Record) → x ≡ turned t′ rs′ → Paid v (potential t′) rs′)
-    → ((us′ : Forest) (rs′ : List Record) → y ≡ turned us′ rs′ → Paid w (potentials us′) rs′)
-    → Paid (v + w) (potentials ts′) rs
-unfolding both potentials
-both-pays (refused c) y ts′ rs h p q = absurd (refused-turned h)
-both-pays (turned t′ rs′) (refused c) ts′ rs h p q = absurd (refused-turned h)
-both-pays (turned t′ rs′) (turned us′ ss′) ts′ rs {v} {w} h p q =
-    let a = p t′ rs′ refl in
-    let b = q us′ ss′ refl in
-    let fits : length (rs′ ++ ss′) + (potential t′ + potentials us′) ≤ v + w = simp length-append (omega (arith, a .is, b .is)) in
-    record { is = rw (sym (turned-is h), sym (turned-records h)) fits }
-
 paid-more : {v w give : ℕ} {rs : List Record} → v ≤ w → Paid v give rs → Paid w give rs
 paid-more h p = record { is = omega (arith, p .is) }
 
@@ -230,10 +211,10 @@ mutual
       → Paid (potentials ts + extra each ts) (potentials ts′) rs
   pays-kids nil each quiet ts′ rs h = let fits : length {A = Record} [] + potentials nil ≤ 0 + 0 = omega arith in record { is = rw (sym (turned-is h), sym (turned-records h)) fits }
   pays-kids (cons t ts) each quiet ts′ rs h =
-      paid-more (omega (arith, extra-cons each ts quiet))
-      (both-pays (convert-as t (each (count ts))) (convert-kids ts each) ts′ rs h
-      (λ t′ rs′ q. pays t (each (count ts)) t′ rs′ q)
-      (λ us′ rs′ q. pays-kids ts each quiet us′ rs′ q))
+      let b = cons-parts t ts each ts′ rs h in
+      let p = pays t (each (count ts)) (b .one) (b .first) (b .one-is) in
+      let q = pays-kids ts each quiet (b .rest) (b .later) (b .rest-is) in
+      record { is = omega (arith, simp length-append at (ap length (b .records)), ap potentials (b .made), p .is, q .is, extra-cons each ts quiet) }
 
 weight-one : (k : ℕ) → weight k ≤ 1
 weight-one k = go (may-record k)

@@ -7,9 +7,8 @@ use Rattle.rows.specs.Tree.{Tree, Forest, node, nil, cons, count}
 use Rattle.rows.specs.Record.{Record}
 use Rattle.conversion.specs.Conversion.{Outcome, turned, refused, Role, Change, refuse, keep, turn, seen, change, roles, over, convert-as, convert-kids}
 use Rattle.conversion.proofs.Relabelled.{kept, Relabelled, relabelled, AllRelabelled, no-more, one-more}
-use Rattle.conversion.proofs.RuleHolds.{refused-turned}
+use Rattle.conversion.proofs.RuleHolds.{refused-turned, cons-parts}
 use Rattle.conversion.proofs.Potentials.{Fair, keeps, turns, changes, turned-is}
-use Rattle.conversion.proofs.Shapes.{cons-parts}
 
 over-labels : {w : ℕ} (ch : Change) (k m f e : ℕ) (kids : Forest) (out : Outcome Forest) (t′ : Tree) (rs : List Record) → Fair (seen (node k m f e kids)) w ch → AllRelabelled kids kids
     → over ch (node k m f e kids) out ≡ turned t′ rs → ((ts′ : Forest) (ss : List Record) → out ≡ turned ts′ ss → AllRelabelled kids ts′)
@@ -37,7 +36,7 @@ mutual
       (changes (node k m f e kids) role) (all-itself kids) h
       (λ ts′ ss q. all-relabels kids (roles (change role (seen (node k m f e kids)))) ts′ ss q)
 
-  all-relabels : (ts : Forest) (each : ℕ → Role) (ts′ : Forest) (rs : List Record) → convert-kids ts each ≡ turned ts′ rs → AllRelabelled ts ts′
+  pub all-relabels : (ts : Forest) (each : ℕ → Role) (ts′ : Forest) (rs : List Record) → convert-kids ts each ≡ turned ts′ rs → AllRelabelled ts ts′
   all-relabels nil each ts′ rs h = rw (sym (turned-is h)) no-more
   all-relabels (cons t ts) each ts′ rs h =
       let b = cons-parts t ts each ts′ rs h in

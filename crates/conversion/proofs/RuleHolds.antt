@@ -1,14 +1,14 @@
 -- Conversion and the target rule agree on every tree: a row converts with neither refusal nor record exactly if the rule holds.
 -- Assumes nothing.
 use Prim.Native.Nat.{ℕ, _+_}
-use mathlib.Core.Path.{_≡_, refl, ap, _∙_}
+use mathlib.Core.Path.{_≡_, refl, sym, ap, _∙_}
 use mathlib.Core.Logic.{_↔_}
 use mathlib.Core.Bool.{Bool, true, false, not}
 use mathlib.Core.List.{List, [], _∷_, _++_}
 use native.Mathlib.Omega.{arith}
 use lib.Dec.{eqb}
 use borrow.Author.Tests.{eqb-true, ne-eqb}
-use Rattle.tokens.specs.Bool.{if_then_else_, _and_, _or_}
+use Rattle.tokens.specs.Bool.{if_then_else_, _and_}
 use Rattle.tokens.specs.declared.cause.Cause.{Cause}
 use Rattle.rows.specs.Row as row
 use Rattle.rows.specs.Tree.{Tree, Forest, node, nil, cons, one, count, kind-of}
@@ -407,14 +407,44 @@ rule-of Role.value k m f e kids s = rule-value k m f e kids s
 rule-of Role.name k m f e kids s = rule-name k m f e kids s
 rule-of Role.same k m f e kids s = tt
 
-both-clean : (x : Outcome Tree) (y : Outcome Forest) (ts′ : Forest) → both x y ≡ turned ts′ [] → (t : Tree) × (us : Forest) × (x ≡ turned t []) × (y ≡ turned us [])
+-- what an outcome holds
+pub turned-is : {A : Type 0} {a b : A} {rs ss : List Record} → turned a rs ≡ turned b ss → a ≡ b
+turned-is e = cc
+
+pub turned-records : {A : Type 0} {a b : A} {rs ss : List Record} → turned a rs ≡ turned b ss → rs ≡ ss
+turned-records e = cc
+
+-- what comes of a row and of those after it
+pub record Both (x : Outcome Tree) (y : Outcome Forest) (ts′ : Forest) (rs : List Record) : Type 0 where
+  pub one : Tree
+  pub first : List Record
+  pub rest : Forest
+  pub later : List Record
+  pub one-is : x ≡ turned one first
+  pub rest-is : y ≡ turned rest later
+  pub made : ts′ ≡ cons one rest
+  pub records : rs ≡ first ++ later
+
+pub both-parts : (x : Outcome Tree) (y : Outcome Forest) (ts′ : Forest) (rs : List Record) → both x y ≡ turned ts′ rs → Both x y ts′ rs
 unfolding both
-both-clean (refused c) y ts′ e = absurd (refused-turned e)
-both-clean (turned t rs) (refused c) ts′ e = absurd (refused-turned e)
-both-clean (turned t rs) (turned us more) ts′ e =
-    let all : rs ++ more ≡ [] = cc in
-    let a = append-nil rs more all in
-    (t, us, ap (turned t) (a .0), ap (turned us) (a .1))
+both-parts (refused c) y ts′ rs h = absurd (refused-turned h)
+both-parts (turned t ss) (refused c) ts′ rs h = absurd (refused-turned h)
+both-parts (turned t ss) (turned us vs) ts′ rs h =
+    record {
+      one = t;
+      first = ss;
+      rest = us;
+      later = vs;
+      one-is = refl;
+      rest-is = refl;
+      made = sym (turned-is h);
+      records = sym (turned-records h);
+    }
+
+pub cons-parts : (t : Tree) (ts : Forest) (each : ℕ → Role) (ts′ : Forest) (rs : List Record) → convert-kids (cons t ts) each ≡ turned ts′ rs
+    → Both (convert-as t (each (count ts))) (convert-kids ts each) ts′ rs
+unfolding convert-kids
+cons-parts t ts each ts′ rs h = both-parts (convert-as t (each (count ts))) (convert-kids ts each) ts′ rs h
 
 mutual
   unfolding convert-as convert-kids RuledKids
@@ -428,8 +458,9 @@ mutual
   ruled-kids : (ts : Forest) (each : ℕ → Role) (ts′ : Forest) → convert-kids ts each ≡ turned ts′ [] → RuledKids each ts
   ruled-kids nil each ts′ h = tt
   ruled-kids (cons t ts) each ts′ h =
-      let b = both-clean (convert-as t (each (count ts))) (convert-kids ts each) ts′ h in
-      (ruled t (each (count ts)) (b .0) (b .2), ruled-kids ts each (b .1) (b .3))
+      let b = cons-parts t ts each ts′ [] h in
+      let none = append-nil (b .first) (b .later) (sym (b .records)) in
+      (ruled t (each (count ts)) (b .one) (b .one-is ∙ ap (turned (b .one)) (none .0)), ruled-kids ts each (b .rest) (b .rest-is ∙ ap (turned (b .rest)) (none .1)))
 
 -- Any target: converted with neither refusal nor record, exactly if the rule holds.
 pub target-rule : (t : Tree) → ((t′ : Tree) × (convert t ≡ turned t′ [])) ↔ Target t
