@@ -18,7 +18,7 @@ use Rattle.rows.specs.Record.{Record}
 use Rattle.conversion.specs.Conversion.{Outcome, turned, refused, Role, any, simple, element, last-element, property, last-property, value, name, same, Change, refuse, keep, turn, is-array-or-object, last-of, seen, as-simple, as-any, as-value, as-element, as-last-element, as-property, as-last-property, as-name, change, roles, over, both, convert-as, convert-kids}
 use Rattle.conversion.proofs.KidRoles.{elements, properties, key-and-value, name-and-initializer}
 use Rattle.tokens.specs.declared.cause.Cause.{Cause}
-use Rattle.rows.specs.Shape.{is-listed, is-left-hand-side, is-unary, is-binary, is-logical, is-assignment, is-parameter, is-simple-target, is-target, nothing, only, Shape, shape-of, least, may-be, may-end, fits, last-kind, all-fit, is-shaped, well-formed, all-well-formed}
+use Rattle.rows.specs.Shape.{is-listed, is-left-hand-side, is-unary, is-binary, is-logical, is-assignment, is-expression, is-binding, is-parameter, is-body, is-simple-target, is-target, nothing, only, Shape, shape-of, least, may-be, may-end, fits, last-kind, all-fit, is-shaped, well-formed, all-well-formed}
 use Rattle.laws.proofs.RowKinds.{is-key, is-value, is-target-element, is-target-property, is-target-value}
 use Rattle.laws.specs.Promises.{Class, Ends, In, Kinds, in-class, of, within}
 
@@ -54,6 +54,11 @@ mutual
 -- among these kinds the last kid of a row does not matter, in a row of this kind
 unfoldable pub free : ℕ → Kinds → Bool
 free kind kinds = not (eqb kind Row.BindingObject or kinds Row.Property)
+
+-- the table of shapes, and the sets of kinds in it: to unfold this is to unfold them all
+unfoldable pub shapes : Type 0
+unfolding shape-of is-listed in-class free may-end only is-left-hand-side is-unary is-binary is-logical is-assignment is-expression is-binding is-parameter is-simple-target is-target is-body kind-of kids-of last-kind
+shapes = Unit {0}
 
 ends-free : (kind : ℕ) (kinds : Kinds) (kid last : ℕ) → free kind kinds ≡ true → kinds kid ≡ true → may-end kind kid last ≡ true
 unfolding free may-end
@@ -279,7 +284,7 @@ compound-kids (in-front i k) = in-front (held Row.TargetDefault refl (target-of 
 -- what each change makes of a row that is Formed
 module _ (kind mark first end : ℕ) (kids : Forest) (k : KidsOf kind kids) (a : AllFormed kids) where
   simple-becomes : Becomes (λ t. In (of is-simple-target) t) mark first end kids (as-simple (seen (node kind mark first end kids)))
-  unfolding shape-of is-listed in-class may-end free only is-target is-simple-target kind-of kids-of last-kind seen as-simple
+  unfolding shapes seen as-simple
   simple-becomes =
       becomes-if (eqb kind Row.Identifier) (λ e. keeps _ _ refl (row-formed refl (rw (eqb-true kind Row.Identifier e) at k) a) (record { holds = refl }))
       (becomes-if (eqb kind Row.Member) (λ e. keeps _ _ refl (row-formed refl (rw (eqb-true kind Row.Member e) at k) a) (record { holds = refl }))
@@ -291,7 +296,7 @@ module _ (kind mark first end : ℕ) (kids : Forest) (k : KidsOf kind kids) (a :
       (refuses _ refl))))
 
   any-becomes : Becomes (λ t. In (of is-target) t) mark first end kids (as-any (seen (node kind mark first end kids)))
-  unfolding shape-of is-listed in-class may-end free only is-target is-simple-target kind-of kids-of last-kind seen as-any
+  unfolding shapes seen as-any
   any-becomes =
       becomes-if (eqb kind Row.Array) (λ e. array [])
       (becomes-if (eqb kind Row.ArrayRestComma and eqb (kind-of (last-of kids)) Row.Spread) (λ e. array _)
@@ -308,20 +313,20 @@ module _ (kind mark first end : ℕ) (kids : Forest) (k : KidsOf kind kids) (a :
           turns _ _ _ _ refl (λ kids′ c f. row-formed refl (then-rest (list-kids Row.TargetObject (properties comma) refl (λ t t′ i. i) (λ n t t′ i. rw (eqb·suc-zero n) at i) c)) f) (λ kids′. record { holds = refl })
 
   value-becomes : Becomes (λ t. In (of is-target-value) t) mark first end kids (as-value (seen (node kind mark first end kids)))
-  unfolding shape-of is-listed in-class may-end free only is-target is-simple-target kind-of kids-of last-kind seen as-value
+  unfolding shapes seen as-value
   value-becomes =
       becomes-if (eqb kind Row.Assign) (λ e. keeps _ _ refl (row-formed refl (rw (eqb-true kind Row.Assign e) at k) a) (record { holds = refl }))
       (becomes-if (eqb kind Row.CompoundAssign) (λ e. keeps _ _ refl (row-formed refl (compound-kids (rw (eqb-true kind Row.CompoundAssign e) at k)) a) (record { holds = refl }))
       (becomes-so target-value-of any-becomes))
 
   element-becomes : Becomes (λ t. In (of is-target-element) t) mark first end kids (as-element (seen (node kind mark first end kids)))
-  unfolding shape-of is-listed in-class may-end free only is-target is-simple-target kind-of kids-of last-kind seen as-element
+  unfolding shapes seen as-element
   element-becomes =
       becomes-if (eqb kind Row.Hole) (λ e. keeps _ _ refl (row-formed refl (rw (eqb-true kind Row.Hole e) at k) a) (record { holds = refl }))
       (becomes-if (eqb kind Row.Spread) (λ e. refuses _ refl) (becomes-so target-value-element value-becomes))
 
   last-element-becomes : (comma : List Record) → Becomes (λ t. Last is-target-element t) mark first end kids (as-last-element comma (seen (node kind mark first end kids)))
-  unfolding shape-of is-listed in-class may-end free only is-target is-simple-target kind-of kids-of last-kind seen as-last-element
+  unfolding shapes seen as-last-element
   last-element-becomes comma =
       becomes-if (eqb kind Row.Spread and eqb (count kids) 1)
       (λ e. turns _ _ _ _ refl (λ kids′ c f. row-formed refl (one-kid Row.TargetRest {role = any} refl (λ t t′ i. i) (eqb-true (count kids) 1 (and-right (eqb kind Row.Spread) _ e)) c) f)
@@ -329,7 +334,7 @@ module _ (kind mark first end : ℕ) (kids : Forest) (k : KidsOf kind kids) (a :
       (becomes-so (λ t i. as-others i) element-becomes)
 
   property-becomes : Becomes (λ t. In (of is-target-property) t) mark first end kids (as-property (seen (node kind mark first end kids)))
-  unfolding shape-of is-listed in-class may-end free only is-target is-simple-target kind-of kids-of last-kind seen as-property
+  unfolding shapes seen as-property
   property-becomes =
       becomes-if (eqb kind Row.Shorthand and eqb (count kids) 1)
       (λ e. turns _ _ _ _ refl (λ kids′ c f. row-formed refl (one-kid Row.TargetShorthand {role = name} refl (λ t t′ i. i) (eqb-true (count kids) 1 (and-right (eqb kind Row.Shorthand) _ e)) c) f)
@@ -341,7 +346,7 @@ module _ (kind mark first end : ℕ) (kids : Forest) (k : KidsOf kind kids) (a :
       (becomes-if (eqb kind Row.Spread) (λ e. refuses _ refl) (refuses _ refl))))
 
   last-property-becomes : (comma : List Record) → Becomes (λ t. Last is-target-property t) mark first end kids (as-last-property comma (seen (node kind mark first end kids)))
-  unfolding shape-of is-listed in-class may-end free only is-target is-simple-target kind-of kids-of last-kind seen as-last-property
+  unfolding shapes seen as-last-property
   last-property-becomes comma =
       becomes-if (eqb kind Row.Spread and eqb (count kids) 1)
       (λ e. turns _ _ _ _ refl (λ kids′ c f. row-formed refl (one-kid Row.TargetRest {role = any} refl (λ t t′ i. i) (eqb-true (count kids) 1 (and-right (eqb kind Row.Spread) _ e)) c) f)
@@ -349,7 +354,7 @@ module _ (kind mark first end : ℕ) (kids : Forest) (k : KidsOf kind kids) (a :
       (becomes-so (λ t i. as-others i) property-becomes)
 
   name-becomes : Becomes (λ t. In (of (only Row.TargetName)) t) mark first end kids (as-name (seen (node kind mark first end kids)))
-  unfolding shape-of is-listed in-class may-end free only is-target is-simple-target kind-of kids-of last-kind seen as-name
+  unfolding shapes seen as-name
   name-becomes = becomes-if (eqb kind Row.Identifier) (λ e. keeps _ _ refl (row-formed refl (rw (eqb-true kind Row.Identifier e) at k) a) (record { holds = refl })) (refuses _ refl)
 
   becomes : is-listed kind ≡ true → (role : Role) → Becomes (After role (node kind mark first end kids)) mark first end kids (change role (seen (node kind mark first end kids)))

@@ -16,7 +16,7 @@ use Rattle.tokens.specs.Token.{is-name, is-word, is-literal}
 use Rattle.operators.specs.Precedence.{tiers, among, level-from, level, expression-level}
 use Rattle.rows.specs.Row as Row
 use Rattle.rows.specs.Shape.{is-listed, is-left-hand-side, is-unary, is-binary, is-logical, is-assignment, is-expression, is-binding, is-parameter, is-simple-target, is-target, is-body, nothing, only, exactly, shape-of, may-end, last-kind}
-use Rattle.laws.proofs.RowKinds.{is-element, is-key, is-value, is-argument, is-binding-element, is-property, is-binding-property, any-closed, any-number}
+use Rattle.laws.proofs.RowKinds.{is-element, is-key, is-value, is-argument, is-binding-element, is-property, is-binding-property, any-closed}
 use Rattle.rows.specs.Tree.{Tree, Forest, node, nil, cons, one, join, count, kind-of, kids-of}
 use Rattle.rows.specs.Record.{Record}
 use Rattle.rows.proofs.Rows.{count-join}
@@ -32,7 +32,7 @@ use Rattle.grammar.specs.Step.{step, read, plenty}
 use Rattle.grammar.specs.Reading.{whole, reading}
 use Rattle.laws.proofs.Good.{productions, came, Meaning, Reads, Answers, Preserved, good, good-done, yields, refuses, says, follows, tries, test, token-test, chooses, notes, converts, so, and-left, and-right}
 use Rattle.laws.proofs.Bounds.{Nothing, fee, fee-comma, fee-one}
-use Rattle.laws.proofs.Formed.{or-left, no-ending, one-ending, Middle, one-more, one-closing, no-more, Kids, KidsOf, in-front, then-rest, free, held, Formed, row-formed, AllFormed, all-nil, all-cons, is-well-formed, Converted, converted-formed}
+use Rattle.laws.proofs.Formed.{shapes, or-left, no-ending, one-ending, Middle, one-more, one-closing, no-more, Kids, KidsOf, in-front, then-rest, free, held, Formed, row-formed, AllFormed, all-nil, all-cons, is-well-formed, Converted, converted-formed}
 use Rattle.laws.specs.Promises.{Kinds, Ends, Class, of, within, in-class, In, OneTree}
 
 -- a tree that is Formed, and may stand where the class is asked
@@ -158,9 +158,6 @@ all-join (and-tree p a) u = and-tree p (all-join a u)
 all-sole : {P : Tree → Type 0} {ts : Forest} → Sole P ts → All P ts
 all-sole (sole p) = and-tree p no-tree
 
-all-one : {P : Tree → Type 0} {t : Tree} → P t → All P (one t)
-all-one p = and-tree p no-tree
-
 all-formed : {class : Class} {ts : Forest} → All (Well class) ts → AllFormed ts
 all-formed no-tree = all-nil
 all-formed (and-tree w a) = all-cons (w .formed) (all-formed a)
@@ -187,37 +184,9 @@ well-so w f = record { formed = w .formed; fits = f (w .fits) }
 term-so : {sheet : Sheet} {c d : Class} {at : ℕ} {t : Tree} → Term sheet c at t → (In c t → In d t) → Term sheet d at t
 term-so e f = record { well = well-so (e .well) f; braced = e .braced }
 
-unary-of-lhs : {t : Tree} → In (of is-left-hand-side) t → In (of is-unary) t
-unfolding in-class is-unary
-unary-of-lhs i = record { holds = or-left _ _ (i .holds) }
-
-binary-of-unary : {t : Tree} → In (of is-unary) t → In (of is-binary) t
-unfolding in-class is-binary
-binary-of-unary i = record { holds = or-left _ _ (i .holds) }
-
-logical-of-binary : {t : Tree} → In (of is-binary) t → In (of is-logical) t
-unfolding in-class is-logical
-logical-of-binary i = record { holds = or-left _ _ (i .holds) }
-
-assignment-of-logical : {t : Tree} → In (of is-logical) t → In (of is-assignment) t
-unfolding in-class is-assignment
-assignment-of-logical i = record { holds = or-left _ _ (i .holds) }
-
-expression-of-assignment : {t : Tree} → In (of is-assignment) t → In (of is-expression) t
-unfolding in-class is-expression
-expression-of-assignment i = record { holds = or-left _ _ (i .holds) }
-
-element-of-assignment : {t : Tree} → In (of is-assignment) t → In (of is-element) t
-unfolding in-class only
-element-of-assignment i = record { holds = or-left _ _ (i .holds) }
-
-argument-of-assignment : {t : Tree} → In (of is-assignment) t → In (of is-argument) t
-unfolding in-class only
-argument-of-assignment i = record { holds = or-left _ _ (i .holds) }
-
-value-of-assignment : {t : Tree} → In (of is-assignment) t → In (of is-value) t
-unfolding in-class only
-value-of-assignment i = record { holds = or-left _ _ (i .holds) }
+wider : {a b : Kinds} {t : Tree} → ((k : ℕ) → a k ≡ true → b k ≡ true) → In (of a) t → In (of b) t
+unfolding in-class
+wider {t = t} f i = record { holds = f (kind-of t) (i .holds) }
 
 value-of-parameter : {t : Tree} → In (of is-parameter) t → In (of is-value) t
 unfolding in-class only
@@ -227,32 +196,27 @@ value-of-parameter {t} i = record { holds = go (is-assignment (kind-of t)) (i .h
     go true e = refl
     go false e = e
 
-parameter-of-binding : {t : Tree} → In (of is-binding) t → In (of is-parameter) t
-unfolding in-class is-parameter
-parameter-of-binding i = record { holds = or-left _ _ (i .holds) }
-
-binding-element-of-parameter : {t : Tree} → In (of is-parameter) t → In (of is-binding-element) t
-unfolding in-class only
-binding-element-of-parameter i = record { holds = or-left _ _ (i .holds) }
-
 -- of one kind
 spread-is : {t : Tree} → In (of (only Row.Spread)) t → kind-of t ≡ Row.Spread
 unfolding in-class only
 spread-is i = eqb-true _ _ (i .holds)
 
-element-of-spread : {t : Tree} → In (of (only Row.Spread)) t → In (of is-element) t
-unfolding in-class is-left-hand-side is-unary is-binary is-logical is-assignment only
-element-of-spread i = record { holds = rw (spread-is i) }
-
-argument-of-spread : {t : Tree} → In (of (only Row.Spread)) t → In (of is-argument) t
-unfolding in-class is-left-hand-side is-unary is-binary is-logical is-assignment only
-argument-of-spread i = record { holds = rw (spread-is i) }
-
-property-of-spread : {t : Tree} → In (of (only Row.Spread)) t → In (within (may-end Row.Object) is-property) t
-unfolding in-class may-end only
-property-of-spread i = record { holds = rw (spread-is i) }
+-- a Spread, where a class has it whatever its last kid
+spread-in : {class : Class} {t : Tree} → ((last : ℕ) → in-class class Row.Spread last ≡ true) → In (of (only Row.Spread)) t → In class t
+spread-in f i = record { holds = rw (spread-is i) (f _) }
 
 -- ROWS
+-- a row of a class, by its kind
+well-of : {class : Class} {kind mark first end : ℕ} {kids : Forest} → Formed (node kind mark first end kids) → in-class class kind (last-kind 0 kids) ≡ true → Well class (node kind mark first end kids)
+unfolding kind-of kids-of
+well-of f e = record { formed = f; fits = record { holds = e } }
+
+-- a row that is no object
+term-of : {sheet : Sheet} {class : Class} {at kind mark first end : ℕ} {kids : Forest} → Formed (node kind mark first end kids) → in-class class kind (last-kind 0 kids) ≡ true
+    → between Row.Object Row.ObjectRestComma kind ≡ false → Term sheet class at (node kind mark first end kids)
+unfolding kind-of
+term-of f e n = record { well = well-of f e; braced = λ q. let z : _≡_ {A = ℕ} 0 1 = cc in absurd (omega arith) }
+
 make : {kind mark first end : ℕ} {kids : Forest} → is-listed kind ≡ true → KidsOf kind kids → AllFormed kids → Formed (node kind mark first end kids)
 make l k a = row-formed l k a
 
@@ -299,10 +263,6 @@ row-of-three {a} {b} {c} {kind} e l w (sole v) (sole u) =
     (rw e (in-front (held kind (and-left _ _ f) (w .fits)) (in-front (held kind (and-left _ _ g) (v .fits)) (in-front (held kind (and-right (free kind b) _ g) (u .fits)) nothing-more))))
     (all-cons (w .formed) (all-cons (v .formed) (all-cons (u .formed) all-nil)))
 
-row-of-many : {a : Kinds} {kind mark first end : ℕ} {ts : Forest} → shape-of kind ≡ any-number a → is-listed kind ≡ true → All (Well (within (may-end kind) a)) ts
-    → Formed (node kind mark first end ts)
-row-of-many e l w = make l (rw e (then-rest (all-middle w))) (all-formed w)
-
 row-closed : {a b : Kinds} {kind mark first end : ℕ} {ts us : Forest} → shape-of kind ≡ any-closed a b → is-listed kind ≡ true → All (Well (within (may-end kind) a)) ts
     → Sole (Well (within (may-end kind) b)) us → Formed (node kind mark first end (join ts us))
 row-closed e l w (sole v) = make l (rw e (then-rest (all-many w (one-closing (v .fits) no-ending)))) (formed-join (all-formed w) (all-cons (v .formed) all-nil))
@@ -320,17 +280,14 @@ sequence-kids (and-tree w (and-tree v a)) l =
     in-front (held Row.Sequence refl (w .fits)) (in-front (held Row.Sequence refl (v .fits)) (then-rest (all-middle (all-held Row.Sequence refl a))))
 
 sequence-row : {mark first end : ℕ} {ts : Forest} → All (Well (of is-assignment)) ts → 2 ≤ count ts → Well (of is-expression) (node Row.Sequence mark first end ts)
-unfolding shape-of is-listed in-class free may-end only is-left-hand-side is-unary is-binary is-logical is-assignment is-expression is-binding is-parameter is-simple-target is-target is-body kind-of kids-of last-kind
-sequence-row a l = record { formed = make refl (sequence-kids a l) (all-formed a); fits = record { holds = refl } }
+unfolding shapes
+sequence-row a l = well-of (make refl (sequence-kids a l) (all-formed a)) refl
 
 -- a Call
 call-row : (sheet : Sheet) {mark at first end : ℕ} {ts : Forest} → Called ts → Term sheet (of is-left-hand-side) at (node Row.Call mark first end ts)
-unfolding shape-of is-listed in-class free may-end only is-left-hand-side is-unary is-binary is-logical is-assignment is-expression is-binding is-parameter is-simple-target is-target is-body kind-of kids-of last-kind
+unfolding shapes
 call-row sheet (called w a) =
-    record {
-      well = record { formed = make refl (in-front (held Row.Call refl (w .fits)) (then-rest (all-middle (all-held Row.Call refl a)))) (all-cons (w .formed) (all-formed a)); fits = record { holds = refl } };
-      braced = λ e. let z : _≡_ {A = ℕ} 0 1 = cc in absurd (omega arith);
-    }
+    term-of (make refl (in-front (held Row.Call refl (w .fits)) (then-rest (all-middle (all-held Row.Call refl a)))) (all-cons (w .formed) (all-formed a))) refl refl
 
 call-join : {ts us : Forest} → Called ts → Sole (Well (of is-argument)) us → Called (join ts us)
 unfolding join
@@ -346,28 +303,24 @@ spread-formed a (sole w) = formed-join (all-formed a) (all-cons (w .formed) all-
 
 -- arrays may be closed
 array-closes : (sheet : Sheet) (first : ℕ) {ts : Forest} → All (Well (of is-element)) ts → Closes sheet first Row.Array ts
-unfolding shape-of is-listed in-class free may-end only is-left-hand-side is-unary is-binary is-logical is-assignment is-expression is-binding is-parameter is-simple-target is-target is-body kind-of kids-of last-kind
-array-closes sheet first a end =
-    record { well = record { formed = row-of-many refl refl (all-held Row.Array refl a); fits = record { holds = refl } }; braced = λ e. let z : _≡_ {A = ℕ} 0 1 = cc in absurd (omega arith) }
+unfolding shapes
+array-closes sheet first a end = term-of (row-closable refl refl (all-held Row.Array refl a)) refl refl
 
 array-comma-closes : (sheet : Sheet) (first : ℕ) {ts us : Forest} → All (Well (of is-element)) ts → Sole (Well (of (only Row.Spread))) us → Closes sheet first Row.ArrayRestComma (join ts us)
-unfolding shape-of is-listed in-class free may-end only is-left-hand-side is-unary is-binary is-logical is-assignment is-expression is-binding is-parameter is-simple-target is-target is-body kind-of kids-of last-kind
+unfolding shapes
 array-comma-closes sheet first a s end =
-    record {
-      well = record { formed = make refl (then-rest (spread-last Row.ArrayRestComma refl (all-held Row.ArrayRestComma refl a) s)) (spread-formed a s); fits = record { holds = refl } };
-      braced = λ e. let z : _≡_ {A = ℕ} 0 1 = cc in absurd (omega arith);
-    }
+    term-of (make refl (then-rest (spread-last Row.ArrayRestComma refl (all-held Row.ArrayRestComma refl a) s)) (spread-formed a s)) refl refl
 
 -- and so may objects
 object-closes : (sheet : Sheet) (first : ℕ) {ts : Forest} → token sheet first ≡ LCurly → All (Well (within (may-end Row.Object) is-property)) ts → Closes sheet first Row.Object ts
-unfolding shape-of is-listed in-class free may-end only is-left-hand-side is-unary is-binary is-logical is-assignment is-expression is-binding is-parameter is-simple-target is-target is-body kind-of kids-of last-kind
-object-closes sheet first t a end = record { well = record { formed = row-of-many refl refl a; fits = record { holds = refl } }; braced = λ e. t }
+unfolding shapes
+object-closes sheet first t a end = record { well = well-of (row-closable refl refl a) refl; braced = λ e. t }
 
 object-comma-closes : (sheet : Sheet) (first : ℕ) {ts us : Forest} → token sheet first ≡ LCurly → All (Well (within (may-end Row.Object) is-property)) ts → Sole (Well (of (only Row.Spread))) us
     → Closes sheet first Row.ObjectRestComma (join ts us)
-unfolding shape-of is-listed in-class free may-end only is-left-hand-side is-unary is-binary is-logical is-assignment is-expression is-binding is-parameter is-simple-target is-target is-body kind-of kids-of last-kind
+unfolding shapes
 object-comma-closes sheet first t a s end =
-    record { well = record { formed = make refl (then-rest (spread-last Row.ObjectRestComma refl a s)) (spread-formed a s); fits = record { holds = refl } }; braced = λ e. t }
+    record { well = well-of (make refl (then-rest (spread-last Row.ObjectRestComma refl a s)) (spread-formed a s)) refl; braced = λ e. t }
 
 -- an arrow: its parameters, and a body that is no object
 body-fits : (sheet : Sheet) (at : ℕ) {t : Tree} → token sheet at is LCurly ≡ false → Term sheet (of is-assignment) at t → In (of is-body) t
@@ -387,23 +340,15 @@ arrow-middle (no-more no-ending) b = no-more (one-ending (held Row.Arrow refl b)
 
 arrow-row : (sheet : Sheet) (at place : ℕ) {kind mark first end : ℕ} {ts us : Forest} → IsArrow kind → Parameters ts → token sheet place is LCurly ≡ false
     → Sole (Term sheet (of is-assignment) place) us → Term sheet (of is-assignment) at (node kind mark first end (join ts us))
-unfolding shape-of is-listed in-class free may-end only is-left-hand-side is-unary is-binary is-logical is-assignment is-expression is-binding is-parameter is-simple-target is-target is-body kind-of kids-of last-kind
+unfolding shapes
 arrow-row sheet at place {kind} {mark} {first} {end} {ts} k p n (sole {t} e) = go k
   where
     made : AllFormed (join ts (one t))
     made = formed-join (p .are-formed) (all-cons (e .well .formed) all-nil)
 
     go : IsArrow kind → Term sheet (of is-assignment) at (node kind mark first end (join ts (one t)))
-    go (is-plain q) =
-        rw q (record {
-          well = record { formed = make refl (then-rest (arrow-middle (p .are-parameters) (body-fits sheet place n e))) made; fits = record { holds = refl } };
-          braced = λ e. let z : _≡_ {A = ℕ} 0 1 = cc in absurd (omega arith);
-        })
-    go (is-async q) =
-        rw q (record {
-          well = record { formed = make refl (then-rest (arrow-middle (p .are-parameters) (body-fits sheet place n e))) made; fits = record { holds = refl } };
-          braced = λ e. let z : _≡_ {A = ℕ} 0 1 = cc in absurd (omega arith);
-        })
+    go (is-plain q) = rw q (term-of (make refl (then-rest (arrow-middle (p .are-parameters) (body-fits sheet place n e))) made) refl refl)
+    go (is-async q) = rw q (term-of (make refl (then-rest (arrow-middle (p .are-parameters) (body-fits sheet place n e))) made) refl refl)
 
 -- LEVELS
 -- `??`, `||` and `&&` have the levels 1 to 3, and all other operators levels above
@@ -463,49 +408,21 @@ operation-row : (sheet : Sheet) (floor first at end : ℕ) (left : Tree) (right 
     → Operand sheet floor first left → (3 < expression-level (token sheet at) → In (of is-binary) left)
     → Sole (Operand sheet (right-floor (token sheet at)) (at + 1)) right → expression-level (token sheet end) ≤ right-floor (token sheet at)
     → Fit sheet (operators floor first end (node (operation-kind (token sheet at)) at first end (cons left right)))
-unfolding shape-of is-listed in-class free may-end only is-left-hand-side is-unary is-binary is-logical is-assignment is-expression is-binding is-parameter is-simple-target is-target is-body kind-of kids-of last-kind operation-kind
+unfolding shapes operation-kind
 operation-row sheet floor first at end left right l o b r n = go (between Question2 Amp2 (token sheet at)) refl
   where
     go : (q : Bool) → between Question2 Amp2 (token sheet at) ≡ q → Fit sheet (operators floor first end (node (if q then Row.Logical else Row.Binary) at first end (cons left right)))
     go true q =
         let v = logical-level (token sheet at) q in
-        let w = right-below (token sheet at) in (
-          record {
-            term =
-                record {
-                  well = record { formed = row-of-tree-and refl refl (o .term .well) (sole-so r (λ t p. p .term .well)); fits = record { holds = refl } };
-                  braced = λ e. let z : _≡_ {A = ℕ} 0 1 = cc in absurd (omega arith);
-                };
-            bare = λ h. absurd (omega arith);
-          },
-          λ h. absurd (omega arith),
-        )
+        let w = right-below (token sheet at) in
+        let row = row-of-tree-and refl refl (o .term .well) (sole-so r (λ t p. p .term .well)) in
+        (record { term = term-of row refl refl; bare = λ h. absurd (omega arith) }, λ h. absurd (omega arith))
     go false q =
         let v = binary-level (token sheet at) q (omega arith) in
         let w = right-above (token sheet at) v in
         let left-is : Well (of is-binary) left = record { formed = o .term .well .formed; fits = b (omega arith) } in
-        let right-is : Sole (Well (of is-binary)) right = sole-so r (λ t p. record { formed = p .term .well .formed; fits = p .bare w }) in (
-          record {
-            term =
-                record {
-                  well = record { formed = row-of-tree-and refl refl left-is right-is; fits = record { holds = refl } };
-                  braced = λ e. let z : _≡_ {A = ℕ} 0 1 = cc in absurd (omega arith);
-                };
-            bare = λ h. record { holds = refl };
-          },
-          λ h. record { holds = refl },
-        )
-
--- a row of a class, by its kind
-well-of : {class : Class} {kind mark first end : ℕ} {kids : Forest} → Formed (node kind mark first end kids) → in-class class kind (last-kind 0 kids) ≡ true → Well class (node kind mark first end kids)
-unfolding kind-of kids-of
-well-of f e = record { formed = f; fits = record { holds = e } }
-
--- a row that is no object
-term-of : {sheet : Sheet} {class : Class} {at kind mark first end : ℕ} {kids : Forest} → Formed (node kind mark first end kids) → in-class class kind (last-kind 0 kids) ≡ true
-    → between Row.Object Row.ObjectRestComma kind ≡ false → Term sheet class at (node kind mark first end kids)
-unfolding kind-of
-term-of f e n = record { well = well-of f e; braced = λ q. let z : _≡_ {A = ℕ} 0 1 = cc in absurd (omega arith) }
+        let right-is : Sole (Well (of is-binary)) right = sole-so r (λ t p. record { formed = p .term .well .formed; fits = p .bare w }) in
+        (record { term = term-of (row-of-tree-and refl refl left-is right-is) refl refl; bare = λ h. record { holds = refl } }, λ h. record { holds = refl })
 
 sole-count : {P : Tree → Type 0} {ts : Forest} → Sole P ts → count ts ≡ 1
 unfolding count
@@ -524,7 +441,7 @@ module _ {N : Type 0} (policy : Policy N) (sheet : Sheet) {ask : Asks N} (h : An
 
   -- 13.15 and 13.14
   parameter-leaf : (at : ℕ) → Parameters (one (leaf Row.BindingName at))
-  unfolding shape-of is-listed in-class free may-end only is-left-hand-side is-unary is-binary is-logical is-assignment is-expression is-binding is-parameter is-simple-target is-target is-body kind-of kids-of last-kind
+  unfolding shapes
   parameter-leaf at = record { are-formed = all-cons (leaf-row refl refl) all-nil; are-parameters = one-more (record { holds = refl }) (no-more no-ending) }
 
   turn-to : (role : Role) (class : Class) (at : ℕ) (left : Tree) → ((t : Tree) → Converted role left t → In class t) → Formed left
@@ -541,35 +458,28 @@ module _ {N : Type 0} (policy : Policy N) (sheet : Sheet) {ask : Asks N} (h : An
 
   assign-row : (plain : Bool) {first at mark end : ℕ} {ts us : Forest} → Sole (Well (if plain then (of is-target) else (of is-simple-target))) ts → Sole (Well (of is-assignment)) us
       → Term sheet (of is-assignment) first (node (if plain then Row.Assign else Row.CompoundAssign) at mark end (join ts us))
-  unfolding shape-of is-listed in-class free may-end only is-left-hand-side is-unary is-binary is-logical is-assignment is-expression is-binding is-parameter is-simple-target is-target is-body kind-of kids-of last-kind
+  unfolding shapes
   assign-row true w v = term-of (row-of-two refl refl w v) refl refl
   assign-row false w v = term-of (row-of-two refl refl w v) refl refl
 
   -- 13.6 to 13.13
   operand : {floor at : ℕ} {t : Tree} → Term sheet (of is-unary) at t → Operand sheet floor at t
-  operand e = record { term = term-so e (λ i. logical-of-binary (binary-of-unary i)); bare = λ l. binary-of-unary (e .well .fits) }
+  unfolding shapes
+  operand e = record { term = term-so e (λ i. wider (λ k e. or-left _ _ (or-left _ _ e)) i); bare = λ l. wider (λ k. or-left _ _) (e .well .fits) }
 
-  argument-well : (at : ℕ) (dots : Bool) → Reads (λ end trees records. Sole (Well (of is-argument)) trees) Nothing (ask (if dots then spread at else assignment at))
-  argument-well at true = so (asked (spread at) tt) (λ end trees records b. sole-so b (λ t w. well-so w argument-of-spread))
-  argument-well at false = so (asked (assignment at) tt) (λ end trees records b. sole-so b (λ t e. well-so (e .well) argument-of-assignment))
+  -- another part, or a spread, and if it has dots a Spread
+  or-spread : (class : Class) (at : ℕ) (other : Job) → ((last : ℕ) → in-class class Row.Spread last ≡ true) → Reads (λ end trees records. Sole (Well class) trees) Nothing (ask other)
+      → (dots : Bool) → Reads (λ end trees records. Sole (Well class) trees × (dots ≡ true → Sole (Well (of (only Row.Spread))) trees)) Nothing (ask (if dots then spread at else other))
+  or-spread class at other s o true = so (asked (spread at) tt) (λ end trees records b. (sole-so b (λ t w. well-so w (spread-in s)), λ e. b))
+  or-spread class at other s o false = so o (λ end trees records b. (b, λ e. let z : _≡_ {A = ℕ} 0 1 = cc in absurd (omega arith)))
 
-  -- an element, and if it has dots a Spread
-  element-well : (at : ℕ) (dots : Bool)
-      → Reads (λ end trees records. Sole (Well (of is-element)) trees × (dots ≡ true → Sole (Well (of (only Row.Spread))) trees)) Nothing (ask (if dots then spread at else assignment at))
-  element-well at true = so (asked (spread at) tt) (λ end trees records b. (sole-so b (λ t w. well-so w element-of-spread), λ e. b))
-  element-well at false =
-      so (asked (assignment at) tt)
-      (λ end trees records b. (sole-so b (λ t e. well-so (e .well) element-of-assignment), λ e. let z : _≡_ {A = ℕ} 0 1 = cc in absurd (omega arith)))
+  assigned : {kinds : Kinds} (at : ℕ) → ((k : ℕ) → is-assignment k ≡ true → kinds k ≡ true) → Reads (λ end trees records. Sole (Well (of kinds)) trees) Nothing (ask (assignment at))
+  assigned at f = so (asked (assignment at) tt) (λ end trees records b. sole-so b (λ t e. well-so (e .well) (wider f)))
 
   array-goes-on : (first : ℕ) (dots : Bool) {so-far trees : Forest} → All (Well (of is-element)) so-far → Sole (Well (of is-element)) trees → (dots ≡ true → Sole (Well (of (only Row.Spread))) trees)
       → Closes sheet first (if dots then Row.ArrayRestComma else Row.Array) (join so-far trees)
   array-goes-on first true a s d = array-comma-closes sheet first a (d refl)
   array-goes-on first false a s d = array-closes sheet first (all-join a (all-sole s))
-
-  part-well : (at : ℕ) (dots : Bool)
-      → Reads (λ end trees records. Sole (Well (within (may-end Row.Object) is-property)) trees × (dots ≡ true → Sole (Well (of (only Row.Spread))) trees)) Nothing (ask (if dots then spread at else property at))
-  part-well at true = so (asked (spread at) tt) (λ end trees records b. (sole-so b (λ t w. well-so w property-of-spread), λ e. b))
-  part-well at false = so (asked (property at) tt) (λ end trees records b. (b, λ e. let z : _≡_ {A = ℕ} 0 1 = cc in absurd (omega arith)))
 
   object-goes-on : (first : ℕ) (dots : Bool) {so-far trees : Forest} → token sheet first ≡ LCurly → All (Well (within (may-end Row.Object) is-property)) so-far → Sole (Well (within (may-end Row.Object) is-property)) trees
       → (dots ≡ true → Sole (Well (of (only Row.Spread))) trees) → Closes sheet first (if dots then Row.ObjectRestComma else Row.Object) (join so-far trees)
@@ -578,27 +488,27 @@ module _ {N : Type 0} (policy : Policy N) (sheet : Sheet) {ask : Asks N} (h : An
 
   -- a Property, whose class depends on its value
   property-row : {mark first end : ℕ} {ts us : Forest} → Sole (Well (of is-key)) ts → Sole (Well (of is-assignment)) us → Well (within (may-end Row.Object) is-property) (node Row.Property mark first end (join ts us))
-  unfolding shape-of is-listed in-class free may-end only is-left-hand-side is-unary is-binary is-logical is-assignment is-expression is-binding is-parameter is-simple-target is-target is-body kind-of kids-of last-kind join
+  unfolding shapes join
   property-row (sole k) (sole w) =
-      well-of (row-of-two refl refl (sole k) (sole (well-so w value-of-assignment))) (w .fits .holds)
+      well-of (row-of-two refl refl (sole k) (sole (well-so w (wider (λ k. or-left _ _))))) (w .fits .holds)
 
   rest-over-sole : {mark first end : ℕ} {ts : Forest} → Sole (Well (of is-parameter)) ts → Rest (node Row.BindingRest mark first end ts)
   rest-over-sole (sole w) = rest-over w
 
   rest-well : {ts : Forest} → Sole Rest ts → Sole (Well (of (only Row.BindingRest))) ts
-  unfolding shape-of is-listed in-class free may-end only is-left-hand-side is-unary is-binary is-logical is-assignment is-expression is-binding is-parameter is-simple-target is-target is-body kind-of kids-of last-kind
+  unfolding shapes
   rest-well (sole (rest-over w)) = sole (well-of (row-of-one refl refl (sole w)) refl)
 
   name-rest-well : {ts : Forest} → Sole Rest ts → kind-of (argument-of (first-tree ts)) is Row.BindingName ≡ true → Sole (Well (within (may-end Row.BindingObject) (only Row.BindingRest))) ts
-  unfolding shape-of is-listed in-class free may-end only is-left-hand-side is-unary is-binary is-logical is-assignment is-expression is-binding is-parameter is-simple-target is-target is-body kind-of kids-of last-kind first-tree
+  unfolding shapes first-tree
   name-rest-well (sole (rest-over w)) e = sole (well-of (row-of-one refl refl (sole w)) e)
 
   array-element : {so-far trees : Forest} → All (Well (of is-binding-element)) so-far → Sole (Well (of is-parameter)) trees → All (Well (of is-binding-element)) (join so-far trees)
-  array-element a s = all-join a (all-sole (sole-so s (λ t w. well-so w binding-element-of-parameter)))
+  array-element a s = all-join a (all-sole (sole-so s (λ t w. well-so w (wider (λ k. or-left _ _)))))
 
   binding-property-row : {mark first end : ℕ} {ts us : Forest} → Sole (Well (of is-key)) ts → Sole (Well (of is-parameter)) us
       → Well (within (may-end Row.BindingObject) is-binding-property) (node Row.Property mark first end (join ts us))
-  unfolding shape-of is-listed in-class free may-end only is-left-hand-side is-unary is-binary is-logical is-assignment is-expression is-binding is-parameter is-simple-target is-target is-body kind-of kids-of last-kind join
+  unfolding shapes join
   binding-property-row (sole k) (sole w) = well-of (row-of-two refl refl (sole k) (sole (well-so w value-of-parameter))) (w .fits .holds)
 
   -- 15.3 and 15.9
@@ -633,13 +543,13 @@ module _ {N : Type 0} (policy : Policy N) (sheet : Sheet) {ask : Asks N} (h : An
 
   -- every production
   step-well : (job : Job) → Fit sheet job → Reads (Is sheet job) Nothing (step policy sheet ask job)
-  unfolding productions shape-of is-listed in-class free may-end only is-left-hand-side is-unary is-binary is-logical is-assignment is-expression is-binding is-parameter is-simple-target is-target is-body kind-of kids-of last-kind fee
+  unfolding productions shapes fee
   -- 13.16
   step-well (expression at) fit =
       follows (asked (assignment at) tt)
       (λ part rs b. token-test sheet _ _
       (λ t. asked (sequence at (part .end) (part .end) (part .trees)) (all-sole (wells b), omega (arith, sole-count b, fee-comma (t .kind-is))))
-      (yields _ _ (sole-so b (λ t e. well-so (e .well) expression-of-assignment))))
+      (yields _ _ (sole-so b (λ t e. well-so (e .well) (wider (λ k. or-left _ _))))))
   step-well (sequence first comma at so-far) fit =
       test (token sheet at is Comma)
       (λ t. follows (asked (assignment (at + 1)) tt)
@@ -663,7 +573,7 @@ module _ {N : Type 0} (policy : Policy N) (sheet : Sheet) {ask : Asks N} (h : An
       (λ t. asked (assign at (left .end) (tree left)) (sole-first (b .0) .term .well .formed))
       (λ _. token-test sheet _ _
       (λ t. asked (conditional at (left .end) (tree left)) (sole-first (b .0) .term .well))
-      (yields _ _ (sole-so (b .0) (λ t o. term-so (o .term) assignment-of-logical)))))))
+      (yields _ _ (sole-so (b .0) (λ t o. term-so (o .term) (wider (λ k. or-left _ _)))))))))
   step-well (assign first at left) f =
       follows (turn-left (token sheet at is Eq) at left f)
       (λ target rs b. follows (asked (assignment (at + 1)) tt) (λ right more c. yields _ _ (sole (assign-row (token sheet at is Eq) b (wells c)))))
@@ -674,7 +584,7 @@ module _ {N : Type 0} (policy : Policy N) (sheet : Sheet) {ask : Asks N} (h : An
       (refuses _ tt))
   step-well (binary floor at) fit =
       follows (asked (unary at) tt)
-      (λ left rs b. asked (operators floor at (left .end) (tree left)) (operand (sole-first b), λ l. binary-of-unary (sole-first b .well .fits)))
+      (λ left rs b. asked (operators floor at (left .end) (tree left)) (operand (sole-first b), λ l. wider (λ k. or-left _ _) (sole-first b .well .fits)))
   step-well (operators floor first at left) fit =
       test (ltb floor (expression-level (token sheet at)))
       (λ t. follows (asked (binary (right-floor (token sheet at)) (at + 1)) tt)
@@ -695,7 +605,7 @@ module _ {N : Type 0} (policy : Policy N) (sheet : Sheet) {ask : Asks N} (h : An
       (λ operand rs b. test (is-update-operator (token sheet (operand .end)) and not (break-before sheet (operand .end)))
       (λ t. follows (turn-to simple (of is-simple-target) (operand .end) (tree operand) (λ t c. c .is-after) (sole-first b .well .formed))
       (λ target more c. yields _ _ (sole (term-of (row-of-one refl refl c) refl refl))))
-      (λ _. yields _ _ (sole-so b (λ t e. term-so e unary-of-lhs))))
+      (λ _. yields _ _ (sole-so b (λ t e. term-so e (wider (λ k. or-left _ _))))))
   -- 13.3
   step-well (left-hand-side at) fit = follows (asked (primary at) tt) (λ base rs b. asked (links at (base .end) (tree base)) (sole-first b))
   step-well (links first at left) fit =
@@ -713,9 +623,9 @@ module _ {N : Type 0} (policy : Policy N) (sheet : Sheet) {ask : Asks N} (h : An
       (yields _ _ (sole fit))))
   step-well (arguments first at so-far) fit =
       token-test sheet _ _ (λ t. yields _ _ (sole (call-row sheet fit)))
-      (follows (argument-well at (token sheet at is Dot3))
-      (λ argument rs b. token-test sheet _ _ (λ t. asked (arguments first (argument .end + 1) (join so-far (argument .trees))) (call-join fit b))
-      (token-test sheet _ _ (λ t. yields _ _ (sole (call-row sheet (call-join fit b)))) (refuses _ tt))))
+      (follows (or-spread (of is-argument) at (assignment at) (λ _. refl) (assigned at (λ k. or-left _ _)) (token sheet at is Dot3))
+      (λ argument rs b. token-test sheet _ _ (λ t. asked (arguments first (argument .end + 1) (join so-far (argument .trees))) (call-join fit (b .0)))
+      (token-test sheet _ _ (λ t. yields _ _ (sole (call-row sheet (call-join fit (b .0))))) (refuses _ tt))))
   -- 13.2
   step-well (primary at) fit =
       test (is-name (token sheet at)) (λ t. yields _ _ (sole (term-of (leaf-row refl refl) refl refl)))
@@ -730,15 +640,15 @@ module _ {N : Type 0} (policy : Policy N) (sheet : Sheet) {ask : Asks N} (h : An
   step-well (elements first at kind so-far) fit =
       token-test sheet _ _ (λ t. yields _ _ (sole (fit .1 (at + 1))))
       (token-test sheet _ _
-      (λ t. let a = all-join (fit .0) (all-one (well-of (leaf-row refl refl) refl)) in asked (elements first (at + 1) Row.Array (join so-far (one (leaf Row.Hole at)))) (a, array-closes sheet first a))
-      (follows (element-well at (token sheet at is Dot3))
+      (λ t. let a = all-join (fit .0) (all-sole (sole (well-of (leaf-row refl refl) refl))) in asked (elements first (at + 1) Row.Array (join so-far (one (leaf Row.Hole at)))) (a, array-closes sheet first a))
+      (follows (or-spread (of is-element) at (assignment at) (λ _. refl) (assigned at (λ k. or-left _ _)) (token sheet at is Dot3))
       (λ element rs b. token-test sheet _ _
       (λ t. asked (elements first (element .end + 1) (if token sheet at is Dot3 then Row.ArrayRestComma else Row.Array) (join so-far (element .trees)))
       (all-join (fit .0) (all-sole (b .0)), array-goes-on first (token sheet at is Dot3) (fit .0) (b .0) (b .1)))
       (token-test sheet _ _ (λ t. yields _ _ (sole (array-closes sheet first (all-join (fit .0) (all-sole (b .0))) (element .end + 1)))) (refuses _ tt)))))
   step-well (properties first at kind so-far) fit =
       token-test sheet _ _ (λ t. yields _ _ (sole (fit .1 (at + 1))))
-      (follows (part-well at (token sheet at is Dot3))
+      (follows (or-spread (within (may-end Row.Object) is-property) at (property at) (λ _. refl) (asked (property at) tt) (token sheet at is Dot3))
       (λ part rs b. token-test sheet _ _
       (λ t. asked (properties first (part .end + 1) (if token sheet at is Dot3 then Row.ObjectRestComma else Row.Object) (join so-far (part .trees)))
       (all-join (fit .0) (all-sole (b .0)), object-goes-on first (token sheet at is Dot3) (fit .2) (fit .0) (b .0) (b .1), fit .2))
@@ -769,11 +679,11 @@ module _ {N : Type 0} (policy : Policy N) (sheet : Sheet) {ask : Asks N} (h : An
       follows (asked (binding at) tt)
       (λ target rs b. token-test sheet _ _
       (λ t. follows (asked (assignment (target .end + 1)) tt) (λ initializer more c. yields _ _ (sole (well-of (row-of-two refl refl b (wells c)) refl))))
-      (yields _ _ (sole-so b (λ t w. well-so w parameter-of-binding))))
+      (yields _ _ (sole-so b (λ t w. well-so w (wider (λ k. or-left _ _))))))
   step-well (binding-elements first at so-far) a =
       token-test sheet _ _ (λ t. yields _ _ (sole (well-of (row-closable refl refl (all-held Row.BindingArray refl a)) refl)))
       (token-test sheet _ _
-      (λ t. asked (binding-elements first (at + 1) (join so-far (one (leaf Row.Hole at)))) (all-join a (all-one (well-of (leaf-row refl refl) refl))))
+      (λ t. asked (binding-elements first (at + 1) (join so-far (one (leaf Row.Hole at)))) (all-join a (all-sole (sole (well-of (leaf-row refl refl) refl)))))
       (token-test sheet _ _
       (λ t. follows (asked (binding-rest at) tt)
       (λ rest rs b. token-test sheet _ _ (λ t. yields _ _ (sole (well-of (row-closed refl refl (all-held Row.BindingArray refl a) (sole-so (rest-well b) (λ t w. well-held Row.BindingArray refl w))) refl))) (refuses _ tt)))
