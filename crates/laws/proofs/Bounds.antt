@@ -10,7 +10,7 @@ use lib.Dec.{ltb}
 use lib.ListN.{length, length-append}
 use borrow.Author.Tests.{eqb-true}
 use Rattle.tokens.specs.Bool.{_or_, _and_, _is_, if_then_else_, between}
-use Rattle.tokens.specs.Kind.{Async, Str, Number, LParen, LCurly, Comma, Colon, Dot3, Arrow, Question2, Amp2, Star2, Eq}
+use Rattle.tokens.specs.Kind.{Async, Str, Number, LCurly, Comma, Colon, Dot3, Arrow, Question2, Amp2, Star2, Eq}
 use Rattle.tokens.specs.Token.{is-name, is-word, is-literal}
 use Rattle.operators.specs.Precedence.{expression-level}
 use Rattle.tokens.specs.declared.cause.Cause.{Cause}
@@ -18,17 +18,17 @@ use Rattle.rows.specs.Row as Row
 use Rattle.rows.specs.Tree.{Tree, Forest, node, nil, cons, one, join, size, sizes, kind-of, mark-of}
 use Rattle.rows.specs.Record.{Record, break-before-arrow, rest-initializer}
 use Rattle.conversion.specs.Conversion.{Role, any, simple}
-use Rattle.grammar.specs.Sheet.{Sheet, token, break-before, done, Part, first-tree, tree, leaf}
+use Rattle.grammar.specs.Sheet.{Sheet, token, break-before, done, first-tree, tree, leaf}
 use Rattle.grammar.specs.Job.{Job, expression, sequence, assignment, value, assign, conditional, binary, operators, unary, postfix, left-hand-side, links, arguments, primary, elements, properties, property, key, spread, binding, binding-element, binding-elements, binding-properties, binding-property, binding-rest, head, parameters, body, Asks}
 use Rattle.grammar.specs.Assignment.{is-assignment-operator, is-async-name}
 use Rattle.grammar.specs.Binary.{operation-kind, right-floor, is-or-and, operation-records}
 use Rattle.grammar.specs.Update.{is-unary-operator, is-update-operator, converted}
 use Rattle.grammar.specs.Binding.{argument-of}
-use Rattle.grammar.specs.Arrow.{Policy, arrow-of, parenthesized-head-of}
+use Rattle.grammar.specs.Arrow.{Policy, parenthesized-head-of}
 use Rattle.grammar.specs.Step.{step, read}
 use Rattle.laws.specs.Settles.{Settles, μ}
 use Rattle.grammar.specs.Reading.{unconverteds, whole, reading}
-use Rattle.laws.proofs.Good.{productions, came, Reads, Answers, Preserved, good, good-done, yields, refuses, says, follows, tries, test, token-test, chooses, notes, converts, so, inside, and-left}
+use Rattle.laws.proofs.Good.{productions, came, Reads, Answers, Preserved, good, good-done, yields, refuses, says, follows, heads, test, token-test, converts, so, inside, and-left}
 use Rattle.laws.proofs.Owed.{owes, owes-one, owed, oweds, lent, sizes-join, oweds-join, same-size, pays, pays-lasts}
 
 -- what a nonterminal at a place is bound by: the least and the most that its end can be; the rows and the dues (records, and what rows owe) that
@@ -243,14 +243,6 @@ module _ {N : Type 0} (policy : Policy N) (sheet : Sheet) {ask : Asks N} (h : An
       (refuses _ tt)))
       (refuses _ tt)
 
-  -- 13.15, where a head is tried
-  arrow-bound : (at : ℕ) (list : Part) (rs : List Record) → Bound (limits sheet (head at)) (list .end) (list .trees) rs
-      → Reads (λ end trees more. Bound (limits sheet (assignment at)) end trees (rs ++ more)) Nothing (arrow-of policy sheet ask at list)
-  unfolding productions
-  arrow-bound at list rs b =
-      so (asked (body (if token sheet at is Async then Row.AsyncArrow else Row.Arrow) at (list .end) (list .trees)))
-      (λ end trees more c. record { within = simp weights (omega (arith, arrow-free (token sheet at is Async))); single = c .single })
-
   -- every production
   pub step-bound : (job : Job) → Reads (Bound (limits sheet job)) Nothing (step policy sheet ask job)
   unfolding productions is-name is-word is-literal is-update-operator fee owes
@@ -267,12 +259,9 @@ module _ {N : Type 0} (policy : Policy N) (sheet : Sheet) {ask : Asks N} (h : An
       (λ end trees more c. record { within = simp weights (omega (arith, simp weights at (c .within), fee-one (token sheet (part .end)))); single = c .single })))
       (λ f. yields _ _ (lone _ (simp (weights, f) (omega arith))))
   step-bound (assignment at) =
-      test (token sheet at is LParen or token sheet at is Async)
-      (λ _. chooses (policy .way at)
-      (asked (value at))
-      (tries (asked (head at)) (arrow-bound at) (notes (policy .mark at) (asked (value at))))
-      (follows (asked (head at)) (arrow-bound at)))
-      (λ _. asked (value at))
+      heads policy sheet ask at (asked (value at)) (asked (head at))
+      (λ list rs b. so (asked (body _ at (list .end) (list .trees)))
+      (λ end trees more c. record { within = simp weights (omega (arith, arrow-free (token sheet at is Async))); single = c .single }))
   step-bound (value at) =
       test (is-async-name sheet at)
       (λ t. so (asked (body Row.AsyncArrow at (at + 2) (one (leaf Row.BindingName (at + 1)))))

@@ -105,7 +105,7 @@ module _ {ends : Ends} where
   kids-count (in-front i k) = omega (arith, kids-count k)
   kids-count (then-rest k) = omega (arith, middle-count k)
 
-or-right : (a : Bool) → a or true ≡ true
+pub or-right : (a : Bool) → a or true ≡ true
 or-right true = refl
 or-right false = refl
 

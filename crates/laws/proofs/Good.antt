@@ -9,14 +9,16 @@ use mathlib.Core.List.{List, [], _++_}
 use native.Mathlib.Omega.{arith}
 use lib.ListN.{length}
 use borrow.Author.Tests.{eqb-true, eq-eqb}
-use Rattle.tokens.specs.Bool.{_is_, _and_, if_then_else_}
+use Rattle.tokens.specs.Kind.{Async, LParen}
+use Rattle.rows.specs.Row as Row
+use Rattle.tokens.specs.Bool.{_or_, _is_, _and_, if_then_else_}
 use Rattle.tokens.proofs.Stands.{stands}
 use Rattle.tokens.specs.declared.cause.Cause.{Cause}
 use Rattle.rows.specs.Tree.{Tree, Forest, one}
 use Rattle.rows.specs.Record.{Record}
 use Rattle.conversion.specs.Conversion.{Role, Outcome, turned, refused, convert-as}
 use Rattle.grammar.specs.Sheet.{Sheet, token, Out, done, fail, stuck, Reading, Part, after-records, and-then, or-else, _>>=_, try, yield, refuse, say}
-use Rattle.grammar.specs.Job.{Job, Asks}
+use Rattle.grammar.specs.Job.{Job, value, head, body, Asks}
 use Rattle.grammar.specs.Comma.{expression-of, sequence-of}
 use Rattle.grammar.specs.Assignment.{assign-of, conditional-of, after-binary, value-of}
 use Rattle.grammar.specs.Binary.{binary-of, operators-of}
@@ -264,6 +266,15 @@ module _ {N : Type 0} {F : Cause → Type 0} where
       go (ends-done end trees records notes e q) = ends-done end trees records notes e (h end trees records q)
       go (ends-fail cause notes e f) = ends-fail cause notes e f
       go (ends-stuck e) = ends-stuck e
+
+-- 13.15: a value, or a head and the body after it, whether the head is tried or must be
+pub heads : {N : Type 0} {F : Cause → Type 0} {P Q : Meaning} (policy : Policy N) (sheet : Sheet) (ask : Asks N) (at : ℕ) → Reads P F (ask (value at)) → Reads Q F (ask (head at))
+    → ((list : Part) (records : List Record) → Q (list .end) (list .trees) records
+    → Reads (λ end trees more. P end trees (records ++ more)) F (ask (body (if token sheet at is Async then Row.AsyncArrow else Row.Arrow) at (list .end) (list .trees))))
+    → Reads P F (assignment-of policy sheet ask at)
+unfolding productions
+heads policy sheet ask at v h b =
+    test (token sheet at is LParen or token sheet at is Async) (λ _. chooses (policy .way at) v (tries h b (notes (policy .mark at) v)) (follows h b)) (λ _. v)
 
 -- what is known in two ways is known together
 pub both : {N : Type 0} {F G : Cause → Type 0} {P Q : Meaning} {reading : Reading N} → Reads P F reading → Reads Q G reading

@@ -9,7 +9,7 @@ use native.Mathlib.Omega.{arith}
 use lib.Dec.{ltb}
 use lib.ListN.{length}
 use Rattle.tokens.specs.Bool.{_or_, _and_, _is_, if_then_else_}
-use Rattle.tokens.specs.Kind.{Async, Str, Number, LParen, LCurly, Comma, Colon, Dot3, Arrow, Eq}
+use Rattle.tokens.specs.Kind.{Str, Number, LCurly, Comma, Colon, Dot3, Arrow, Eq}
 use Rattle.tokens.specs.Token.{is-name, is-word, is-literal}
 use Rattle.tokens.specs.Cause.{number, place}
 use Rattle.tokens.specs.declared.cause.Cause.{Cause}
@@ -19,16 +19,16 @@ use Rattle.rows.specs.Tree.{Tree, Forest, node, nil, cons, one, join, count, ki
 use Rattle.rows.specs.Record.{Record}
 use Rattle.conversion.specs.Conversion.{Outcome, turned, refused, Role, any, simple, Change, refuse, keep, turn, seen, change, roles, over, both as both-kids, convert-as, convert-kids}
 use Rattle.conversion.proofs.Potentials.{Fair, refuses as refuses-first, changes}
-use Rattle.grammar.specs.Sheet.{Sheet, token, break-before, done, fail, Part, first-tree, tree, leaf}
+use Rattle.grammar.specs.Sheet.{Sheet, token, break-before, done, fail, first-tree, tree, leaf}
 use Rattle.grammar.specs.Job.{Job, expression, sequence, assignment, value, assign, conditional, binary, operators, unary, postfix, left-hand-side, links, arguments, primary, elements, properties, property, key, spread, binding, binding-element, binding-elements, binding-properties, binding-property, binding-rest, head, parameters, body, Asks}
 use Rattle.grammar.specs.Assignment.{is-assignment-operator, is-async-name}
 use Rattle.grammar.specs.Binary.{operation-kind, right-floor}
 use Rattle.grammar.specs.Update.{is-unary-operator, is-update-operator, converted}
 use Rattle.grammar.specs.Binding.{argument-of}
-use Rattle.grammar.specs.Arrow.{Policy, arrow-of, parenthesized-head-of}
+use Rattle.grammar.specs.Arrow.{Policy, parenthesized-head-of}
 use Rattle.grammar.specs.Step.{step, read, plenty}
 use Rattle.grammar.specs.Reading.{whole, refused as refused-whole, reading}
-use Rattle.laws.proofs.Good.{productions, came, Refused, failed, followed, stopped, refused-by, Meaning, Reads, Answers, good-given, good-done, good-fail, yields, refuses, says, follows, tries, test, token-test, chooses, notes, converts, so, both, inside, and-right}
+use Rattle.laws.proofs.Good.{productions, came, Refused, failed, followed, stopped, refused-by, Meaning, Reads, Answers, good-given, good-done, good-fail, yields, refuses, says, follows, heads, test, token-test, converts, so, both, inside, and-right}
 use Rattle.laws.proofs.Bounds.{Any, reads, Nothing, limits, Bound, all-bounded, bounded-at, fee, fee-comma, fee-one}
 use Rattle.laws.proofs.Rel.{async-inside, operator-inside}
 use Rattle.laws.specs.Promises.{Inside, Lie, Lies, next, none, row-lies}
@@ -223,12 +223,6 @@ module _ {N : Type 0} (policy : Policy N) (sheet : Sheet) {ask : Asks N} (g : An
       (λ list rs b. token-test sheet _ _ (λ t. yields _ _ (b .1 at (no-trees (omega arith)))) (refuses _ (omega arith))))
       (refuses _ (omega arith))
 
-  -- 13.15, where a head is tried
-  arrow-lies : (at : ℕ) (list : Part) (rs : List Record) → Bound (limits sheet (head at)) (list .end) (list .trees) rs × Lie at (list .end) (list .trees)
-      → Reads (Is (assignment at)) (Inside sheet) (arrow-of policy sheet ask at list)
-  unfolding productions
-  arrow-lies at list rs b = last (body (if token sheet at is Async then Row.AsyncArrow else Row.Arrow) at (list .end) (list .trees)) (omega arith, b .1)
-
   -- every production
   step-lies : (job : Job) → Fit sheet job → Reads (Is job) (Inside sheet) (step policy sheet ask job)
   unfolding productions is-word is-assignment-operator is-unary-operator is-update-operator fee
@@ -244,14 +238,7 @@ module _ {N : Type 0} (policy : Policy N) (sheet : Sheet) {ask : Asks N} (g : An
       (λ part rs b. last (sequence first comma (part .end) (join so-far (part .trees)))
       (omega arith, omega arith, omega (arith, fee-one (token sheet (part .end))), lie-join (fit .3) (lie-wide (b .1) (omega arith) (omega arith)))))
       (λ f. let k = rw f at (fit .2) in yields _ _ (lie-one (row (omega arith) (omega arith) (omega arith) (omega arith) (fit .3))))
-  step-lies (assignment at) i =
-      test (token sheet at is LParen or token sheet at is Async)
-      (λ _. chooses (policy .way at)
-      (last (value at) i)
-      (tries (asked (head at) i) (arrow-lies at) (notes (policy .mark at) (last (value at) i)))
-      (follows (asked (head at) i) (arrow-lies at)))
-      (λ _. last (value at) i)
-  -- 13.15 and 13.14
+  step-lies (assignment at) i = heads policy sheet ask at (last (value at) i) (asked (head at) i) (λ list rs b. last (body _ at (list .end) (list .trees)) (omega arith, b .1))
   step-lies (value at) i =
       test (is-async-name sheet at)
       (λ t. let j = async-inside sheet at t in last (body Row.AsyncArrow at (at + 2) (one (leaf Row.BindingName (at + 1)))) (j, lie-leaf (at + 1) (omega arith) (omega arith)))

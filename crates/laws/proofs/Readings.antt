@@ -16,17 +16,17 @@ use Rattle.rows.specs.Row as Row
 use Rattle.rows.specs.Tree.{Tree, Forest, node, nil, cons, one, join, kind-of}
 use Rattle.rows.specs.Record.{Record}
 use Rattle.conversion.specs.Conversion.{Role, any, simple}
-use Rattle.grammar.specs.Sheet.{Sheet, token, break-before, done, Part, tree, leaf}
+use Rattle.grammar.specs.Sheet.{Sheet, token, break-before, done, tree, leaf}
 use Rattle.grammar.specs.Job.{Job, expression, sequence, assignment, value, assign, conditional, binary, operators, unary, postfix, left-hand-side, links, arguments, primary, elements, properties, property, key, spread, binding, binding-element, binding-elements, binding-properties, binding-property, binding-rest, head, parameters, body, Asks}
 use Rattle.grammar.specs.Assignment.{is-assignment-operator, is-async-name}
 use Rattle.grammar.specs.Binary.{operation-kind, right-floor}
 use Rattle.grammar.specs.Update.{is-unary-operator, is-update-operator, converted}
 use Rattle.grammar.specs.Binding.{argument-of}
-use Rattle.grammar.specs.Arrow.{Policy, arrow-of, parenthesized-head-of}
+use Rattle.grammar.specs.Arrow.{Policy, parenthesized-head-of}
 use Rattle.grammar.specs.Step.{step, read}
 use Rattle.laws.proofs.Balanced as Balance
 use Rattle.laws.proofs.Balanced.{side-of, Side, Balanced, none, skip, nest, partner, joined, flat, name-flat, word-flat, literal-flat, operator-flat}
-use Rattle.laws.proofs.Good.{productions, Meaning, Stands, Reads, Answers, Preserved, good, good-done, yields, refuses, says, follows, tries, test, token-test, chooses, notes, converts, so, and-left, and-right}
+use Rattle.laws.proofs.Good.{productions, Meaning, Stands, Reads, Answers, Preserved, good, good-done, yields, refuses, says, follows, heads, test, token-test, converts, so, and-left, and-right}
 
 -- balanced up to a closing bracket, and past it
 pub record Closes (sheet : Sheet) (at end : ℕ) : Type 0 where
@@ -188,14 +188,6 @@ module _ {N : Type 0} (policy : Policy N) (sheet : Sheet) {ask : Asks N} (h : An
       (refuses _ tt)))
       (refuses _ tt)
 
-  -- 13.15, where a head is tried
-  arrow-shape : (at : ℕ) (list : Part) (rs : List Record) → Headed sheet at (list .end)
-      → Reads (λ end trees more. Balanced sheet at end) Nothing (arrow-of policy sheet ask at list)
-  unfolding productions side-of
-  arrow-shape at list rs d =
-      so (asked (body (if token sheet at is Async then Row.AsyncArrow else Row.Arrow) at (list .end) (list .trees)))
-      (λ end trees more c. joined (whole-head d) (skip (record { goes = rw (d .arrow) }) c))
-
   -- every production
   pub step-shape : (job : Job) → Reads (Shaped sheet job) Nothing (step policy sheet ask job)
   unfolding productions is-async-name side-of
@@ -209,12 +201,8 @@ module _ {N : Type 0} (policy : Policy N) (sheet : Sheet) {ask : Asks N} (h : An
       (λ part rs b. so (asked (sequence first comma (part .end) (join so-far (part .trees)))) (λ end trees more c. before t refl (joined b c))))
       (yields _ _ none)
   step-shape (assignment at) =
-      test (token sheet at is LParen or token sheet at is Async)
-      (λ _. chooses (policy .way at)
-      (asked (value at))
-      (tries (asked (head at)) (arrow-shape at) (notes (policy .mark at) (asked (value at))))
-      (follows (asked (head at)) (arrow-shape at)))
-      (λ _. asked (value at))
+      heads policy sheet ask at (asked (value at)) (asked (head at))
+      (λ list rs d. so (asked (body _ at (list .end) (list .trees))) (λ end trees more c. joined (whole-head d) (skip (record { goes = rw (d .arrow) }) c)))
   step-shape (value at) =
       test (is-async-name sheet at)
       (λ t. so (asked (body Row.AsyncArrow at (at + 2) (one (leaf Row.BindingName (at + 1)))))

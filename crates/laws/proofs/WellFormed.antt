@@ -11,28 +11,28 @@ use lib.Dec.{eqb, leb, ltb}
 use lib.ListN.{drop}
 use borrow.Author.Tests.{eqb-true, eqb-false, ne-eqb, ltb-true, ltb-false, leb-true, not-true}
 use Rattle.tokens.specs.Bool.{_or_, _and_, _is_, if_then_else_, between}
-use Rattle.tokens.specs.Kind.{Async, As, Satisfies, Str, Number, LParen, LCurly, Comma, Colon, Dot3, Arrow, Question2, Pipe2, Amp2, Star2, Eq}
+use Rattle.tokens.specs.Kind.{Async, As, Satisfies, Str, Number, LCurly, Comma, Colon, Dot3, Arrow, Question2, Pipe2, Amp2, Star2, Eq}
 use Rattle.tokens.specs.Token.{is-name, is-word, is-literal}
 use Rattle.operators.specs.Precedence.{tiers, among, level-from, level, expression-level}
 use Rattle.rows.specs.Row as Row
 use Rattle.rows.specs.Shape.{is-listed, is-left-hand-side, is-unary, is-binary, is-logical, is-assignment, is-expression, is-binding, is-parameter, is-simple-target, is-target, is-body, nothing, only, exactly, shape-of, may-end, last-kind}
-use Rattle.laws.proofs.RowKinds.{is-element, is-key, is-value, is-argument, is-binding-element, is-property, is-binding-property, any-closed}
+use Rattle.laws.proofs.RowKinds.{is-element, is-key, is-argument, is-binding-element, is-property, is-binding-property, any-closed}
 use Rattle.rows.specs.Tree.{Tree, Forest, node, nil, cons, one, join, count, kind-of, kids-of}
 use Rattle.rows.specs.Record.{Record}
 use Rattle.rows.proofs.Rows.{count-join}
 use Rattle.conversion.specs.Conversion.{Role, any, simple}
-use Rattle.grammar.specs.Sheet.{Sheet, token, break-before, done, Part, first-tree, tree, leaf}
+use Rattle.grammar.specs.Sheet.{Sheet, token, break-before, done, first-tree, tree, leaf}
 use Rattle.grammar.specs.Job.{Job, expression, sequence, assignment, value, assign, conditional, binary, operators, unary, postfix, left-hand-side, links, arguments, primary, elements, properties, property, key, spread, binding, binding-element, binding-elements, binding-properties, binding-property, binding-rest, head, parameters, body, Asks}
 use Rattle.grammar.specs.Assignment.{is-assignment-operator, is-async-name}
 use Rattle.grammar.specs.Binary.{operation-kind, right-floor}
 use Rattle.grammar.specs.Update.{is-unary-operator, is-update-operator, converted}
 use Rattle.grammar.specs.Binding.{argument-of}
-use Rattle.grammar.specs.Arrow.{Policy, arrow-of, parenthesized-head-of}
+use Rattle.grammar.specs.Arrow.{Policy, parenthesized-head-of}
 use Rattle.grammar.specs.Step.{step, read, plenty}
 use Rattle.grammar.specs.Reading.{whole, reading}
-use Rattle.laws.proofs.Good.{productions, came, Meaning, Reads, Answers, Preserved, good, good-done, yields, refuses, says, follows, tries, test, token-test, chooses, notes, converts, so, and-left, and-right}
+use Rattle.laws.proofs.Good.{productions, came, Meaning, Reads, Answers, Preserved, good, good-done, yields, refuses, says, follows, heads, test, token-test, converts, so, and-left, and-right}
 use Rattle.laws.proofs.Bounds.{Nothing, fee, fee-comma, fee-one}
-use Rattle.laws.proofs.Formed.{shapes, or-left, no-ending, one-ending, Middle, one-more, one-closing, no-more, Kids, KidsOf, in-front, then-rest, free, held, Formed, row-formed, AllFormed, all-nil, all-cons, is-well-formed, Converted, converted-formed}
+use Rattle.laws.proofs.Formed.{shapes, or-left, or-right, no-ending, one-ending, Middle, one-more, one-closing, no-more, Kids, KidsOf, in-front, then-rest, free, held, Formed, row-formed, AllFormed, all-nil, all-cons, is-well-formed, Converted, converted-formed}
 use Rattle.laws.specs.Promises.{Kinds, Ends, Class, of, within, in-class, In, OneTree}
 
 -- a tree that is Formed, and may stand where the class is asked
@@ -187,14 +187,6 @@ term-so e f = record { well = well-so (e .well) f; braced = e .braced }
 wider : {a b : Kinds} {t : Tree} → ((k : ℕ) → a k ≡ true → b k ≡ true) → In (of a) t → In (of b) t
 unfolding in-class
 wider {t = t} f i = record { holds = f (kind-of t) (i .holds) }
-
-value-of-parameter : {t : Tree} → In (of is-parameter) t → In (of is-value) t
-unfolding in-class only
-value-of-parameter {t} i = record { holds = go (is-assignment (kind-of t)) (i .holds) }
-  where
-    go : (a : Bool) {b : Bool} → b ≡ true → a or b ≡ true
-    go true e = refl
-    go false e = e
 
 -- of one kind
 spread-is : {t : Tree} → In (of (only Row.Spread)) t → kind-of t ≡ Row.Spread
@@ -509,7 +501,7 @@ module _ {N : Type 0} (policy : Policy N) (sheet : Sheet) {ask : Asks N} (h : An
   binding-property-row : {mark first end : ℕ} {ts us : Forest} → Sole (Well (of is-key)) ts → Sole (Well (of is-parameter)) us
       → Well (within (may-end Row.BindingObject) is-binding-property) (node Row.Property mark first end (join ts us))
   unfolding shapes join
-  binding-property-row (sole k) (sole w) = well-of (row-of-two refl refl (sole k) (sole (well-so w value-of-parameter))) (w .fits .holds)
+  binding-property-row (sole k) (sole w) = well-of (row-of-two refl refl (sole k) (sole (well-so w (wider (λ k e. rw e (or-right (is-assignment k))))))) (w .fits .holds)
 
   -- 15.3 and 15.9
   parameters-are : {ts : Forest} → All (Well (of is-parameter)) ts → Parameters ts
@@ -531,15 +523,9 @@ module _ {N : Type 0} (policy : Policy N) (sheet : Sheet) {ask : Asks N} (h : An
       (λ t. follows (asked (parameters (at + 1) nil) no-tree) (λ list rs b. token-test sheet _ _ (λ t. yields _ _ b) (refuses _ tt)))
       (refuses _ tt)
 
-  -- 13.15, where a head is tried
   arrow-kind : (async : Bool) → IsArrow (if async then Row.AsyncArrow else Row.Arrow)
   arrow-kind true = is-async refl
   arrow-kind false = is-plain refl
-
-  arrow-well : (at : ℕ) (list : Part) (rs : List Record) → Parameters (list .trees) → Reads (Is sheet (assignment at)) Nothing (arrow-of policy sheet ask at list)
-  unfolding productions
-  arrow-well at list rs b =
-      asked (body (if token sheet at is Async then Row.AsyncArrow else Row.Arrow) at (list .end) (list .trees)) (arrow-kind (token sheet at is Async), b)
 
   -- every production
   step-well : (job : Job) → Fit sheet job → Reads (Is sheet job) Nothing (step policy sheet ask job)
@@ -557,12 +543,7 @@ module _ {N : Type 0} (policy : Policy N) (sheet : Sheet) {ask : Asks N} (h : An
       (all-join (fit .0) (all-sole (wells b)), omega (arith, count-join so-far (part .trees), sole-count b, fit .1, fee-one (token sheet (part .end))))))
       (λ f. let l = rw f at (fit .1) in yields _ _ (sole (sequence-row (fit .0) (omega arith))))
   step-well (assignment at) fit =
-      test (token sheet at is LParen or token sheet at is Async)
-      (λ _. chooses (policy .way at)
-      (asked (value at) tt)
-      (tries (asked (head at) tt) (arrow-well at) (notes (policy .mark at) (asked (value at) tt)))
-      (follows (asked (head at) tt) (arrow-well at)))
-      (λ _. asked (value at) tt)
+      heads policy sheet ask at (asked (value at) tt) (asked (head at) tt) (λ list rs b. asked (body _ at (list .end) (list .trees)) (arrow-kind (token sheet at is Async), b))
   step-well (value at) fit =
       test (is-async-name sheet at)
       (λ t. asked (body Row.AsyncArrow at (at + 2) (one (leaf Row.BindingName (at + 1)))) (is-async refl, parameter-leaf (at + 1)))
