@@ -216,7 +216,7 @@ mutual
       let q = pays-kids ts each quiet (b .rest) (b .later) (b .rest-is) in
       record { is = omega (arith, simp length-append at (ap length (b .records)), ap potentials (b .made), p .is, q .is, extra-cons each ts quiet) }
 
-weight-one : (k : ℕ) → weight k ≤ 1
+pub weight-one : (k : ℕ) → weight k ≤ 1
 weight-one k = go (may-record k)
   where
     go : (b : Bool) → (if b then 1 else 0) ≤ 1

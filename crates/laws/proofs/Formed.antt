@@ -15,7 +15,8 @@ use Rattle.laws.proofs.Good.{and-left, and-right}
 use Rattle.rows.specs.Row as Row
 use Rattle.rows.specs.Tree.{Tree, Forest, node, nil, cons, one, count, kind-of, kids-of}
 use Rattle.rows.specs.Record.{Record}
-use Rattle.conversion.specs.Conversion.{Outcome, turned, refused, Role, any, simple, element, last-element, property, last-property, value, name, same, Change, refuse, keep, turn, is-array-or-object, last-of, seen, as-simple, as-any, as-value, as-element, as-last-element, as-property, as-last-property, as-name, change, roles, over, both, convert-as, convert-kids}
+use Rattle.conversion.specs.Conversion.{Outcome, turned, refused, Role, any, simple, element, last-element, property, last-property, value, name, same, Change, refuse, keep, turn, is-array-or-object, last-of, seen, as-simple, as-any, as-value, as-element, as-last-element, as-property, as-last-property, as-name, change, roles, over, convert-as, convert-kids}
+use Rattle.conversion.proofs.RuleHolds.{refused-turned, turned-is, cons-parts}
 use Rattle.conversion.proofs.KidRoles.{elements, properties, key-and-value, name-and-initializer}
 use Rattle.tokens.specs.declared.cause.Cause.{Cause}
 use Rattle.rows.specs.Shape.{is-listed, is-left-hand-side, is-unary, is-binary, is-logical, is-assignment, is-expression, is-binding, is-parameter, is-body, is-simple-target, is-target, nothing, only, Shape, shape-of, least, may-be, may-end, fits, last-kind, all-fit, is-shaped, well-formed, all-well-formed}
@@ -369,54 +370,33 @@ module _ (kind mark first end : ℕ) (kids : Forest) (k : KidsOf kind kids) (a :
   becomes l name = name-becomes
   becomes l same = keeps _ _ refl (row-formed l k a) refl
 
--- what comes of a tree that is Formed
-data Turns (role : Role) (t : Tree) (o : Outcome Tree) : Type 0 where
-  turns-to : (t′ : Tree) (records : List Record) → o ≡ turned t′ records → Formed t′ → After role t t′ → Turns role t o
-  turns-not : (cause : Cause) → o ≡ refused cause → Turns role t o
-
-data TurnKids (each : ℕ → Role) (ts : Forest) (o : Outcome Forest) : Type 0 where
-  turn-kids : (ts′ : Forest) (records : List Record) → o ≡ turned ts′ records → AllFormed ts′ → Each each ts ts′ → TurnKids each ts o
-  turn-not : (cause : Cause) → o ≡ refused cause → TurnKids each ts o
-
-over-turns : {role : Role} {kind mark first end : ℕ} {kids : Forest} (c : Change) {o : Outcome Forest} → Becomes (After role (node kind mark first end kids)) mark first end kids c
-    → TurnKids (roles c) kids o → Turns role (node kind mark first end kids) (over c (node kind mark first end kids) o)
-unfolding over roles
-over-turns c (refuses cause e) k = rw e (turns-not cause refl)
-over-turns c (keeps kind′ records e f a) k = rw e (turns-to _ _ refl f a)
-over-turns {role} {kind} {mark} {first} {end} {kids} c {o} (turns kind′ before each after e f a) k = rw e (go (rw e at k))
-  where
-    go : TurnKids each kids o → Turns role (node kind mark first end kids) (over (turn kind′ before each after) (node kind mark first end kids) o)
-    go (turn-kids ts′ records q g h) = rw q (turns-to _ _ refl (f ts′ h g) (a ts′))
-    go (turn-not cause q) = rw q (turns-not cause refl)
-
-both-turn : {each : ℕ → Role} {t : Tree} {ts : Forest} {o : Outcome Tree} {o′ : Outcome Forest} → Turns (each (count ts)) t o → TurnKids each ts o′ → TurnKids each (cons t ts) (both o o′)
-unfolding both
-both-turn (turns-not cause e) k = rw e (turn-not cause refl)
-both-turn (turns-to t′ records e f a) (turn-not cause e′) = rw (e, e′) (turn-not cause refl)
-both-turn (turns-to t′ records e f a) (turn-kids ts′ more e′ g h) = rw (e, e′) (turn-kids _ _ refl (all-cons f g) (each-cons a h))
-
-mutual
-  unfolding convert-as convert-kids
-
-  convert-turns : (t : Tree) (role : Role) → Formed t → Turns role t (convert-as t role)
-  convert-turns (node kind mark first end kids) role (row-formed l k a) =
-      over-turns (change role (seen (node kind mark first end kids))) (becomes kind mark first end kids k a l role) (kids-turn kids (roles (change role (seen (node kind mark first end kids)))) a)
-
-  kids-turn : (ts : Forest) (each : ℕ → Role) → AllFormed ts → TurnKids each ts (convert-kids ts each)
-  kids-turn nil each all-nil = turn-kids nil [] refl all-nil each-nil
-  kids-turn (cons t ts) each (all-cons f a) = both-turn (convert-turns t (each (count ts)) f) (kids-turn ts each a)
-
 -- conversion of what is Formed is Formed, and of the class that the role asks for
 pub record Converted (role : Role) (t t′ : Tree) : Type 0 where
   pub is-formed : Formed t′
   pub is-after : After role t t′
 
-pub converted-formed : (t : Tree) (role : Role) {t′ : Tree} {records : List Record} → Formed t → convert-as t role ≡ turned t′ records → Converted role t t′
-converted-formed t role {t′} {records} f e = go (convert-turns t role f)
-  where
-    go : Turns role t (convert-as t role) → Converted role t t′
-    go (turns-to u rs e′ g a) = let q : u ≡ t′ = cc in rw q at (both-of u g a)
-      where
-        both-of : (u : Tree) → Formed u → After role t u → Converted role t u
-        both-of u g a = record { is-formed = g; is-after = a }
-    go (turns-not cause e′) = let z : _≡_ {A = ℕ} 0 1 = cc in absurd (omega arith)
+over-converted : {role : Role} {kind mark first end : ℕ} {kids : Forest} (c : Change) (o : Outcome Forest) {t′ : Tree} {rs : List Record}
+    → Becomes (After role (node kind mark first end kids)) mark first end kids c → over c (node kind mark first end kids) o ≡ turned t′ rs
+    → ((ts′ : Forest) (ss : List Record) → o ≡ turned ts′ ss → AllFormed ts′ × Each (roles c) kids ts′) → Converted role (node kind mark first end kids) t′
+unfolding over roles
+over-converted c o (refuses cause e) h k = absurd (refused-turned (rw e at h))
+over-converted c o (keeps kind′ records e f a) h k = rw (sym (turned-is (rw e at h))) (record { is-formed = f; is-after = a })
+over-converted c (refused cause) (turns kind′ before each after e f a) h k = absurd (refused-turned (rw e at h))
+over-converted c (turned ts ss) (turns kind′ before each after e f a) h k =
+    let d = rw e at (k ts ss refl) in rw (sym (turned-is (rw e at h))) (record { is-formed = f ts (d .1) (d .0); is-after = a ts })
+
+mutual
+  unfolding convert-as convert-kids
+
+  pub converted-formed : (t : Tree) (role : Role) {t′ : Tree} {rs : List Record} → Formed t → convert-as t role ≡ turned t′ rs → Converted role t t′
+  converted-formed (node kind mark first end kids) role (row-formed l k a) h =
+      over-converted (change role (seen (node kind mark first end kids))) (convert-kids kids (roles (change role (seen (node kind mark first end kids)))))
+      (becomes kind mark first end kids k a l role) h (λ ts′ ss q. kids-formed kids (roles (change role (seen (node kind mark first end kids)))) a q)
+
+  kids-formed : (ts : Forest) (each : ℕ → Role) {ts′ : Forest} {rs : List Record} → AllFormed ts → convert-kids ts each ≡ turned ts′ rs → AllFormed ts′ × Each each ts ts′
+  kids-formed nil each all-nil h = rw (sym (turned-is h)) (all-nil, each-nil)
+  kids-formed (cons t ts) each (all-cons f a) h =
+      let b = cons-parts t ts each _ _ h in
+      let c = converted-formed t (each (count ts)) f (b .one-is) in
+      let d = kids-formed ts each a (b .rest-is) in
+      rw (b .made) (all-cons (c .is-formed) (d .0), each-cons (c .is-after) (d .1))
