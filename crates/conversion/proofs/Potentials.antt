@@ -19,7 +19,7 @@ use Rattle.tokens.specs.Cause.{number, place}
 use Rattle.conversion.proofs.Relabelled.{Relabel, kept, target}
 use Rattle.conversion.proofs.KidRoles.{elements, properties, key-and-value, name-and-initializer}
 use Rattle.conversion.specs.Potential.{may-record, potential, potentials}
-use Rattle.conversion.proofs.RuleHolds.{both-true, refused-turned, follows, cons-parts}
+use Rattle.conversion.proofs.RuleHolds.{either-way, both-true, refused-turned, follows, cons-parts}
 pub use Rattle.conversion.proofs.RuleHolds.{turned-is, turned-records}
 
 abbrev pub weight : ℕ → ℕ
@@ -148,8 +148,7 @@ module _ (r : Seen) where
   fair Role.same a o = keeps {kind = r .kind} {records = []} kept (omega arith)
 
 none-or-one : (b : Bool) (r : Record) → length (if b then [] else r ∷ []) ≤ 1
-none-or-one true r = omega arith
-none-or-one false r = omega arith
+none-or-one b r = either-way (λ rs. length rs ≤ 1) b (λ _. omega arith) (λ _. omega arith)
 
 -- so is every change
 pub changes : (t : Tree) (role : Role) → Fair (seen t) (weight (seen t .kind) + comma-count role) (change role (seen t))
@@ -217,11 +216,7 @@ mutual
       record { is = omega (arith, simp length-append at (ap length (b .records)), ap potentials (b .made), p .is, q .is, extra-cons each ts quiet) }
 
 pub weight-one : (k : ℕ) → weight k ≤ 1
-weight-one k = go (may-record k)
-  where
-    go : (b : Bool) → (if b then 1 else 0) ≤ 1
-    go true = omega arith
-    go false = omega arith
+weight-one k = either-way (λ n. n ≤ 1) (may-record k) (λ _. omega arith) (λ _. omega arith)
 
 -- a row could be recorded once
 mutual

@@ -100,10 +100,10 @@ last-property reference = refl
 last-property reference-initialized = refl
 last-property (pair e) = refl
 
--- a role that is one of two
-either : {t : Tree} {r s : Role} (b : Bool) → Clean t r → Clean t s → Clean t (if b then r else s)
-either true c d = c
-either false c d = d
+-- a test, either way
+pub either-way : {A : Type 0} (P : A → Type 0) (b : Bool) {x y : A} → (b ≡ true → P x) → (b ≡ false → P y) → P (if b then x else y)
+either-way P true p q = p refl
+either-way P false p q = q refl
 
 cons-clean : {t : Tree} {ts : Forest} (each : ℕ → Role) → Clean t (each (count ts)) → CleanKids ts each → CleanKids (cons t ts) each
 unfolding convert-kids both
@@ -124,10 +124,10 @@ mutual
 
   elements-clean : {ts : Forest} → Elements ts → CleanKids ts (elements [])
   elements-clean no-elements = record { made = nil; is = refl }
-  elements-clean (elision {ts = ts} d) = cons-clean (elements []) (either (eqb (count ts) 0) (record { made = _; is = refl }) (record { made = _; is = refl })) (elements-clean d)
+  elements-clean (elision {ts = ts} d) = cons-clean (elements []) (either-way (Clean _) (eqb (count ts) 0) (λ _. record { made = _; is = refl }) (λ _. record { made = _; is = refl })) (elements-clean d)
   elements-clean (next-element {t} {ts} e d) =
       let c = element-clean e in
-      cons-clean (elements []) (either (eqb (count ts) 0) (as-alike (element-value e .1) c) (as-alike (element-value e .0) c)) (elements-clean d)
+      cons-clean (elements []) (either-way (Clean t) (eqb (count ts) 0) (λ _. as-alike (element-value e .1) c) (λ _. as-alike (element-value e .0) c)) (elements-clean d)
   elements-clean (rest-element {mark} {first} {end} d) =
       let c = target-clean d in record { made = one (node row.TargetRest mark first end (one (c .made))); is = rw (rest-kinds d, c .is) }
 
@@ -139,7 +139,7 @@ mutual
   properties-clean no-properties = record { made = nil; is = refl }
   properties-clean (next-property {t} {ts} e d) =
       let c = property-clean e in
-      cons-clean (properties []) (either (eqb (count ts) 0) (as-alike (last-property e) c) c) (properties-clean d)
+      cons-clean (properties []) (either-way (Clean t) (eqb (count ts) 0) (λ _. as-alike (last-property e) c) (λ _. c)) (properties-clean d)
   properties-clean (rest-property {mark} {first} {end} {t} s) =
       let c : Clean t Role.any = as-alike (simple-any s) (simple-clean s) in
       record { made = one (node row.TargetRest mark first end (one (c .made))); is = rw (references s, c .is) }

@@ -18,6 +18,7 @@ use Rattle.rows.specs.Row as Row
 use Rattle.rows.specs.Tree.{Tree, Forest, node, nil, cons, one, join, size, sizes, kind-of, mark-of}
 use Rattle.rows.specs.Record.{Record, break-before-arrow, rest-initializer}
 use Rattle.conversion.specs.Conversion.{Role, any, simple}
+use Rattle.conversion.proofs.RuleHolds.{either-way}
 use Rattle.grammar.specs.Sheet.{Sheet, token, break-before, done, first-tree, tree, leaf}
 use Rattle.grammar.specs.Job.{Job, expression, sequence, assignment, value, assign, conditional, binary, operators, unary, postfix, left-hand-side, links, arguments, primary, elements, properties, property, key, spread, binding, binding-element, binding-elements, binding-properties, binding-property, binding-rest, head, parameters, body, Asks}
 use Rattle.grammar.specs.Assignment.{is-assignment-operator, is-async-name}
@@ -145,11 +146,7 @@ fee-comma e = rw e
 
 pub fee-one : (kind : ℕ) → fee kind ≤ 1
 unfolding fee
-fee-one kind = go (kind is Comma)
-  where
-    go : (b : Bool) → (if b then 0 else 1) ≤ 1
-    go true = omega arith
-    go false = omega arith
+fee-one kind = either-way (λ n. n ≤ 1) (kind is Comma) (λ _. omega arith) (λ _. omega arith)
 
 -- one tree within limits
 lone : {l : Limits} {end : ℕ} (t : Tree) {records : List Record} → Within l end (sizes (one t)) (length records + oweds (one t)) → Bound l end (one t) records
@@ -184,13 +181,11 @@ target role at left z =
     (λ cause e. tt)
 
 one-at-most : (holds : Bool) (r : Record) → length (if holds then r ∷ [] else []) ≤ 1
-one-at-most true r = omega arith
-one-at-most false r = omega arith
+one-at-most holds r = either-way (λ rs. length rs ≤ 1) holds (λ _. omega arith) (λ _. omega arith)
 
 arrow-free : (async : Bool) → owes (if async then Row.AsyncArrow else Row.Arrow) ≡ 0
 unfolding owes
-arrow-free true = refl
-arrow-free false = refl
+arrow-free async = either-way (λ kind. owes kind ≡ 0) async (λ _. refl) (λ _. refl)
 
 -- an operator says at most one thing, and its row owes nothing
 none-or-one : (a b : Bool) (r s : Record) → (a ≡ true → b ≡ false) → length ((if a then r ∷ [] else []) ++ (if b then s ∷ [] else [])) ≤ 1
@@ -206,15 +201,10 @@ operation-one sheet at left right =
 
 pub operation-free : (kind : ℕ) → owes (operation-kind kind) ≡ 0
 unfolding operation-kind owes
-operation-free kind = go (between Question2 Amp2 kind)
-  where
-    go : (b : Bool) → owes (if b then Row.Logical else Row.Binary) ≡ 0
-    go true = refl
-    go false = refl
+operation-free kind = either-way (λ row. owes row ≡ 0) (between Question2 Amp2 kind) (λ _. refl) (λ _. refl)
 
 pub lent-either : (plain : Bool) → lent (if plain then any else simple) ≡ 0
-lent-either true = refl
-lent-either false = refl
+lent-either plain = either-way (λ role. lent role ≡ 0) plain (λ _. refl) (λ _. refl)
 
 abbrev pub Any : Job → Type 0
 Any job = Unit {0}

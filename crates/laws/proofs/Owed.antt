@@ -2,8 +2,7 @@
 -- Conversion keeps the number of rows (`same-size`), and pays its records out of what the tree owes (`pays`); so does the last pass (`pays-lasts`).
 -- Assumes nothing.
 use Prim.Native.Nat.{ℕ, _+_, _≤_}
-use mathlib.Core.Path.{_≡_, refl}
-use mathlib.Core.Bool.{Bool, true, false}
+use mathlib.Core.Path.{_≡_}
 use mathlib.Core.List.{List, [], _∷_}
 use native.Mathlib.Omega.{arith}
 use lib.Dec.{eqb}
@@ -15,6 +14,7 @@ use Rattle.rows.specs.Tree.{Tree, Forest, node, nil, cons, join}
 use Rattle.rows.specs.Record.{Record, shorthand-initializer}
 use Rattle.conversion.specs.Conversion.{turned, Role, convert-as}
 use Rattle.conversion.specs.Potential.{may-record}
+use Rattle.conversion.proofs.RuleHolds.{either-way}
 use Rattle.conversion.proofs.Potentials as Potentials
 use Rattle.grammar.specs.Reading.{unconverted, unconverteds}
 unfoldable pub use Rattle.conversion.specs.Potential.{potential as owed, potentials as oweds}
@@ -41,11 +41,7 @@ pays t role t′ records e = Potentials.pays t role t′ records e .is
 
 last-one : (kind : ℕ) (r : Record) → length (if kind is Row.ShorthandInit then r ∷ [] else []) ≤ owes kind
 unfolding owes
-last-one kind r = go (eqb kind Row.ShorthandInit) refl
-  where
-    go : (b : Bool) → eqb kind Row.ShorthandInit ≡ b → length (if b then r ∷ [] else []) ≤ owes kind
-    go true e = rw (eqb-true kind Row.ShorthandInit e) (omega arith)
-    go false e = omega arith
+last-one kind r = either-way (λ rs. length rs ≤ owes kind) (eqb kind Row.ShorthandInit) {x = r ∷ []} (λ e. rw (eqb-true kind Row.ShorthandInit e) (omega arith)) (λ _. omega arith)
 
 mutual
   unfolding unconverted unconverteds owed oweds owes

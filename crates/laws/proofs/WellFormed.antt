@@ -1,7 +1,7 @@
 -- The trees of a reading are well-formed: every row has the kids that the table of shapes gives its kind. Each nonterminal gives trees of a class of
 -- its own, as the grammar has them; so the reading of a whole list is an Expression, and that of a pattern a Binding with or without an initializer.
 -- The statements, at the end: `whole-is-well-formed`, `pattern-is-well-formed`, `formed-at`. Assumes nothing.
-use Prim.Native.Nat.{ℕ, suc, _+_, _-_, _≤_, _<_}
+use Prim.Native.Nat.{ℕ, suc, _+_, _≤_, _<_}
 use mathlib.Core.Path.{_≡_, refl}
 use mathlib.Core.Bool.{Bool, true, false, not}
 use mathlib.Core.List.{List, [], _∷_}
@@ -21,6 +21,7 @@ use Rattle.rows.specs.Tree.{Tree, Forest, node, nil, cons, one, join, count, ki
 use Rattle.rows.specs.Record.{Record}
 use Rattle.rows.proofs.Rows.{count-join}
 use Rattle.conversion.specs.Conversion.{Role, any, simple}
+use Rattle.conversion.proofs.RuleHolds.{either-way}
 use Rattle.grammar.specs.Sheet.{Sheet, token, break-before, done, first-tree, tree, leaf}
 use Rattle.grammar.specs.Job.{Job, expression, sequence, assignment, value, assign, conditional, binary, operators, unary, postfix, left-hand-side, links, arguments, primary, elements, properties, property, key, spread, binding, binding-element, binding-elements, binding-properties, binding-property, binding-rest, head, parameters, body, Asks}
 use Rattle.grammar.specs.Assignment.{is-assignment-operator, is-async-name}
@@ -317,11 +318,8 @@ object-comma-closes sheet first t a s end =
 -- an arrow: its parameters, and a body that is no object
 body-fits : (sheet : Sheet) (at : ℕ) {t : Tree} → token sheet at is LCurly ≡ false → Term sheet (of is-assignment) at t → In (of is-body) t
 unfolding in-class is-body
-body-fits sheet at {t} n e = record { holds = go (between Row.Object Row.ObjectRestComma (kind-of t)) refl }
-  where
-    go : (b : Bool) → between Row.Object Row.ObjectRestComma (kind-of t) ≡ b → (if b then false else is-assignment (kind-of t)) ≡ true
-    go false q = e .well .fits .holds
-    go true q = absurd (eqb-false _ _ n (e .braced q))
+body-fits sheet at {t} n e =
+    record { holds = either-way (λ b. b ≡ true) (between Row.Object Row.ObjectRestComma (kind-of t)) (λ q. absurd (eqb-false _ _ n (e .braced q))) (λ _. e .well .fits .holds) }
 
 arrow-middle : {ts : Forest} {t : Tree} → Middle (may-end Row.Arrow) is-parameter (only Row.BindingRest) [] ts → In (of is-body) t
     → Middle (may-end Row.Arrow) is-parameter (only Row.BindingRest) (is-body ∷ []) (join ts (one t))
@@ -381,19 +379,11 @@ binary-level k e h = go (k is As or k is Satisfies) h
 
 right-below : (k : ℕ) → right-floor k ≤ expression-level k
 unfolding right-floor
-right-below k = go (k is Star2)
-  where
-    go : (b : Bool) → (if b then expression-level k - 1 else expression-level k) ≤ expression-level k
-    go true = omega arith
-    go false = omega arith
+right-below k = either-way (λ n. n ≤ expression-level k) (k is Star2) (λ _. omega arith) (λ _. omega arith)
 
 right-above : (k : ℕ) → 4 ≤ expression-level k → 3 ≤ right-floor k
 unfolding right-floor
-right-above k h = go (k is Star2)
-  where
-    go : (b : Bool) → 3 ≤ (if b then expression-level k - 1 else expression-level k)
-    go true = omega arith
-    go false = omega arith
+right-above k h = either-way (λ n. 3 ≤ n) (k is Star2) (λ _. omega arith) (λ _. omega arith)
 
 -- the row of an operator, and that the operands after it may go on
 operation-row : (sheet : Sheet) (floor first at end : ℕ) (left : Tree) (right : Forest) → floor < expression-level (token sheet at)
@@ -524,8 +514,7 @@ module _ {N : Type 0} (policy : Policy N) (sheet : Sheet) {ask : Asks N} (h : An
       (refuses _ tt)
 
   arrow-kind : (async : Bool) → IsArrow (if async then Row.AsyncArrow else Row.Arrow)
-  arrow-kind true = is-async refl
-  arrow-kind false = is-plain refl
+  arrow-kind async = either-way IsArrow async (λ _. is-async refl) (λ _. is-plain refl)
 
   -- every production
   step-well : (job : Job) → Fit sheet job → Reads (Is sheet job) Nothing (step policy sheet ask job)
