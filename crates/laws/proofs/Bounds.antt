@@ -13,7 +13,6 @@ use Rattle.tokens.specs.Bool.{_or_, _and_, _is_, if_then_else_, between}
 use Rattle.tokens.specs.Kind.{Async, Str, Number, LCurly, Comma, Colon, Dot3, Arrow, Question2, Amp2, Star2, Eq}
 use Rattle.tokens.specs.Token.{is-name, is-word, is-literal}
 use Rattle.operators.specs.Precedence.{expression-level}
-use Rattle.tokens.specs.declared.cause.Cause.{Cause}
 use Rattle.rows.specs.Row as Row
 use Rattle.rows.specs.Tree.{Tree, Forest, node, nil, cons, one, join, size, sizes, kind-of, mark-of}
 use Rattle.rows.specs.Record.{Record, break-before-arrow, rest-initializer}
@@ -30,6 +29,7 @@ use Rattle.grammar.specs.Step.{step, read}
 use Rattle.laws.specs.Settles.{Settles, μ}
 use Rattle.grammar.specs.Reading.{unconverteds, whole, reading}
 use Rattle.laws.proofs.Good.{productions, came, Reads, Answers, Preserved, good, good-done, yields, refuses, says, follows, heads, test, token-test, converts, so, inside, and-left}
+pub use Rattle.laws.proofs.Good.{Any, Nothing}
 use Rattle.laws.proofs.Owed.{owes, owes-one, owed, oweds, lent, sizes-join, oweds-join, same-size, pays, pays-lasts}
 
 -- what a nonterminal at a place is bound by: the least and the most that its end can be; the rows and the dues (records, and what rows owe) that
@@ -205,12 +205,6 @@ operation-free kind = either-way (λ row. owes row ≡ 0) (between Question2 Amp
 
 pub lent-either : (plain : Bool) → lent (if plain then any else simple) ≡ 0
 lent-either plain = either-way (λ role. lent role ≡ 0) plain (λ _. refl) (λ _. refl)
-
-abbrev pub Any : Job → Type 0
-Any job = Unit {0}
-
-abbrev pub Nothing : Cause → Type 0
-Nothing cause = Unit {0}
 
 -- THE PRODUCTIONS
 module _ {N : Type 0} (policy : Policy N) (sheet : Sheet) {ask : Asks N} (h : Answers Any (λ job. Bound (limits sheet job)) Nothing ask) where

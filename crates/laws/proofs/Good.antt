@@ -59,6 +59,13 @@ module _ {N : Type 0} where
   pub record Answers (Fit : Job → Type 0) (Good : Job → Meaning) (Bad : Cause → Type 0) (ask : Asks N) : Type 0 where
     pub with : (job : Job) → Fit job → Reads (Good job) Bad (ask job)
 
+-- any nonterminal may be asked; and of a refusal nothing is said
+abbrev pub Any : Job → Type 0
+Any job = Unit {0}
+
+abbrev pub Nothing : Cause → Type 0
+Nothing cause = Unit {0}
+
 -- THE PRINCIPLE, for any policy, sheet and notion of good
 module _ {N : Type 0} (policy : Policy N) (sheet : Sheet) (Fit : Job → Type 0) (Good : Job → Meaning) (Bad : Cause → Type 0) where
   -- every production makes good answers out of good answers
@@ -66,8 +73,8 @@ module _ {N : Type 0} (policy : Policy N) (sheet : Sheet) (Fit : Job → Type 0)
     pub with : (ask : Asks N) → Answers Fit Good Bad ask → Answers Fit Good Bad (step policy sheet ask)
 
   -- the same where something else is known of every answer already
-  pub good-given : (Given : Job → Meaning) → ((steps : ℕ) → Answers {N = N} (λ job. Unit {0}) Given (λ cause. Unit {0}) (read policy sheet steps))
-      → ((ask : Asks N) → Answers (λ job. Unit {0}) Given (λ cause. Unit {0}) ask → Answers Fit Good Bad ask → Answers Fit Good Bad (step policy sheet ask))
+  pub good-given : (Given : Job → Meaning) → ((steps : ℕ) → Answers {N = N} Any Given Nothing (read policy sheet steps))
+      → ((ask : Asks N) → Answers Any Given Nothing ask → Answers Fit Good Bad ask → Answers Fit Good Bad (step policy sheet ask))
       → (steps : ℕ) → Answers Fit Good Bad (read policy sheet steps)
   unfolding read
   good-given Given g p zero = record { with = λ job fit. record { with = λ notes. ends-stuck refl } }

@@ -33,9 +33,20 @@ use Rattle.laws.proofs.Bounds.{Any, reads, Nothing, limits, Bound, all-
 use Rattle.laws.proofs.Rel.{async-inside, operator-inside}
 use Rattle.laws.specs.Promises.{Inside, Lie, Lies, next, none, row-lies}
 
--- a row over kids
-row : {low high kind mark first end : ℕ} {kids : Forest} → low ≤ first → first ≤ mark → mark < end → end ≤ high → Lie first end kids → Lies low high (node kind mark first end kids)
-row a b c d k = row-lies a b c d k
+-- the places of a row: it begins where it may, its mark is inside it, and it ends where it may
+record Span (low first mark end high : ℕ) : Type 0 where
+  starts : low ≤ first
+  marks : first ≤ mark
+  inner : mark < end
+  ends : end ≤ high
+
+row : {low high kind mark first end : ℕ} {kids : Forest} → Span low first mark end high → Lie first end kids → Lies low high (node kind mark first end kids)
+row s k = row-lies (s .starts) (s .marks) (s .inner) (s .ends) k
+
+-- wider places
+record Wide (low high low′ high′ : ℕ) : Type 0 where
+  down : low′ ≤ low
+  up : high ≤ high′
 
 no-trees : {low high : ℕ} → low ≤ high → Lie low high nil
 no-trees a = none a
@@ -43,12 +54,12 @@ no-trees a = none a
 then-lie : {low high : ℕ} {t : Tree} {ts : Forest} (middle : ℕ) → Lies low middle t → Lie middle high ts → Lie low high (cons t ts)
 then-lie middle t ts = next middle t ts
 
-lies-wide : {low high low′ high′ : ℕ} {t : Tree} → Lies low high t → low′ ≤ low → high ≤ high′ → Lies low′ high′ t
-lies-wide (row-lies a b c d k) l h = row (omega arith) b c (omega arith) k
+lies-wide : {low high low′ high′ : ℕ} {t : Tree} → Lies low high t → Wide low high low′ high′ → Lies low′ high′ t
+lies-wide (row-lies a b c d k) w = row (omega arith) k
 
-lie-wide : {low high low′ high′ : ℕ} {ts : Forest} → Lie low high ts → low′ ≤ low → high ≤ high′ → Lie low′ high′ ts
-lie-wide (none a) l h = no-trees (omega arith)
-lie-wide (next middle t ts) l h = next middle (lies-wide t l (omega arith)) (lie-wide ts (omega arith) h)
+lie-wide : {low high low′ high′ : ℕ} {ts : Forest} → Lie low high ts → Wide low high low′ high′ → Lie low′ high′ ts
+lie-wide (none a) w = no-trees (omega arith)
+lie-wide (next middle t ts) w = then-lie middle (lies-wide t (omega arith)) (lie-wide ts (omega arith))
 
 lies-order : {low high : ℕ} {t : Tree} → Lies low high t → low < high
 lies-order (row-lies a b c d k) = omega arith
@@ -59,18 +70,25 @@ lie-order (next middle t ts) = omega (arith, lies-order t, lie-order ts)
 
 lie-join : {low middle high : ℕ} {ts us : Forest} → Lie low middle ts → Lie middle high us → Lie low high (join ts us)
 unfolding join
-lie-join (none a) k = lie-wide k a (omega arith)
+lie-join (none a) k = lie-wide k (omega arith)
 lie-join (next middle t ts) k = next middle t (lie-join ts k)
 
 lie-one : {low high : ℕ} {t : Tree} → Lies low high t → Lie low high (one t)
 lie-one {low} {high} t = then-lie high t (no-trees (omega arith))
+
+-- trees, and others further on
+lie-on : {low middle from end high : ℕ} {ts us : Forest} → Lie low middle ts → Lie from end us → Wide from end middle high → Lie low high (join ts us)
+lie-on k b w = lie-join k (lie-wide b w)
+
+lie-row : {low high kind mark first end : ℕ} {kids : Forest} → Span low first mark end high → Lie first end kids → Lie low high (one (node kind mark first end kids))
+lie-row s k = lie-one (row s k)
 
 -- one tree is where all are
 lie-first : {low high : ℕ} {ts : Forest} → ts ≡ one (first-tree ts) → Lie low high ts → Lies low high (first-tree ts)
 lie-first {low} {high} {ts} e k = go (rw e at k)
   where
     go : {t : Tree} → Lie low high (one t) → Lies low high t
-    go (next middle t (none a)) = lies-wide t (omega arith) a
+    go (next middle t (none a)) = lies-wide t (omega arith)
 
 -- 9 and 10
 record Numbered (cause : Cause) : Type 0 where
@@ -90,8 +108,8 @@ over-stays : {low high mark first end w : ℕ} {kids : Forest} (kind : ℕ) (c :
     → Fair (seen (node kind mark first end kids)) w c → AllStay first end o → Stays low high (over c (node kind mark first end kids) o)
 unfolding over seen
 over-stays kind (refuse cause) l m e h k (refuses-first p u v) s = falls cause refl (omega arith) (omega arith) (omega arith)
-over-stays kind (keep kind′ records) l m e h k f s = stays _ _ refl (row l m e h k)
-over-stays kind (turn kind′ before each after) l m e h k f (all-stay ts records q k′) = rw q (stays _ _ refl (row l m e h k′))
+over-stays kind (keep kind′ records) l m e h k f s = stays _ _ refl (row-lies l m e h k)
+over-stays kind (turn kind′ before each after) l m e h k f (all-stay ts records q k′) = rw q (stays _ _ refl (row-lies l m e h k′))
 over-stays kind (turn kind′ before each after) l m e h k f (one-falls cause q a b u) = rw q (falls cause refl (omega arith) (omega arith) u)
 
 both-stay : {low middle high : ℕ} {o : Outcome Tree} {o′ : Outcome Forest} → Stays low middle o → middle ≤ high → AllStay middle high o′ → low ≤ middle → AllStay low high (both-kids o o′)
@@ -180,7 +198,7 @@ abbrev Is : Job → Meaning
 Is job end trees records = Placed job end trees
 
 lie-leaf : {low high kind : ℕ} (at : ℕ) → low ≤ at → at < high → Lie low high (one (leaf kind at))
-lie-leaf at l h = lie-one (row l (omega arith) (omega arith) (omega arith) (no-trees (omega arith)))
+lie-leaf at l h = lie-row (omega arith) (no-trees (omega arith))
 
 -- THE PRODUCTIONS
 module _ {N : Type 0} (policy : Policy N) (sheet : Sheet) {ask : Asks N} (g : Answers Any (λ job. Bound (limits sheet job)) Nothing ask) (h : Answers (Fit sheet) Is (Inside sheet) ask) where
@@ -236,8 +254,8 @@ module _ {N : Type 0} (policy : Policy N) (sheet : Sheet) {ask : Asks N} (g : An
       test (token sheet at is Comma)
       (λ t. let i = inside sheet at (λ k. k is Comma) refl t in follows (asked (assignment (at + 1)) (omega arith))
       (λ part rs b. last (sequence first comma (part .end) (join so-far (part .trees)))
-      (omega arith, omega arith, omega (arith, fee-one (token sheet (part .end))), lie-join (fit .3) (lie-wide (b .1) (omega arith) (omega arith)))))
-      (λ f. let k = rw f at (fit .2) in yields _ _ (lie-one (row (omega arith) (omega arith) (omega arith) (omega arith) (fit .3))))
+      (omega arith, omega arith, omega (arith, fee-one (token sheet (part .end))), lie-on (fit .3) (b .1) (omega arith))))
+      (λ f. let k = rw f at (fit .2) in yields _ _ (lie-row (omega arith) (fit .3)))
   step-lies (assignment at) i = heads policy sheet ask at (last (value at) i) (asked (head at) i) (λ list rs b. last (body _ at (list .end) (list .trees)) (omega arith, b .1))
   step-lies (value at) i =
       test (is-async-name sheet at)
@@ -255,14 +273,14 @@ module _ {N : Type 0} (policy : Policy N) (sheet : Sheet) {ask : Asks N} (g : An
       let o = lies-order (fit .1) in
       follows (turn-to (if token sheet at is Eq then any else simple) at left (fit .1) (omega arith))
       (λ target rs b. follows (asked (assignment (at + 1)) (omega arith))
-      (λ right more c. yields _ _ (lie-one (row (omega arith) (omega arith) (omega arith) (omega arith) (lie-join (b .1) (lie-wide (c .1) (omega arith) (omega arith)))))))
+      (λ right more c. yields _ _ (lie-row (omega arith) (lie-on (b .1) (c .1) (omega arith)))))
   step-lies (conditional first at left) fit =
       let o = lies-order (fit .1) in
       follows (asked (assignment (at + 1)) (omega arith))
       (λ if-true rs b. token-test sheet _ _
       (λ t. follows (asked (assignment (if-true .end + 1)) (omega arith))
-      (λ if-false more c. yields _ _ (lie-one (row (omega arith) (omega arith) (omega arith) (omega arith)
-      (then-lie at (fit .1) (lie-join {middle = if-true .end} (lie-wide (b .1) (omega arith) (omega arith)) (lie-wide (c .1) (omega arith) (omega arith))))))))
+      (λ if-false more c. yields _ _ (lie-row (omega arith)
+      (then-lie at (fit .1) (lie-join {middle = if-true .end} (lie-wide (b .1) (omega arith)) (lie-wide (c .1) (omega arith)))))))
       (refuses _ (omega arith)))
   -- 13.6 to 13.13
   step-lies (binary floor at) i = follows (asked (unary at) i) (λ left rs b. last (operators floor at (left .end) (tree left)) (omega arith, lie-first (b .0 .single) (b .1)))
@@ -271,23 +289,23 @@ module _ {N : Type 0} (policy : Policy N) (sheet : Sheet) {ask : Asks N} (g : An
       test (ltb floor (expression-level (token sheet at)))
       (λ t. let i = operator-inside sheet at floor t in follows (asked (binary (right-floor (token sheet at)) (at + 1)) (omega arith))
       (λ right rs b. says _ (last (operators floor first (right .end) (node (operation-kind (token sheet at)) at first (right .end) (cons left (right .trees))))
-      (omega arith, row (omega arith) (omega arith) (omega arith) (omega arith) (then-lie at (fit .1) (lie-wide (b .1) (omega arith) (omega arith)))))))
+      (omega arith, row (omega arith) (then-lie at (fit .1) (lie-wide (b .1) (omega arith)))))))
       (λ _. yields _ _ (lie-one (fit .1)))
   -- 13.5 and 13.4
   step-lies (unary at) i =
       test (is-unary-operator (token sheet at))
       (λ t. let j = inside sheet at is-unary-operator refl t in follows (asked (unary (at + 1)) (omega arith))
-      (λ operand rs b. yields _ _ (lie-one (row (omega arith) (omega arith) (omega arith) (omega arith) (lie-wide (b .1) (omega arith) (omega arith))))))
+      (λ operand rs b. yields _ _ (lie-row (omega arith) (lie-wide (b .1) (omega arith)))))
       (λ _. test (is-update-operator (token sheet at))
       (λ t. let j = inside sheet at is-update-operator refl t in follows (asked (unary (at + 1)) (omega arith))
       (λ operand rs b. follows (turn-to simple (operand .end) (tree operand) (lie-first (b .0 .single) (b .1)) (omega arith))
-      (λ target more c. yields _ _ (lie-one (row (omega arith) (omega arith) (omega arith) (omega arith) (lie-wide (c .1) (omega arith) (omega arith)))))))
+      (λ target more c. yields _ _ (lie-row (omega arith) (lie-wide (c .1) (omega arith))))))
       (λ _. last (postfix at) i))
   step-lies (postfix at) i =
       follows (asked (left-hand-side at) i)
       (λ operand rs b. test (is-update-operator (token sheet (operand .end)) and not (break-before sheet (operand .end)))
       (λ t. follows (turn-to simple (operand .end) (tree operand) (lie-first (b .0 .single) (b .1)) (omega arith))
-      (λ target more c. yields _ _ (lie-one (row (omega arith) (omega arith) (omega arith) (omega arith) (lie-wide (c .1) (omega arith) (omega arith))))))
+      (λ target more c. yields _ _ (lie-row (omega arith) (lie-wide (c .1) (omega arith)))))
       (λ _. yields _ _ (b .1)))
   -- 13.3
   step-lies (left-hand-side at) i = follows (asked (primary at) i) (λ base rs b. last (links at (base .end) (tree base)) (omega arith, lie-first (b .0 .single) (b .1)))
@@ -296,26 +314,26 @@ module _ {N : Type 0} (policy : Policy N) (sheet : Sheet) {ask : Asks N} (g : An
       token-test sheet _ _
       (λ t. test (is-word (token sheet (at + 1)))
       (λ w. let j = inside sheet (at + 1) is-word refl w in last (links first (at + 2) (node Row.Member (at + 1) first (at + 2) (one left)))
-      (omega arith, row (omega arith) (omega arith) (omega arith) (omega arith) (lie-one (lies-wide (fit .1) (omega arith) (omega arith)))))
+      (omega arith, row (omega arith) (lie-one (lies-wide (fit .1) (omega arith)))))
       (λ _. refuses _ (omega arith)))
       (token-test sheet _ _
       (λ t. follows (asked (expression (at + 1)) (omega arith))
       (λ inner rs b. token-test sheet _ _
       (λ t. last (links first (inner .end + 1) (node Row.Index first first (inner .end + 1) (cons left (inner .trees))))
-      (omega arith, row (omega arith) (omega arith) (omega arith) (omega arith) (then-lie at (fit .1) (lie-wide (b .1) (omega arith) (omega arith)))))
+      (omega arith, row (omega arith) (then-lie at (fit .1) (lie-wide (b .1) (omega arith)))))
       (refuses _ (omega arith))))
       (token-test sheet _ _
-      (λ t. follows (asked (arguments first (at + 1) (one left)) (omega arith, omega arith, lie-one (lies-wide (fit .1) (omega arith) (omega arith))))
+      (λ t. follows (asked (arguments first (at + 1) (one left)) (omega arith, omega arith, lie-one (lies-wide (fit .1) (omega arith))))
       (λ call rs b. last (links first (call .end) (tree call)) (omega arith, lie-first (b .0 .single) (b .1))))
       (yields _ _ (lie-one (fit .1)))))
   step-lies (arguments first at so-far) fit =
       token-test sheet _ _
-      (λ t. yields _ _ (lie-one (row (omega arith) (omega arith) (omega arith) (omega arith) (lie-wide (fit .2) (omega arith) (omega arith)))))
+      (λ t. yields _ _ (lie-row (omega arith) (lie-wide (fit .2) (omega arith))))
       (follows (or-spread at 0 (assignment at) (asked (assignment at) (omega arith)) (token sheet at is Dot3) refl)
       (λ argument rs b. token-test sheet _ _
-      (λ t. last (arguments first (argument .end + 1) (join so-far (argument .trees))) (omega arith, omega arith, lie-join (fit .2) (lie-wide (b .1) (omega arith) (omega arith))))
+      (λ t. last (arguments first (argument .end + 1) (join so-far (argument .trees))) (omega arith, omega arith, lie-on (fit .2) (b .1) (omega arith)))
       (token-test sheet _ _
-      (λ t. yields _ _ (lie-one (row (omega arith) (omega arith) (omega arith) (omega arith) (lie-join (fit .2) (lie-wide (b .1) (omega arith) (omega arith))))))
+      (λ t. yields _ _ (lie-row (omega arith) (lie-on (fit .2) (b .1) (omega arith))))
       (refuses _ (omega arith)))))
   -- 13.2
   step-lies (primary at) i =
@@ -324,43 +342,43 @@ module _ {N : Type 0} (policy : Policy N) (sheet : Sheet) {ask : Asks N} (g : An
       (test (is-literal (token sheet at)) (λ t. yields _ _ (lie-leaf at (omega arith) (omega arith)))
       (λ _. token-test sheet _ _
       (λ t. follows (asked (expression (at + 1)) (omega arith))
-      (λ inner rs b. token-test sheet _ _ (λ t. yields _ _ (lie-one (row (omega arith) (omega arith) (omega arith) (omega arith) (lie-wide (b .1) (omega arith) (omega arith))))) (refuses _ (omega arith))))
+      (λ inner rs b. token-test sheet _ _ (λ t. yields _ _ (lie-row (omega arith) (lie-wide (b .1) (omega arith)))) (refuses _ (omega arith))))
       (token-test sheet _ _ (λ t. last (elements at (at + 1) Row.Array nil) (omega arith, omega arith, no-trees (omega arith)))
       (token-test sheet _ _ (λ t. last (properties at (at + 1) Row.Object nil) (omega arith, omega arith, no-trees (omega arith)))
       (refuses _ (omega arith)))))))
   step-lies (elements first at kind so-far) fit =
-      token-test sheet _ _ (λ t. yields _ _ (lie-one (row (omega arith) (omega arith) (omega arith) (omega arith) (lie-wide (fit .2) (omega arith) (omega arith)))))
+      token-test sheet _ _ (λ t. yields _ _ (lie-row (omega arith) (lie-wide (fit .2) (omega arith))))
       (token-test sheet _ _
       (λ t. last (elements first (at + 1) Row.Array (join so-far (one (leaf Row.Hole at)))) (omega arith, omega arith, lie-join (fit .2) (lie-leaf at (omega arith) (omega arith))))
       (follows (or-spread at 0 (assignment at) (asked (assignment at) (omega arith)) (token sheet at is Dot3) refl)
       (λ element rs b. token-test sheet _ _
       (λ t. last (elements first (element .end + 1) (if token sheet at is Dot3 then Row.ArrayRestComma else Row.Array) (join so-far (element .trees)))
-      (omega arith, omega arith, lie-join (fit .2) (lie-wide (b .1) (omega arith) (omega arith))))
-      (token-test sheet _ _ (λ t. yields _ _ (lie-one (row (omega arith) (omega arith) (omega arith) (omega arith) (lie-join (fit .2) (lie-wide (b .1) (omega arith) (omega arith)))))) (refuses _ (omega arith))))))
+      (omega arith, omega arith, lie-on (fit .2) (b .1) (omega arith)))
+      (token-test sheet _ _ (λ t. yields _ _ (lie-row (omega arith) (lie-on (fit .2) (b .1) (omega arith)))) (refuses _ (omega arith))))))
   step-lies (properties first at kind so-far) fit =
-      token-test sheet _ _ (λ t. yields _ _ (lie-one (row (omega arith) (omega arith) (omega arith) (omega arith) (lie-wide (fit .2) (omega arith) (omega arith)))))
+      token-test sheet _ _ (λ t. yields _ _ (lie-row (omega arith) (lie-wide (fit .2) (omega arith))))
       (follows (or-spread at 1 (property at) (asked (property at) (omega arith)) (token sheet at is Dot3) refl)
       (λ part rs b. token-test sheet _ _
       (λ t. last (properties first (part .end + 1) (if token sheet at is Dot3 then Row.ObjectRestComma else Row.Object) (join so-far (part .trees)))
-      (omega arith, omega arith, lie-join (fit .2) (lie-wide (b .1) (omega arith) (omega arith))))
-      (token-test sheet _ _ (λ t. yields _ _ (lie-one (row (omega arith) (omega arith) (omega arith) (omega arith) (lie-join (fit .2) (lie-wide (b .1) (omega arith) (omega arith)))))) (refuses _ (omega arith)))))
+      (omega arith, omega arith, lie-on (fit .2) (b .1) (omega arith)))
+      (token-test sheet _ _ (λ t. yields _ _ (lie-row (omega arith) (lie-on (fit .2) (b .1) (omega arith)))) (refuses _ (omega arith)))))
   step-lies (property at) i =
       test (is-name (token sheet at) and not (token sheet (at + 1) is Colon))
       (λ n. token-test sheet _ _
       (λ t. follows (asked (assignment (at + 2)) (omega arith))
-      (λ initializer rs b. yields _ _ (lie-one (row (omega arith) (omega arith) (omega arith) (omega arith) (then-lie (at + 1) (row (omega arith) (omega arith) (omega arith) (omega arith) (no-trees (omega arith))) (lie-wide (b .1) (omega arith) (omega arith)))))))
-      (yields _ _ (lie-one (row (omega arith) (omega arith) (omega arith) (omega arith) (lie-leaf at (omega arith) (omega arith))))))
+      (λ initializer rs b. yields _ _ (lie-row (omega arith) (then-lie (at + 1) (row (omega arith) (no-trees (omega arith))) (lie-wide (b .1) (omega arith))))))
+      (yields _ _ (lie-row (omega arith) (lie-leaf at (omega arith) (omega arith)))))
       (λ _. follows (asked (key at) i)
       (λ name rs b. token-test sheet _ _
-      (λ t. follows (asked (assignment (name .end + 1)) (omega arith)) (λ content more c. yields _ _ (lie-one (row (omega arith) (omega arith) (omega arith) (omega arith) (lie-join (b .1) (lie-wide (c .1) (omega arith) (omega arith)))))))
+      (λ t. follows (asked (assignment (name .end + 1)) (omega arith)) (λ content more c. yields _ _ (lie-row (omega arith) (lie-on (b .1) (c .1) (omega arith)))))
       (refuses _ (omega arith))))
   step-lies (key at) i =
       test (is-word (token sheet at) or token sheet at is Str or token sheet at is Number) (λ t. yields _ _ (lie-leaf at (omega arith) (omega arith)))
       (λ _. token-test sheet _ _
       (λ t. follows (asked (assignment (at + 1)) (omega arith))
-      (λ inner rs b. token-test sheet _ _ (λ t. yields _ _ (lie-one (row (omega arith) (omega arith) (omega arith) (omega arith) (lie-wide (b .1) (omega arith) (omega arith))))) (refuses _ (omega arith))))
+      (λ inner rs b. token-test sheet _ _ (λ t. yields _ _ (lie-row (omega arith) (lie-wide (b .1) (omega arith)))) (refuses _ (omega arith))))
       (refuses _ (omega arith)))
-  step-lies (spread at) i = follows (asked (assignment (at + 1)) (omega arith)) (λ argument rs b. yields _ _ (lie-one (row (omega arith) (omega arith) (omega arith) (omega arith) (lie-wide (b .1) (omega arith) (omega arith)))))
+  step-lies (spread at) i = follows (asked (assignment (at + 1)) (omega arith)) (λ argument rs b. yields _ _ (lie-row (omega arith) (lie-wide (b .1) (omega arith))))
   -- 14.3.3
   step-lies (binding at) i =
       test (is-name (token sheet at)) (λ t. yields _ _ (lie-leaf at (omega arith) (omega arith)))
@@ -370,60 +388,60 @@ module _ {N : Type 0} (policy : Policy N) (sheet : Sheet) {ask : Asks N} (g : An
   step-lies (binding-element at) i =
       follows (asked (binding at) i)
       (λ target rs b. token-test sheet _ _
-      (λ t. follows (asked (assignment (target .end + 1)) (omega arith)) (λ initializer more c. yields _ _ (lie-one (row (omega arith) (omega arith) (omega arith) (omega arith) (lie-join (b .1) (lie-wide (c .1) (omega arith) (omega arith)))))))
+      (λ t. follows (asked (assignment (target .end + 1)) (omega arith)) (λ initializer more c. yields _ _ (lie-row (omega arith) (lie-on (b .1) (c .1) (omega arith)))))
       (yields _ _ (b .1)))
   step-lies (binding-elements first at so-far) fit =
-      token-test sheet _ _ (λ t. yields _ _ (lie-one (row (omega arith) (omega arith) (omega arith) (omega arith) (lie-wide (fit .2) (omega arith) (omega arith)))))
+      token-test sheet _ _ (λ t. yields _ _ (lie-row (omega arith) (lie-wide (fit .2) (omega arith))))
       (token-test sheet _ _
       (λ t. last (binding-elements first (at + 1) (join so-far (one (leaf Row.Hole at)))) (omega arith, omega arith, lie-join (fit .2) (lie-leaf at (omega arith) (omega arith))))
       (token-test sheet _ _
-      (λ t. follows (asked (binding-rest at) (t .here)) (λ rest rs b. token-test sheet _ _ (λ t. yields _ _ (lie-one (row (omega arith) (omega arith) (omega arith) (omega arith) (lie-join (fit .2) (lie-wide (b .1) (omega arith) (omega arith)))))) (refuses _ (omega arith))))
+      (λ t. follows (asked (binding-rest at) (t .here)) (λ rest rs b. token-test sheet _ _ (λ t. yields _ _ (lie-row (omega arith) (lie-on (fit .2) (b .1) (omega arith)))) (refuses _ (omega arith))))
       (follows (asked (binding-element at) (omega arith))
       (λ element rs b. token-test sheet _ _
-      (λ t. last (binding-elements first (element .end + 1) (join so-far (element .trees))) (omega arith, omega arith, lie-join (fit .2) (lie-wide (b .1) (omega arith) (omega arith))))
-      (token-test sheet _ _ (λ t. yields _ _ (lie-one (row (omega arith) (omega arith) (omega arith) (omega arith) (lie-join (fit .2) (lie-wide (b .1) (omega arith) (omega arith)))))) (refuses _ (omega arith)))))))
+      (λ t. last (binding-elements first (element .end + 1) (join so-far (element .trees))) (omega arith, omega arith, lie-on (fit .2) (b .1) (omega arith)))
+      (token-test sheet _ _ (λ t. yields _ _ (lie-row (omega arith) (lie-on (fit .2) (b .1) (omega arith)))) (refuses _ (omega arith)))))))
   step-lies (binding-properties first at so-far) fit =
-      token-test sheet _ _ (λ t. yields _ _ (lie-one (row (omega arith) (omega arith) (omega arith) (omega arith) (lie-wide (fit .2) (omega arith) (omega arith)))))
+      token-test sheet _ _ (λ t. yields _ _ (lie-row (omega arith) (lie-wide (fit .2) (omega arith))))
       (token-test sheet _ _
       (λ t. follows (asked (binding-rest at) (t .here))
       (λ rest rs b. token-test sheet _ _
-      (λ t. test (kind-of (argument-of (tree rest)) is Row.BindingName) (λ _. yields _ _ (lie-one (row (omega arith) (omega arith) (omega arith) (omega arith) (lie-join (fit .2) (lie-wide (b .1) (omega arith) (omega arith)))))) (λ _. refuses _ (omega arith)))
+      (λ t. test (kind-of (argument-of (tree rest)) is Row.BindingName) (λ _. yields _ _ (lie-row (omega arith) (lie-on (fit .2) (b .1) (omega arith)))) (λ _. refuses _ (omega arith)))
       (refuses _ (omega arith))))
       (follows (asked (binding-property at) (omega arith))
       (λ part rs b. token-test sheet _ _
-      (λ t. last (binding-properties first (part .end + 1) (join so-far (part .trees))) (omega arith, omega arith, lie-join (fit .2) (lie-wide (b .1) (omega arith) (omega arith))))
-      (token-test sheet _ _ (λ t. yields _ _ (lie-one (row (omega arith) (omega arith) (omega arith) (omega arith) (lie-join (fit .2) (lie-wide (b .1) (omega arith) (omega arith)))))) (refuses _ (omega arith))))))
+      (λ t. last (binding-properties first (part .end + 1) (join so-far (part .trees))) (omega arith, omega arith, lie-on (fit .2) (b .1) (omega arith)))
+      (token-test sheet _ _ (λ t. yields _ _ (lie-row (omega arith) (lie-on (fit .2) (b .1) (omega arith)))) (refuses _ (omega arith))))))
   step-lies (binding-property at) i =
       test (is-name (token sheet at) and not (token sheet (at + 1) is Colon))
       (λ n. token-test sheet _ _
       (λ t. follows (asked (assignment (at + 2)) (omega arith))
-      (λ initializer rs b. yields _ _ (lie-one (row (omega arith) (omega arith) (omega arith) (omega arith) (then-lie (at + 1) (row (omega arith) (omega arith) (omega arith) (omega arith) (no-trees (omega arith))) (lie-wide (b .1) (omega arith) (omega arith)))))))
-      (yields _ _ (lie-one (row (omega arith) (omega arith) (omega arith) (omega arith) (lie-leaf at (omega arith) (omega arith))))))
+      (λ initializer rs b. yields _ _ (lie-row (omega arith) (then-lie (at + 1) (row (omega arith) (no-trees (omega arith))) (lie-wide (b .1) (omega arith))))))
+      (yields _ _ (lie-row (omega arith) (lie-leaf at (omega arith) (omega arith)))))
       (λ _. follows (asked (key at) i)
       (λ name rs b. token-test sheet _ _
-      (λ t. follows (asked (binding-element (name .end + 1)) (omega arith)) (λ content more c. yields _ _ (lie-one (row (omega arith) (omega arith) (omega arith) (omega arith) (lie-join (b .1) (lie-wide (c .1) (omega arith) (omega arith)))))))
+      (λ t. follows (asked (binding-element (name .end + 1)) (omega arith)) (λ content more c. yields _ _ (lie-row (omega arith) (lie-on (b .1) (c .1) (omega arith)))))
       (refuses _ (omega arith))))
-  step-lies (binding-rest at) i = follows (asked (binding-element (at + 1)) (omega arith)) (λ argument rs b. says _ (yields _ _ (lie-one (row (omega arith) (omega arith) (omega arith) (omega arith) (lie-wide (b .1) (omega arith) (omega arith))))))
+  step-lies (binding-rest at) i = follows (asked (binding-element (at + 1)) (omega arith)) (λ argument rs b. says _ (yields _ _ (lie-row (omega arith) (lie-wide (b .1) (omega arith)))))
   step-lies (head at) i =
       token-test sheet _ _
       (λ t. test (not (break-before sheet (at + 1)))
-      (λ _. so (parenthesized-head-lies (at + 1) (omega arith)) (λ end trees more c. lie-wide c (omega arith) (omega arith)))
+      (λ _. so (parenthesized-head-lies (at + 1) (omega arith)) (λ end trees more c. lie-wide c (omega arith)))
       (λ _. refuses _ (omega arith)))
       (parenthesized-head-lies at i)
   step-lies (parameters at so-far) i =
-      token-test sheet _ _ (λ t. yields _ _ (λ low k. lie-wide k (omega arith) (omega arith)))
+      token-test sheet _ _ (λ t. yields _ _ (λ low k. lie-wide k (omega arith)))
       (token-test sheet _ _
       (λ t. follows (asked (binding-rest at) (t .here))
-      (λ rest rs b. token-test sheet _ _ (λ t. yields _ _ (λ low k. lie-join k (lie-wide (b .1) (omega arith) (omega arith)))) (refuses _ (omega arith))))
+      (λ rest rs b. token-test sheet _ _ (λ t. yields _ _ (λ low k. lie-on k (b .1) (omega arith))) (refuses _ (omega arith))))
       (follows (asked (binding-element at) i)
       (λ parameter rs b. token-test sheet _ _
-      (λ t. so (asked (parameters (parameter .end + 1) (join so-far (parameter .trees))) (omega arith)) (λ end trees more c low k. c .1 low (lie-join k (lie-wide (b .1) (omega arith) (omega arith)))))
-      (token-test sheet _ _ (λ t. yields _ _ (λ low k. lie-join k (lie-wide (b .1) (omega arith) (omega arith)))) (refuses _ (omega arith))))))
+      (λ t. so (asked (parameters (parameter .end + 1) (join so-far (parameter .trees))) (omega arith)) (λ end trees more c low k. c .1 low (lie-on k (b .1) (omega arith))))
+      (token-test sheet _ _ (λ t. yields _ _ (λ low k. lie-on k (b .1) (omega arith))) (refuses _ (omega arith))))))
   step-lies (body kind first at so-far) fit =
       let o = lie-order (fit .1) in
       says _ (test (not (token sheet (at + 1) is LCurly))
       (λ _. follows (asked (assignment (at + 1)) (omega arith))
-      (λ inner rs b. yields _ _ (lie-one (row (omega arith) (omega arith) (omega arith) (omega arith) (lie-join (fit .1) (lie-wide (b .1) (omega arith) (omega arith)))))))
+      (λ inner rs b. yields _ _ (lie-row (omega arith) (lie-on (fit .1) (b .1) (omega arith)))))
       (λ _. refuses _ (omega arith)))
 
 -- THE STATEMENTS
@@ -452,18 +470,16 @@ module _ {N : Type 0} (policy : Policy N) (sheet : Sheet) where
   pattern-lies notes e = lies-at (plenty sheet) (binding-element 0) (omega arith) notes (came policy sheet (binding-element 0) notes e .done-at-end)
 
   -- and its refusal stands at a token of the list, or at its end
-  pub refusal-inside : (notes : N) {cause : Cause} → reading policy sheet (expression 0) notes ≡ refused-whole cause → Inside sheet cause
-  refusal-inside notes {cause} e = go (refused-by policy sheet (expression 0) notes e)
+  refusal-of : (job : Job) → Fit sheet job → limits sheet job .most ≤ length (sheet .kinds) → (notes : N) {cause : Cause} → reading policy sheet job notes ≡ refused-whole cause → Inside sheet cause
+  refusal-of job fit m notes {cause} e = go (refused-by policy sheet job notes e)
     where
-      go : Refused policy sheet (expression 0) notes cause → Inside sheet cause
-      go (failed after d) = refused-inside (plenty sheet) (expression 0) (omega arith) notes d
-      go (followed end trees records after d c) = rw c (let b = bounded-at policy sheet (plenty sheet) (expression 0) notes d in omega arith)
+      go : Refused policy sheet job notes cause → Inside sheet cause
+      go (failed after d) = refused-inside (plenty sheet) job fit notes d
+      go (followed end trees records after d c) = rw c (let b = bounded-at policy sheet (plenty sheet) job notes d in omega arith)
       go (stopped d c) = rw c (omega arith)
 
+  pub refusal-inside : (notes : N) {cause : Cause} → reading policy sheet (expression 0) notes ≡ refused-whole cause → Inside sheet cause
+  refusal-inside notes e = refusal-of (expression 0) (omega arith) (omega arith) notes e
+
   pub pattern-refusal-inside : (notes : N) {cause : Cause} → reading policy sheet (binding-element 0) notes ≡ refused-whole cause → Inside sheet cause
-  pattern-refusal-inside notes {cause} e = go (refused-by policy sheet (binding-element 0) notes e)
-    where
-      go : Refused policy sheet (binding-element 0) notes cause → Inside sheet cause
-      go (failed after d) = refused-inside (plenty sheet) (binding-element 0) (omega arith) notes d
-      go (followed end trees records after d c) = rw c (let b = bounded-at policy sheet (plenty sheet) (binding-element 0) notes d in omega arith)
-      go (stopped d c) = rw c (omega arith)
+  pattern-refusal-inside notes e = refusal-of (binding-element 0) (omega arith) (omega arith) notes e

@@ -10,7 +10,6 @@ use lib.Dec.{ltb}
 use Rattle.tokens.specs.Bool.{_or_, _and_, _is_, if_then_else_}
 use Rattle.tokens.specs.Kind.{Async, Str, Number, LParen, LCurly, Colon, Dot3, Arrow, Eq}
 use Rattle.tokens.specs.Token.{is-name, is-word, is-literal}
-use Rattle.tokens.specs.declared.cause.Cause.{Cause}
 use Rattle.operators.specs.Precedence.{expression-level}
 use Rattle.rows.specs.Row as Row
 use Rattle.rows.specs.Tree.{Tree, Forest, node, nil, cons, one, join, kind-of}
@@ -26,7 +25,7 @@ use Rattle.grammar.specs.Arrow.{Policy, parenthesized-head-of}
 use Rattle.grammar.specs.Step.{step, read}
 use Rattle.laws.proofs.Balanced as Balance
 use Rattle.laws.proofs.Balanced.{side-of, Side, Balanced, none, skip, nest, partner, joined, flat, name-flat, word-flat, literal-flat, operator-flat}
-use Rattle.laws.proofs.Good.{productions, Meaning, Stands, Reads, Answers, Preserved, good, good-done, yields, refuses, says, follows, heads, test, token-test, converts, so, and-left, and-right}
+use Rattle.laws.proofs.Good.{productions, Any, Nothing, Meaning, Stands, Reads, Answers, Preserved, good, good-done, yields, refuses, says, follows, heads, test, token-test, converts, so, and-left, and-right}
 
 -- balanced up to a closing bracket, and past it
 pub record Closes (sheet : Sheet) (at end : ℕ) : Type 0 where
@@ -111,13 +110,6 @@ Shape sheet (body kind first at so-far) end = Balanced sheet (at + 1) end
 -- the same, of what is read and recorded too, of which nothing is said
 abbrev pub Shaped : Sheet → Job → Meaning
 Shaped sheet job end trees records = Shape sheet job end
-
--- any nonterminal may be asked, and of a refusal nothing is said
-abbrev Any : Job → Type 0
-Any job = Unit {0}
-
-abbrev Nothing : Cause → Type 0
-Nothing cause = Unit {0}
 
 -- what conversion makes of a tree ends where that ends
 target : {N : Type 0} (role : Role) (at : ℕ) (left : Tree) → Reads {N = N} (λ end trees records. end ≡ at) Nothing (converted role at left)

@@ -8,25 +8,19 @@ use lib.ListN.{length, replicate}
 use Rattle.tokens.specs.Token.{is-name, is-word, is-literal, is-binding-identifier, is-modifier-kind}
 use Rattle.operators.specs.Precedence.{level, expression-level}
 use Rattle.lookahead.specs.ThreeWay.{no-parameters, rest-parameter, modified-name, after-name, first-parameter, after-paren, type-parameter, names-type, after-angle, after-open, three-way}
-use Rattle.rows.specs.Tree.{join, count, size, sizes, flat, flats, kind-of, mark-of, first-of, end-of, kids-of}
+use Rattle.rows.specs.Tree.{join, size, sizes, flat, flats, mark-of, end-of, kids-of, row}
 use Rattle.rows.specs.Record.{record-words}
-use Rattle.conversion.specs.Conversion.{inner-kind, inner-kinds, seen, as-simple, as-any, as-value, as-element, as-last-element, as-property, as-last-property, as-name, change, roles, over, both, convert-as, convert-kids}
-use Rattle.grammar.specs.Sheet.{first-tree, after-records, and-then, or-else, _>>=_, try, yield, refuse, say}
-use Rattle.grammar.specs.Primary.{parenthesized-of, primary-of, spread-of, elements-of, properties-of, shorthand-of, property-of, key-of}
-use Rattle.grammar.specs.LeftHandSide.{left-hand-side-of, links-of, arguments-of}
-use Rattle.grammar.specs.Update.{is-unary-operator, is-update-operator, converted-to, unary-of, postfix-of}
-use Rattle.grammar.specs.Binary.{operation-kind, right-floor, is-or-and, operation-records, binary-of, operators-of}
-use Rattle.grammar.specs.Assignment.{is-assignment-operator, is-async-name, assign-of, conditional-of, after-binary, value-of}
-use Rattle.grammar.specs.Comma.{expression-of, sequence-of}
-use Rattle.grammar.specs.Binding.{binding-of, binding-element-of, binding-rest-of, binding-elements-of, binding-properties-of, binding-shorthand-of, binding-property-of}
-use Rattle.grammar.specs.Arrow.{by-way, choose, noting, arrow-of, assignment-of, parenthesized-head-of, head-of, parameters-of, body-of}
-use Rattle.grammar.specs.Step.{step, read}
-use Rattle.grammar.specs.Reading.{way-of, noted-places, unconverted, unconverteds, at-end, reading}
-use Rattle.rows.specs.Tree.{row}
+use Rattle.grammar.specs.Sheet.{first-tree, after-records, and-then, or-else, _>>=_, try, yield, refuse, say, Sheet}
+use Rattle.grammar.specs.Update.{is-unary-operator, is-update-operator, converted-to}
+use Rattle.grammar.specs.Binary.{operation-kind, right-floor, is-or-and, operation-records}
+use Rattle.grammar.specs.Assignment.{is-assignment-operator, is-async-name}
+use Rattle.grammar.specs.Arrow.{by-way, choose, noting}
+use Rattle.laws.proofs.Good.{productions}
+use Rattle.conversion.proofs.KidRoles.{conversion}
+use Rattle.grammar.specs.Step.{read}
+use Rattle.grammar.specs.Reading.{way-of, noted-places, unconverted, unconverteds, at-end, reading, Whole, whole, refused, box-reading, answer-of}
 use Rattle.tokens.specs.declared.cause.Answer.{Answer}
 use Rattle.tokens.specs.declared.cause.Cause.{Cause}
-use Rattle.grammar.specs.Sheet.{Sheet}
-use Rattle.grammar.specs.Reading.{Whole, whole, refused, box-reading, answer-of}
 
 -- a sheet with no line breaks, and what the reading gives: the answer, the words of the rows and of the records
 pub record Case : Type 0 where
@@ -137,5 +131,5 @@ All P [] = Unit {0}
 All P (given ∷ others) = P given × All P others
 
 pub sheets-hold : All Holds sheets
-unfolding is-name is-word is-literal is-binding-identifier is-modifier-kind level expression-level no-parameters rest-parameter modified-name after-name first-parameter after-paren type-parameter names-type after-angle after-open three-way join count size sizes flat flats kind-of mark-of first-of end-of kids-of record-words inner-kind inner-kinds seen as-simple as-any as-value as-element as-last-element as-property as-last-property as-name change roles over both convert-as convert-kids first-tree after-records and-then or-else _>>=_ try yield refuse say parenthesized-of primary-of spread-of elements-of properties-of shorthand-of property-of key-of left-hand-side-of links-of arguments-of is-unary-operator is-update-operator converted-to unary-of postfix-of operation-kind right-floor is-or-and operation-records binary-of operators-of is-assignment-operator is-async-name assign-of conditional-of after-binary value-of expression-of sequence-of binding-of binding-element-of binding-rest-of binding-elements-of binding-properties-of binding-shorthand-of binding-property-of by-way choose noting arrow-of assignment-of parenthesized-head-of head-of parameters-of body-of step read way-of noted-places unconverted unconverteds at-end reading
+unfolding productions conversion is-name is-word is-literal is-binding-identifier is-modifier-kind level expression-level no-parameters rest-parameter modified-name after-name first-parameter after-paren type-parameter names-type after-angle after-open three-way join size sizes flat flats mark-of end-of kids-of record-words first-tree after-records and-then or-else _>>=_ try yield refuse say is-unary-operator is-update-operator converted-to operation-kind right-floor is-or-and operation-records is-assignment-operator is-async-name by-way choose noting read way-of noted-places unconverted unconverteds at-end reading
 sheets-hold = (refl, (refl, (refl, (refl, (refl, (refl, (refl, (refl, (refl, (refl, (refl, (refl, (refl, (refl, (refl, (refl, (refl, tt)))))))))))))))))
