@@ -28,7 +28,7 @@ use Rattle.grammar.specs.Arrow.{Policy, parenthesized-head-of}
 use Rattle.grammar.specs.Step.{step, read}
 use Rattle.laws.specs.Settles.{Settles, μ}
 use Rattle.grammar.specs.Reading.{unconverteds, whole, reading}
-use Rattle.laws.proofs.Good.{productions, came, Reads, Answers, Preserved, good, good-done, yields, refuses, says, follows, heads, test, token-test, converts, so, inside, and-left}
+use Rattle.laws.proofs.Good.{productions, wants, came, Reads, Answers, Preserved, good, good-done, yields, refuses, says, follows, heads, test, token-test, converts, so, inside, and-left}
 pub use Rattle.laws.proofs.Good.{Any, Nothing}
 use Rattle.laws.proofs.Owed.{owes, owes-one, owed, oweds, lent, sizes-join, oweds-join, same-size, pays, pays-lasts}
 
@@ -220,12 +220,10 @@ module _ {N : Type 0} (policy : Policy N) (sheet : Sheet) {ask : Asks N} (h : An
   parenthesized-head-bound : (at : ℕ) → Reads (Bound (limits sheet (head at))) Nothing (parenthesized-head-of sheet ask at)
   unfolding productions
   parenthesized-head-bound at =
-      token-test sheet _ _
+      wants sheet _ _ _ tt
       (λ t. follows (asked (parameters (at + 1) nil))
-      (λ list rs b. token-test sheet _ _
-      (λ t. yields _ _ (record { within = simp weights (omega (arith, simp weights at (b .within))); single = tt }))
-      (refuses _ tt)))
-      (refuses _ tt)
+      (λ list rs b. wants sheet _ _ _ tt
+      (λ t. yields _ _ (record { within = simp weights (omega (arith, simp weights at (b .within))); single = tt }))))
 
   -- every production
   pub step-bound : (job : Job) → Reads (Bound (limits sheet job)) Nothing (step policy sheet ask job)
@@ -266,10 +264,9 @@ module _ {N : Type 0} (policy : Policy N) (sheet : Sheet) {ask : Asks N} (h : An
       (λ right more c. yields _ _ (lone _ (simp weights (omega (arith, owes-one kind))))))
   step-bound (conditional first at left) =
       follows (asked (assignment (at + 1)))
-      (λ if-true rs b. token-test sheet _ _
+      (λ if-true rs b. wants sheet _ _ _ tt
       (λ t. follows (asked (assignment (if-true .end + 1)))
-      (λ if-false more c. yields _ _ (lone _ (simp weights (omega arith)))))
-      (refuses _ tt))
+      (λ if-false more c. yields _ _ (lone _ (simp weights (omega arith))))))
   -- 13.6 to 13.13
   step-bound (binary floor at) =
       follows (asked (unary at))
@@ -313,10 +310,9 @@ module _ {N : Type 0} (policy : Policy N) (sheet : Sheet) {ask : Asks N} (h : An
       (λ _. refuses _ tt))
       (token-test sheet _ _
       (λ t. follows (asked (expression (at + 1)))
-      (λ inner rs b. token-test sheet _ _
+      (λ inner rs b. wants sheet _ _ _ tt
       (λ t. so (asked (links first (inner .end + 1) (node Row.Index first first (inner .end + 1) (cons left (inner .trees)))))
-      (λ end trees more c. record { within = simp weights (omega (arith, simp weights at (c .within))); single = c .single }))
-      (refuses _ tt)))
+      (λ end trees more c. record { within = simp weights (omega (arith, simp weights at (c .within))); single = c .single }))))
       (token-test sheet _ _
       (λ t. follows (asked (arguments first (at + 1) (one left)))
       (λ call rs b. so (asked (links first (call .end) (tree call)))
@@ -329,9 +325,8 @@ module _ {N : Type 0} (policy : Policy N) (sheet : Sheet) {ask : Asks N} (h : An
       (λ argument rs b. token-test sheet _ _
       (λ t. so (asked (arguments first (argument .end + 1) (join so-far (argument .trees))))
       (λ end trees more c. record { within = simp weights (omega (arith, simp weights at (c .within))); single = c .single }))
-      (token-test sheet _ _
-      (λ t. yields _ _ (lone _ (simp weights (omega arith))))
-      (refuses _ tt))))
+      (wants sheet _ _ _ tt
+      (λ t. yields _ _ (lone _ (simp weights (omega arith)))))))
   -- 13.2
   step-bound (primary at) =
       test (is-name (token sheet at)) (λ t. yields _ _ (lone _ (simp weights (omega (arith, inside sheet at is-name refl t)))))
@@ -339,12 +334,11 @@ module _ {N : Type 0} (policy : Policy N) (sheet : Sheet) {ask : Asks N} (h : An
       (test (is-literal (token sheet at)) (λ t. yields _ _ (lone _ (simp weights (omega (arith, inside sheet at is-literal refl t)))))
       (λ _. token-test sheet _ _
       (λ t. follows (asked (expression (at + 1)))
-      (λ inner rs b. token-test sheet _ _ (λ t. yields _ _ (lone _ (simp weights (omega arith)))) (refuses _ tt)))
+      (λ inner rs b. wants sheet _ _ _ tt (λ t. yields _ _ (lone _ (simp weights (omega arith))))))
       (token-test sheet _ _
       (λ t. so (asked (elements at (at + 1) Row.Array nil)) (λ end trees more c. record { within = omega (arith, simp weights at (c .within)); single = c .single }))
-      (token-test sheet _ _
-      (λ t. so (asked (properties at (at + 1) Row.Object nil)) (λ end trees more c. record { within = omega (arith, simp weights at (c .within)); single = c .single }))
-      (refuses _ tt))))))
+      (wants sheet _ _ _ tt
+      (λ t. so (asked (properties at (at + 1) Row.Object nil)) (λ end trees more c. record { within = omega (arith, simp weights at (c .within)); single = c .single })))))))
   step-bound (elements first at kind so-far) =
       token-test sheet _ _
       (λ t. yields _ _ (lone _ (simp weights (omega (arith, owes-one kind)))))
@@ -355,9 +349,8 @@ module _ {N : Type 0} (policy : Policy N) (sheet : Sheet) {ask : Asks N} (h : An
       (λ element rs b. token-test sheet _ _
       (λ t. so (asked (elements first (element .end + 1) _ (join so-far (element .trees))))
       (λ end trees more c. record { within = simp weights (omega (arith, simp weights at (c .within))); single = c .single }))
-      (token-test sheet _ _
-      (λ t. yields _ _ (lone _ (simp weights (omega arith))))
-      (refuses _ tt)))))
+      (wants sheet _ _ _ tt
+      (λ t. yields _ _ (lone _ (simp weights (omega arith))))))))
   step-bound (properties first at kind so-far) =
       token-test sheet _ _
       (λ t. yields _ _ (lone _ (simp weights (omega (arith, owes-one kind)))))
@@ -365,34 +358,30 @@ module _ {N : Type 0} (policy : Policy N) (sheet : Sheet) {ask : Asks N} (h : An
       (λ part rs b. token-test sheet _ _
       (λ t. so (asked (properties first (part .end + 1) _ (join so-far (part .trees))))
       (λ end trees more c. record { within = simp weights (omega (arith, simp weights at (c .within))); single = c .single }))
-      (token-test sheet _ _
-      (λ t. yields _ _ (lone _ (simp weights (omega arith))))
-      (refuses _ tt))))
+      (wants sheet _ _ _ tt
+      (λ t. yields _ _ (lone _ (simp weights (omega arith)))))))
   step-bound (property at) =
       test (is-name (token sheet at) and not (token sheet (at + 1) is Colon))
       (λ n. token-test sheet _ _
       (λ t. follows (asked (assignment (at + 2))) (λ initializer rs b. yields _ _ (lone _ (simp weights (omega arith)))))
       (yields _ _ (lone _ (simp weights (omega (arith, inside sheet at is-name refl (and-left (is-name (token sheet at)) _ n)))))))
       (λ _. follows (asked (key at))
-      (λ name rs b. token-test sheet _ _
-      (λ t. follows (asked (assignment (name .end + 1))) (λ content more c. yields _ _ (lone _ (simp weights (omega arith)))))
-      (refuses _ tt)))
+      (λ name rs b. wants sheet _ _ _ tt
+      (λ t. follows (asked (assignment (name .end + 1))) (λ content more c. yields _ _ (lone _ (simp weights (omega arith)))))))
   step-bound (key at) =
       test (is-word (token sheet at) or token sheet at is Str or token sheet at is Number)
       (λ t. yields _ _ (lone _ (simp weights (omega (arith, inside sheet at (λ k. is-word k or k is Str or k is Number) refl t)))))
-      (λ _. token-test sheet _ _
+      (λ _. wants sheet _ _ _ tt
       (λ t. follows (asked (assignment (at + 1)))
-      (λ inner rs b. token-test sheet _ _ (λ t. yields _ _ (lone _ (simp weights (omega arith)))) (refuses _ tt)))
-      (refuses _ tt))
+      (λ inner rs b. wants sheet _ _ _ tt (λ t. yields _ _ (lone _ (simp weights (omega arith)))))))
   step-bound (spread at) = follows (asked (assignment (at + 1))) (λ argument rs b. yields _ _ (lone _ (simp weights (omega arith))))
   -- 14.3.3
   step-bound (binding at) =
       test (is-name (token sheet at)) (λ t. yields _ _ (lone _ (simp weights (omega (arith, inside sheet at is-name refl t)))))
       (λ _. token-test sheet _ _
       (λ t. so (asked (binding-elements at (at + 1) nil)) (λ end trees more c. record { within = omega (arith, simp weights at (c .within)); single = c .single }))
-      (token-test sheet _ _
-      (λ t. so (asked (binding-properties at (at + 1) nil)) (λ end trees more c. record { within = omega (arith, simp weights at (c .within)); single = c .single }))
-      (refuses _ tt)))
+      (wants sheet _ _ _ tt
+      (λ t. so (asked (binding-properties at (at + 1) nil)) (λ end trees more c. record { within = omega (arith, simp weights at (c .within)); single = c .single }))))
   step-bound (binding-element at) =
       follows (asked (binding at))
       (λ target rs b. token-test sheet _ _
@@ -406,38 +395,34 @@ module _ {N : Type 0} (policy : Policy N) (sheet : Sheet) {ask : Asks N} (h : An
       (λ end trees more c. record { within = omega (arith, simp weights at (c .within)); single = c .single }))
       (token-test sheet _ _
       (λ t. follows (asked (binding-rest at))
-      (λ rest rs b. token-test sheet _ _ (λ t. yields _ _ (lone _ (simp weights (omega arith)))) (refuses _ tt)))
+      (λ rest rs b. wants sheet _ _ _ tt (λ t. yields _ _ (lone _ (simp weights (omega arith))))))
       (follows (asked (binding-element at))
       (λ element rs b. token-test sheet _ _
       (λ t. so (asked (binding-elements first (element .end + 1) (join so-far (element .trees))))
       (λ end trees more c. record { within = simp weights (omega (arith, simp weights at (c .within))); single = c .single }))
-      (token-test sheet _ _
-      (λ t. yields _ _ (lone _ (simp weights (omega arith))))
-      (refuses _ tt))))))
+      (wants sheet _ _ _ tt
+      (λ t. yields _ _ (lone _ (simp weights (omega arith)))))))))
   step-bound (binding-properties first at so-far) =
       token-test sheet _ _
       (λ t. yields _ _ (lone _ (simp weights (omega arith))))
       (token-test sheet _ _
       (λ t. follows (asked (binding-rest at))
-      (λ rest rs b. token-test sheet _ _
-      (λ t. test (kind-of (argument-of (tree rest)) is Row.BindingName) (λ _. yields _ _ (lone _ (simp weights (omega arith)))) (λ _. refuses _ tt))
-      (refuses _ tt)))
+      (λ rest rs b. wants sheet _ _ _ tt
+      (λ t. test (kind-of (argument-of (tree rest)) is Row.BindingName) (λ _. yields _ _ (lone _ (simp weights (omega arith)))) (λ _. refuses _ tt))))
       (follows (asked (binding-property at))
       (λ part rs b. token-test sheet _ _
       (λ t. so (asked (binding-properties first (part .end + 1) (join so-far (part .trees))))
       (λ end trees more c. record { within = simp weights (omega (arith, simp weights at (c .within))); single = c .single }))
-      (token-test sheet _ _
-      (λ t. yields _ _ (lone _ (simp weights (omega arith))))
-      (refuses _ tt)))))
+      (wants sheet _ _ _ tt
+      (λ t. yields _ _ (lone _ (simp weights (omega arith))))))))
   step-bound (binding-property at) =
       test (is-name (token sheet at) and not (token sheet (at + 1) is Colon))
       (λ n. token-test sheet _ _
       (λ t. follows (asked (assignment (at + 2))) (λ initializer rs b. yields _ _ (lone _ (simp weights (omega arith)))))
       (yields _ _ (lone _ (simp weights (omega (arith, inside sheet at is-name refl (and-left (is-name (token sheet at)) _ n)))))))
       (λ _. follows (asked (key at))
-      (λ name rs b. token-test sheet _ _
-      (λ t. follows (asked (binding-element (name .end + 1))) (λ content more c. yields _ _ (lone _ (simp weights (omega arith)))))
-      (refuses _ tt)))
+      (λ name rs b. wants sheet _ _ _ tt
+      (λ t. follows (asked (binding-element (name .end + 1))) (λ content more c. yields _ _ (lone _ (simp weights (omega arith)))))))
   step-bound (binding-rest at) =
       follows (asked (binding-element (at + 1)))
       (λ argument rs b. says _ (yields _ _ (lone _ (simp weights
@@ -453,14 +438,13 @@ module _ {N : Type 0} (policy : Policy N) (sheet : Sheet) {ask : Asks N} (h : An
       (λ t. yields _ _ (record { within = omega arith; single = tt }))
       (token-test sheet _ _
       (λ t. follows (asked (binding-rest at))
-      (λ rest rs b. token-test sheet _ _ (λ t. yields _ _ (record { within = simp weights (omega arith); single = tt })) (refuses _ tt)))
+      (λ rest rs b. wants sheet _ _ _ tt (λ t. yields _ _ (record { within = simp weights (omega arith); single = tt }))))
       (follows (asked (binding-element at))
       (λ parameter rs b. token-test sheet _ _
       (λ t. so (asked (parameters (parameter .end + 1) (join so-far (parameter .trees))))
       (λ end trees more c. record { within = simp weights (omega (arith, simp weights at (c .within))); single = tt }))
-      (token-test sheet _ _
-      (λ t. yields _ _ (record { within = simp weights (omega arith); single = tt }))
-      (refuses _ tt)))))
+      (wants sheet _ _ _ tt
+      (λ t. yields _ _ (record { within = simp weights (omega arith); single = tt }))))))
   step-bound (body kind first at so-far) =
       says _ (test (not (token sheet (at + 1) is LCurly))
       (λ _. follows (asked (assignment (at + 1)))

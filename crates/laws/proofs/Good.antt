@@ -234,10 +234,14 @@ module _ {N : Type 0} {F : Cause → Type 0} where
     test true h g = h refl
     test false h g = g refl
 
-    -- `if token sheet at is kind then .. else ..`, so `want sheet kind at` too
+    -- `if token sheet at is kind then .. else ..`
     pub token-test : (sheet : Sheet) (at kind : ℕ) {x y : Reading N} → (Stands sheet at (suc kind) → Reads P F x) → Reads P F y
         → Reads P F (if token sheet at is suc kind then x else y)
     token-test sheet at kind h g = test (token sheet at is suc kind) (λ e. h (record { kind-is = eqb-true _ _ e; here = stands (sheet .kinds) (eqb-true _ _ e) })) (λ e. g)
+
+    -- `want sheet kind at`: the token must stand here
+    pub wants : (sheet : Sheet) (at kind : ℕ) (cause : Cause) {x : Reading N} → F cause → (Stands sheet at (suc kind) → Reads P F x) → Reads P F (if token sheet at is suc kind then x else refuse cause)
+    wants sheet at kind cause f h = token-test sheet at kind h (refuses _ f)
 
     -- `choose way`
     pub chooses : (way : N → Way) {x y z : Reading N} → Reads P F x → Reads P F y → Reads P F z → Reads P F (choose way x y z)

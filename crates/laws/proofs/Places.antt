@@ -28,7 +28,7 @@ use Rattle.grammar.specs.Binding.{argument-of}
 use Rattle.grammar.specs.Arrow.{Policy, parenthesized-head-of}
 use Rattle.grammar.specs.Step.{step, read, plenty}
 use Rattle.grammar.specs.Reading.{whole, refused as refused-whole, reading}
-use Rattle.laws.proofs.Good.{productions, came, Refused, failed, followed, stopped, refused-by, Meaning, Reads, Answers, good-given, good-done, good-fail, yields, refuses, says, follows, heads, test, token-test, converts, so, both, inside, and-right}
+use Rattle.laws.proofs.Good.{productions, wants, came, Refused, failed, followed, stopped, refused-by, Meaning, Reads, Answers, good-given, good-done, good-fail, yields, refuses, says, follows, heads, test, token-test, converts, so, both, inside, and-right}
 use Rattle.laws.proofs.Bounds.{Any, reads, Nothing, limits, Bound, all-bounded, bounded-at, fee, fee-comma, fee-one}
 use Rattle.laws.proofs.Rel.{async-inside, operator-inside}
 use Rattle.laws.specs.Promises.{Inside, Lie, Lies, next, none, row-lies}
@@ -236,10 +236,9 @@ module _ {N : Type 0} (policy : Policy N) (sheet : Sheet) {ask : Asks N} (g : An
   parenthesized-head-lies : (at : ℕ) → at ≤ length (sheet .kinds) → Reads (Is (head at)) (Inside sheet) (parenthesized-head-of sheet ask at)
   unfolding productions
   parenthesized-head-lies at i =
-      token-test sheet _ _
+      wants sheet _ _ _ (omega arith)
       (λ t. follows (asked (parameters (at + 1) nil) (omega arith))
-      (λ list rs b. token-test sheet _ _ (λ t. yields _ _ (b .1 at (no-trees (omega arith)))) (refuses _ (omega arith))))
-      (refuses _ (omega arith))
+      (λ list rs b. wants sheet _ _ _ (omega arith) (λ t. yields _ _ (b .1 at (no-trees (omega arith))))))
 
   -- every production
   step-lies : (job : Job) → Fit sheet job → Reads (Is job) (Inside sheet) (step policy sheet ask job)
@@ -277,11 +276,10 @@ module _ {N : Type 0} (policy : Policy N) (sheet : Sheet) {ask : Asks N} (g : An
   step-lies (conditional first at left) fit =
       let o = lies-order (fit .1) in
       follows (asked (assignment (at + 1)) (omega arith))
-      (λ if-true rs b. token-test sheet _ _
+      (λ if-true rs b. wants sheet _ _ _ (omega arith)
       (λ t. follows (asked (assignment (if-true .end + 1)) (omega arith))
       (λ if-false more c. yields _ _ (lie-row (omega arith)
-      (then-lie at (fit .1) (lie-join {middle = if-true .end} (lie-wide (b .1) (omega arith)) (lie-wide (c .1) (omega arith)))))))
-      (refuses _ (omega arith)))
+      (then-lie at (fit .1) (lie-join {middle = if-true .end} (lie-wide (b .1) (omega arith)) (lie-wide (c .1) (omega arith))))))))
   -- 13.6 to 13.13
   step-lies (binary floor at) i = follows (asked (unary at) i) (λ left rs b. last (operators floor at (left .end) (tree left)) (omega arith, lie-first (b .0 .single) (b .1)))
   step-lies (operators floor first at left) fit =
@@ -318,10 +316,9 @@ module _ {N : Type 0} (policy : Policy N) (sheet : Sheet) {ask : Asks N} (g : An
       (λ _. refuses _ (omega arith)))
       (token-test sheet _ _
       (λ t. follows (asked (expression (at + 1)) (omega arith))
-      (λ inner rs b. token-test sheet _ _
+      (λ inner rs b. wants sheet _ _ _ (omega arith)
       (λ t. last (links first (inner .end + 1) (node Row.Index first first (inner .end + 1) (cons left (inner .trees))))
-      (omega arith, row (omega arith) (then-lie at (fit .1) (lie-wide (b .1) (omega arith)))))
-      (refuses _ (omega arith))))
+      (omega arith, row (omega arith) (then-lie at (fit .1) (lie-wide (b .1) (omega arith)))))))
       (token-test sheet _ _
       (λ t. follows (asked (arguments first (at + 1) (one left)) (omega arith, omega arith, lie-one (lies-wide (fit .1) (omega arith))))
       (λ call rs b. last (links first (call .end) (tree call)) (omega arith, lie-first (b .0 .single) (b .1))))
@@ -332,9 +329,8 @@ module _ {N : Type 0} (policy : Policy N) (sheet : Sheet) {ask : Asks N} (g : An
       (follows (or-spread at 0 (assignment at) (asked (assignment at) (omega arith)) (token sheet at is Dot3) refl)
       (λ argument rs b. token-test sheet _ _
       (λ t. last (arguments first (argument .end + 1) (join so-far (argument .trees))) (omega arith, omega arith, lie-on (fit .2) (b .1) (omega arith)))
-      (token-test sheet _ _
-      (λ t. yields _ _ (lie-row (omega arith) (lie-on (fit .2) (b .1) (omega arith))))
-      (refuses _ (omega arith)))))
+      (wants sheet _ _ _ (omega arith)
+      (λ t. yields _ _ (lie-row (omega arith) (lie-on (fit .2) (b .1) (omega arith)))))))
   -- 13.2
   step-lies (primary at) i =
       test (is-name (token sheet at)) (λ t. yields _ _ (lie-leaf at (omega arith) (omega arith)))
@@ -342,10 +338,9 @@ module _ {N : Type 0} (policy : Policy N) (sheet : Sheet) {ask : Asks N} (g : An
       (test (is-literal (token sheet at)) (λ t. yields _ _ (lie-leaf at (omega arith) (omega arith)))
       (λ _. token-test sheet _ _
       (λ t. follows (asked (expression (at + 1)) (omega arith))
-      (λ inner rs b. token-test sheet _ _ (λ t. yields _ _ (lie-row (omega arith) (lie-wide (b .1) (omega arith)))) (refuses _ (omega arith))))
+      (λ inner rs b. wants sheet _ _ _ (omega arith) (λ t. yields _ _ (lie-row (omega arith) (lie-wide (b .1) (omega arith))))))
       (token-test sheet _ _ (λ t. last (elements at (at + 1) Row.Array nil) (omega arith, omega arith, no-trees (omega arith)))
-      (token-test sheet _ _ (λ t. last (properties at (at + 1) Row.Object nil) (omega arith, omega arith, no-trees (omega arith)))
-      (refuses _ (omega arith)))))))
+      (wants sheet _ _ _ (omega arith) (λ t. last (properties at (at + 1) Row.Object nil) (omega arith, omega arith, no-trees (omega arith))))))))
   step-lies (elements first at kind so-far) fit =
       token-test sheet _ _ (λ t. yields _ _ (lie-row (omega arith) (lie-wide (fit .2) (omega arith))))
       (token-test sheet _ _
@@ -354,14 +349,14 @@ module _ {N : Type 0} (policy : Policy N) (sheet : Sheet) {ask : Asks N} (g : An
       (λ element rs b. token-test sheet _ _
       (λ t. last (elements first (element .end + 1) (if token sheet at is Dot3 then Row.ArrayRestComma else Row.Array) (join so-far (element .trees)))
       (omega arith, omega arith, lie-on (fit .2) (b .1) (omega arith)))
-      (token-test sheet _ _ (λ t. yields _ _ (lie-row (omega arith) (lie-on (fit .2) (b .1) (omega arith)))) (refuses _ (omega arith))))))
+      (wants sheet _ _ _ (omega arith) (λ t. yields _ _ (lie-row (omega arith) (lie-on (fit .2) (b .1) (omega arith))))))))
   step-lies (properties first at kind so-far) fit =
       token-test sheet _ _ (λ t. yields _ _ (lie-row (omega arith) (lie-wide (fit .2) (omega arith))))
       (follows (or-spread at 1 (property at) (asked (property at) (omega arith)) (token sheet at is Dot3) refl)
       (λ part rs b. token-test sheet _ _
       (λ t. last (properties first (part .end + 1) (if token sheet at is Dot3 then Row.ObjectRestComma else Row.Object) (join so-far (part .trees)))
       (omega arith, omega arith, lie-on (fit .2) (b .1) (omega arith)))
-      (token-test sheet _ _ (λ t. yields _ _ (lie-row (omega arith) (lie-on (fit .2) (b .1) (omega arith)))) (refuses _ (omega arith)))))
+      (wants sheet _ _ _ (omega arith) (λ t. yields _ _ (lie-row (omega arith) (lie-on (fit .2) (b .1) (omega arith)))))))
   step-lies (property at) i =
       test (is-name (token sheet at) and not (token sheet (at + 1) is Colon))
       (λ n. token-test sheet _ _
@@ -369,22 +364,19 @@ module _ {N : Type 0} (policy : Policy N) (sheet : Sheet) {ask : Asks N} (g : An
       (λ initializer rs b. yields _ _ (lie-row (omega arith) (then-lie (at + 1) (row (omega arith) (no-trees (omega arith))) (lie-wide (b .1) (omega arith))))))
       (yields _ _ (lie-row (omega arith) (lie-leaf at (omega arith) (omega arith)))))
       (λ _. follows (asked (key at) i)
-      (λ name rs b. token-test sheet _ _
-      (λ t. follows (asked (assignment (name .end + 1)) (omega arith)) (λ content more c. yields _ _ (lie-row (omega arith) (lie-on (b .1) (c .1) (omega arith)))))
-      (refuses _ (omega arith))))
+      (λ name rs b. wants sheet _ _ _ (omega arith)
+      (λ t. follows (asked (assignment (name .end + 1)) (omega arith)) (λ content more c. yields _ _ (lie-row (omega arith) (lie-on (b .1) (c .1) (omega arith)))))))
   step-lies (key at) i =
       test (is-word (token sheet at) or token sheet at is Str or token sheet at is Number) (λ t. yields _ _ (lie-leaf at (omega arith) (omega arith)))
-      (λ _. token-test sheet _ _
+      (λ _. wants sheet _ _ _ (omega arith)
       (λ t. follows (asked (assignment (at + 1)) (omega arith))
-      (λ inner rs b. token-test sheet _ _ (λ t. yields _ _ (lie-row (omega arith) (lie-wide (b .1) (omega arith)))) (refuses _ (omega arith))))
-      (refuses _ (omega arith)))
+      (λ inner rs b. wants sheet _ _ _ (omega arith) (λ t. yields _ _ (lie-row (omega arith) (lie-wide (b .1) (omega arith)))))))
   step-lies (spread at) i = follows (asked (assignment (at + 1)) (omega arith)) (λ argument rs b. yields _ _ (lie-row (omega arith) (lie-wide (b .1) (omega arith))))
   -- 14.3.3
   step-lies (binding at) i =
       test (is-name (token sheet at)) (λ t. yields _ _ (lie-leaf at (omega arith) (omega arith)))
       (λ _. token-test sheet _ _ (λ t. last (binding-elements at (at + 1) nil) (omega arith, omega arith, no-trees (omega arith)))
-      (token-test sheet _ _ (λ t. last (binding-properties at (at + 1) nil) (omega arith, omega arith, no-trees (omega arith)))
-      (refuses _ (omega arith))))
+      (wants sheet _ _ _ (omega arith) (λ t. last (binding-properties at (at + 1) nil) (omega arith, omega arith, no-trees (omega arith)))))
   step-lies (binding-element at) i =
       follows (asked (binding at) i)
       (λ target rs b. token-test sheet _ _
@@ -395,22 +387,21 @@ module _ {N : Type 0} (policy : Policy N) (sheet : Sheet) {ask : Asks N} (g : An
       (token-test sheet _ _
       (λ t. last (binding-elements first (at + 1) (join so-far (one (leaf Row.Hole at)))) (omega arith, omega arith, lie-join (fit .2) (lie-leaf at (omega arith) (omega arith))))
       (token-test sheet _ _
-      (λ t. follows (asked (binding-rest at) (t .here)) (λ rest rs b. token-test sheet _ _ (λ t. yields _ _ (lie-row (omega arith) (lie-on (fit .2) (b .1) (omega arith)))) (refuses _ (omega arith))))
+      (λ t. follows (asked (binding-rest at) (t .here)) (λ rest rs b. wants sheet _ _ _ (omega arith) (λ t. yields _ _ (lie-row (omega arith) (lie-on (fit .2) (b .1) (omega arith))))))
       (follows (asked (binding-element at) (omega arith))
       (λ element rs b. token-test sheet _ _
       (λ t. last (binding-elements first (element .end + 1) (join so-far (element .trees))) (omega arith, omega arith, lie-on (fit .2) (b .1) (omega arith)))
-      (token-test sheet _ _ (λ t. yields _ _ (lie-row (omega arith) (lie-on (fit .2) (b .1) (omega arith)))) (refuses _ (omega arith)))))))
+      (wants sheet _ _ _ (omega arith) (λ t. yields _ _ (lie-row (omega arith) (lie-on (fit .2) (b .1) (omega arith)))))))))
   step-lies (binding-properties first at so-far) fit =
       token-test sheet _ _ (λ t. yields _ _ (lie-row (omega arith) (lie-wide (fit .2) (omega arith))))
       (token-test sheet _ _
       (λ t. follows (asked (binding-rest at) (t .here))
-      (λ rest rs b. token-test sheet _ _
-      (λ t. test (kind-of (argument-of (tree rest)) is Row.BindingName) (λ _. yields _ _ (lie-row (omega arith) (lie-on (fit .2) (b .1) (omega arith)))) (λ _. refuses _ (omega arith)))
-      (refuses _ (omega arith))))
+      (λ rest rs b. wants sheet _ _ _ (omega arith)
+      (λ t. test (kind-of (argument-of (tree rest)) is Row.BindingName) (λ _. yields _ _ (lie-row (omega arith) (lie-on (fit .2) (b .1) (omega arith)))) (λ _. refuses _ (omega arith)))))
       (follows (asked (binding-property at) (omega arith))
       (λ part rs b. token-test sheet _ _
       (λ t. last (binding-properties first (part .end + 1) (join so-far (part .trees))) (omega arith, omega arith, lie-on (fit .2) (b .1) (omega arith)))
-      (token-test sheet _ _ (λ t. yields _ _ (lie-row (omega arith) (lie-on (fit .2) (b .1) (omega arith)))) (refuses _ (omega arith))))))
+      (wants sheet _ _ _ (omega arith) (λ t. yields _ _ (lie-row (omega arith) (lie-on (fit .2) (b .1) (omega arith))))))))
   step-lies (binding-property at) i =
       test (is-name (token sheet at) and not (token sheet (at + 1) is Colon))
       (λ n. token-test sheet _ _
@@ -418,9 +409,8 @@ module _ {N : Type 0} (policy : Policy N) (sheet : Sheet) {ask : Asks N} (g : An
       (λ initializer rs b. yields _ _ (lie-row (omega arith) (then-lie (at + 1) (row (omega arith) (no-trees (omega arith))) (lie-wide (b .1) (omega arith))))))
       (yields _ _ (lie-row (omega arith) (lie-leaf at (omega arith) (omega arith)))))
       (λ _. follows (asked (key at) i)
-      (λ name rs b. token-test sheet _ _
-      (λ t. follows (asked (binding-element (name .end + 1)) (omega arith)) (λ content more c. yields _ _ (lie-row (omega arith) (lie-on (b .1) (c .1) (omega arith)))))
-      (refuses _ (omega arith))))
+      (λ name rs b. wants sheet _ _ _ (omega arith)
+      (λ t. follows (asked (binding-element (name .end + 1)) (omega arith)) (λ content more c. yields _ _ (lie-row (omega arith) (lie-on (b .1) (c .1) (omega arith)))))))
   step-lies (binding-rest at) i = follows (asked (binding-element (at + 1)) (omega arith)) (λ argument rs b. says _ (yields _ _ (lie-row (omega arith) (lie-wide (b .1) (omega arith)))))
   step-lies (head at) i =
       token-test sheet _ _
@@ -432,11 +422,11 @@ module _ {N : Type 0} (policy : Policy N) (sheet : Sheet) {ask : Asks N} (g : An
       token-test sheet _ _ (λ t. yields _ _ (λ low k. lie-wide k (omega arith)))
       (token-test sheet _ _
       (λ t. follows (asked (binding-rest at) (t .here))
-      (λ rest rs b. token-test sheet _ _ (λ t. yields _ _ (λ low k. lie-on k (b .1) (omega arith))) (refuses _ (omega arith))))
+      (λ rest rs b. wants sheet _ _ _ (omega arith) (λ t. yields _ _ (λ low k. lie-on k (b .1) (omega arith)))))
       (follows (asked (binding-element at) i)
       (λ parameter rs b. token-test sheet _ _
       (λ t. so (asked (parameters (parameter .end + 1) (join so-far (parameter .trees))) (omega arith)) (λ end trees more c low k. c .1 low (lie-on k (b .1) (omega arith))))
-      (token-test sheet _ _ (λ t. yields _ _ (λ low k. lie-on k (b .1) (omega arith))) (refuses _ (omega arith))))))
+      (wants sheet _ _ _ (omega arith) (λ t. yields _ _ (λ low k. lie-on k (b .1) (omega arith)))))))
   step-lies (body kind first at so-far) fit =
       let o = lie-order (fit .1) in
       says _ (test (not (token sheet (at + 1) is LCurly))

@@ -25,7 +25,7 @@ use Rattle.grammar.specs.Arrow.{Policy, parenthesized-head-of}
 use Rattle.grammar.specs.Step.{step, read}
 use Rattle.laws.proofs.Balanced as Balance
 use Rattle.laws.proofs.Balanced.{side-of, Side, Balanced, none, skip, nest, partner, joined, flat, name-flat, word-flat, literal-flat, operator-flat}
-use Rattle.laws.proofs.Good.{productions, Any, Nothing, Meaning, Stands, Reads, Answers, Preserved, good, good-done, yields, refuses, says, follows, heads, test, token-test, converts, so, and-left, and-right}
+use Rattle.laws.proofs.Good.{productions, wants, Any, Nothing, Meaning, Stands, Reads, Answers, Preserved, good, good-done, yields, refuses, says, follows, heads, test, token-test, converts, so, and-left, and-right}
 
 -- balanced up to a closing bracket, and past it
 pub record Closes (sheet : Sheet) (at end : ℕ) : Type 0 where
@@ -173,12 +173,10 @@ module _ {N : Type 0} (policy : Policy N) (sheet : Sheet) {ask : Asks N} (h : An
       → Reads (Shaped sheet (head at)) Nothing (parenthesized-head-of sheet ask starts)
   unfolding productions
   parenthesized-head-shape at starts o =
-      token-test sheet _ _
+      wants sheet _ _ _ tt
       (λ t. follows (asked (parameters (starts + 1) nil))
-      (λ list rs b. token-test sheet _ _
-      (λ u. yields _ _ (record { starts = starts; opens = t .kind-is; opening = o; list = b; arrow = u .kind-is }))
-      (refuses _ tt)))
-      (refuses _ tt)
+      (λ list rs b. wants sheet _ _ _ tt
+      (λ u. yields _ _ (record { starts = starts; opens = t .kind-is; opening = o; list = b; arrow = u .kind-is }))))
 
   -- every production
   pub step-shape : (job : Job) → Reads (Shaped sheet job) Nothing (step policy sheet ask job)
@@ -218,9 +216,8 @@ module _ {N : Type 0} (policy : Policy N) (sheet : Sheet) {ask : Asks N} (h : An
       (λ target rs e. follows (asked (assignment (at + 1))) (λ right more c. yields _ _ c))
   step-shape (conditional first at left) =
       follows (asked (assignment (at + 1)))
-      (λ if-true rs b. token-test sheet _ _
-      (λ t. follows (asked (assignment (if-true .end + 1))) (λ if-false more c. yields _ _ (joined b (before t refl c))))
-      (refuses _ tt))
+      (λ if-true rs b. wants sheet _ _ _ tt
+      (λ t. follows (asked (assignment (if-true .end + 1))) (λ if-false more c. yields _ _ (joined b (before t refl c)))))
   -- 13.6 to 13.13
   step-shape (binary floor at) = follows (asked (unary at)) (λ left rs b. so (asked (operators floor at (left .end) (tree left))) (λ end trees more c. joined b c))
   step-shape (operators floor first at left) =
@@ -252,9 +249,8 @@ module _ {N : Type 0} (policy : Policy N) (sheet : Sheet) {ask : Asks N} (h : An
       (λ _. refuses _ tt))
       (token-test sheet _ _
       (λ t. follows (asked (expression (at + 1)))
-      (λ inner rs b. token-test sheet _ _
-      (λ u. so (asked (links first (inner .end + 1) (node Row.Index first first (inner .end + 1) (cons left (inner .trees))))) (λ end trees more c. joined (around t refl b u refl) c))
-      (refuses _ tt)))
+      (λ inner rs b. wants sheet _ _ _ tt
+      (λ u. so (asked (links first (inner .end + 1) (node Row.Index first first (inner .end + 1) (cons left (inner .trees))))) (λ end trees more c. joined (around t refl b u refl) c))))
       (token-test sheet _ _
       (λ t. follows (asked (arguments first (at + 1) (one left)))
       (λ call rs b. so (asked (links first (call .end) (tree call))) (λ end trees more c. joined (around-list t refl b) c)))
@@ -264,16 +260,16 @@ module _ {N : Type 0} (policy : Policy N) (sheet : Sheet) {ask : Asks N} (h : An
       (follows (or-spread at (assignment at) (asked (assignment at)) (token sheet at is Dot3) refl)
       (λ argument rs b. token-test sheet _ _
       (λ t. so (asked (arguments first (argument .end + 1) (join so-far (argument .trees)))) (λ end trees more c. closed-on (after b t refl) c))
-      (token-test sheet _ _ (λ t. yields _ _ (closed-after b t refl)) (refuses _ tt))))
+      (wants sheet _ _ _ tt (λ t. yields _ _ (closed-after b t refl)))))
   -- 13.2
   step-shape (primary at) =
       test (is-name (token sheet at)) (λ t. yields _ _ (skip (name-flat t) none))
       (λ _. token-test sheet _ _ (λ t. yields _ _ (before t refl none))
       (test (is-literal (token sheet at)) (λ t. yields _ _ (skip (literal-flat t) none))
       (λ _. token-test sheet _ _
-      (λ t. follows (asked (expression (at + 1))) (λ inner rs b. token-test sheet _ _ (λ u. yields _ _ (around t refl b u refl)) (refuses _ tt)))
+      (λ t. follows (asked (expression (at + 1))) (λ inner rs b. wants sheet _ _ _ tt (λ u. yields _ _ (around t refl b u refl))))
       (token-test sheet _ _ (λ t. so (asked (elements at (at + 1) Row.Array nil)) (λ end trees more c. around-list t refl c))
-      (token-test sheet _ _ (λ t. so (asked (properties at (at + 1) Row.Object nil)) (λ end trees more c. around-list t refl c)) (refuses _ tt))))))
+      (wants sheet _ _ _ tt (λ t. so (asked (properties at (at + 1) Row.Object nil)) (λ end trees more c. around-list t refl c)))))))
   step-shape (elements first at kind so-far) =
       token-test sheet _ _ (λ t. yields _ _ (closed-here t refl))
       (token-test sheet _ _ (λ t. so (asked (elements first (at + 1) Row.Array (join so-far (one (leaf Row.Hole at))))) (λ end trees more c. closed-on (before t refl none) c))
@@ -281,32 +277,31 @@ module _ {N : Type 0} (policy : Policy N) (sheet : Sheet) {ask : Asks N} (h : An
       (λ element rs b. token-test sheet _ _
       (λ t. so (asked (elements first (element .end + 1) (if token sheet at is Dot3 then Row.ArrayRestComma else Row.Array) (join so-far (element .trees))))
       (λ end trees more c. closed-on (after b t refl) c))
-      (token-test sheet _ _ (λ t. yields _ _ (closed-after b t refl)) (refuses _ tt)))))
+      (wants sheet _ _ _ tt (λ t. yields _ _ (closed-after b t refl))))))
   step-shape (properties first at kind so-far) =
       token-test sheet _ _ (λ t. yields _ _ (closed-here t refl))
       (follows (or-spread at (property at) (asked (property at)) (token sheet at is Dot3) refl)
       (λ part rs b. token-test sheet _ _
       (λ t. so (asked (properties first (part .end + 1) (if token sheet at is Dot3 then Row.ObjectRestComma else Row.Object) (join so-far (part .trees))))
       (λ end trees more c. closed-on (after b t refl) c))
-      (token-test sheet _ _ (λ t. yields _ _ (closed-after b t refl)) (refuses _ tt))))
+      (wants sheet _ _ _ tt (λ t. yields _ _ (closed-after b t refl)))))
   step-shape (property at) =
       test (is-name (token sheet at) and not (token sheet (at + 1) is Colon))
       (λ t. let n = name-flat (and-left (is-name (token sheet at)) _ t) in token-test sheet _ _
       (λ u. follows (asked (assignment (at + 2))) (λ initializer rs b. yields _ _ (skip n (before u refl (two at b)))))
       (yields _ _ (skip n none)))
       (λ _. follows (asked (key at))
-      (λ name rs b. token-test sheet _ _ (λ t. follows (asked (assignment (name .end + 1))) (λ content more c. yields _ _ (joined b (before t refl c)))) (refuses _ tt)))
+      (λ name rs b. wants sheet _ _ _ tt (λ t. follows (asked (assignment (name .end + 1))) (λ content more c. yields _ _ (joined b (before t refl c))))))
   step-shape (key at) =
       test (is-word (token sheet at) or token sheet at is Str or token sheet at is Number) (λ t. yields _ _ (skip (key-flat t) none))
-      (λ _. token-test sheet _ _
-      (λ t. follows (asked (assignment (at + 1))) (λ inner rs b. token-test sheet _ _ (λ u. yields _ _ (around t refl b u refl)) (refuses _ tt)))
-      (refuses _ tt))
+      (λ _. wants sheet _ _ _ tt
+      (λ t. follows (asked (assignment (at + 1))) (λ inner rs b. wants sheet _ _ _ tt (λ u. yields _ _ (around t refl b u refl)))))
   step-shape (spread at) = follows (asked (assignment (at + 1))) (λ argument rs b. yields _ _ b)
   -- 14.3.3
   step-shape (binding at) =
       test (is-name (token sheet at)) (λ t. yields _ _ (skip (name-flat t) none))
       (λ _. token-test sheet _ _ (λ t. so (asked (binding-elements at (at + 1) nil)) (λ end trees more c. around-list t refl c))
-      (token-test sheet _ _ (λ t. so (asked (binding-properties at (at + 1) nil)) (λ end trees more c. around-list t refl c)) (refuses _ tt)))
+      (wants sheet _ _ _ tt (λ t. so (asked (binding-properties at (at + 1) nil)) (λ end trees more c. around-list t refl c))))
   step-shape (binding-element at) =
       follows (asked (binding at))
       (λ target rs b. token-test sheet _ _
@@ -316,29 +311,28 @@ module _ {N : Type 0} (policy : Policy N) (sheet : Sheet) {ask : Asks N} (h : An
       token-test sheet _ _ (λ t. yields _ _ (closed-here t refl))
       (token-test sheet _ _ (λ t. so (asked (binding-elements first (at + 1) (join so-far (one (leaf Row.Hole at))))) (λ end trees more c. closed-on (before t refl none) c))
       (token-test sheet _ _
-      (λ t. follows (rest-shape at t) (λ rest rs b. token-test sheet _ _ (λ u. yields _ _ (closed-after b u refl)) (refuses _ tt)))
+      (λ t. follows (rest-shape at t) (λ rest rs b. wants sheet _ _ _ tt (λ u. yields _ _ (closed-after b u refl))))
       (follows (asked (binding-element at))
       (λ element rs b. token-test sheet _ _
       (λ t. so (asked (binding-elements first (element .end + 1) (join so-far (element .trees)))) (λ end trees more c. closed-on (after b t refl) c))
-      (token-test sheet _ _ (λ t. yields _ _ (closed-after b t refl)) (refuses _ tt))))))
+      (wants sheet _ _ _ tt (λ t. yields _ _ (closed-after b t refl)))))))
   step-shape (binding-properties first at so-far) =
       token-test sheet _ _ (λ t. yields _ _ (closed-here t refl))
       (token-test sheet _ _
       (λ t. follows (rest-shape at t)
-      (λ rest rs b. token-test sheet _ _
-      (λ u. test (kind-of (argument-of (tree rest)) is Row.BindingName) (λ _. yields _ _ (closed-after b u refl)) (λ _. refuses _ tt))
-      (refuses _ tt)))
+      (λ rest rs b. wants sheet _ _ _ tt
+      (λ u. test (kind-of (argument-of (tree rest)) is Row.BindingName) (λ _. yields _ _ (closed-after b u refl)) (λ _. refuses _ tt))))
       (follows (asked (binding-property at))
       (λ part rs b. token-test sheet _ _
       (λ t. so (asked (binding-properties first (part .end + 1) (join so-far (part .trees)))) (λ end trees more c. closed-on (after b t refl) c))
-      (token-test sheet _ _ (λ t. yields _ _ (closed-after b t refl)) (refuses _ tt)))))
+      (wants sheet _ _ _ tt (λ t. yields _ _ (closed-after b t refl))))))
   step-shape (binding-property at) =
       test (is-name (token sheet at) and not (token sheet (at + 1) is Colon))
       (λ t. let n = name-flat (and-left (is-name (token sheet at)) _ t) in token-test sheet _ _
       (λ u. follows (asked (assignment (at + 2))) (λ initializer rs b. yields _ _ (skip n (before u refl (two at b)))))
       (yields _ _ (skip n none)))
       (λ _. follows (asked (key at))
-      (λ name rs b. token-test sheet _ _ (λ t. follows (asked (binding-element (name .end + 1))) (λ content more c. yields _ _ (joined b (before t refl c)))) (refuses _ tt)))
+      (λ name rs b. wants sheet _ _ _ tt (λ t. follows (asked (binding-element (name .end + 1))) (λ content more c. yields _ _ (joined b (before t refl c))))))
   step-shape (binding-rest at) = follows (asked (binding-element (at + 1))) (λ argument rs b. says _ (yields _ _ b))
   step-shape (head at) =
       token-test sheet _ _
@@ -347,11 +341,11 @@ module _ {N : Type 0} (policy : Policy N) (sheet : Sheet) {ask : Asks N} (h : An
   step-shape (parameters at so-far) =
       token-test sheet _ _ (λ t. yields _ _ (closed-here t refl))
       (token-test sheet _ _
-      (λ t. follows (rest-shape at t) (λ rest rs b. token-test sheet _ _ (λ u. yields _ _ (closed-after b u refl)) (refuses _ tt)))
+      (λ t. follows (rest-shape at t) (λ rest rs b. wants sheet _ _ _ tt (λ u. yields _ _ (closed-after b u refl))))
       (follows (asked (binding-element at))
       (λ parameter rs b. token-test sheet _ _
       (λ t. so (asked (parameters (parameter .end + 1) (join so-far (parameter .trees)))) (λ end trees more c. closed-on (after b t refl) c))
-      (token-test sheet _ _ (λ t. yields _ _ (closed-after b t refl)) (refuses _ tt)))))
+      (wants sheet _ _ _ tt (λ t. yields _ _ (closed-after b t refl))))))
   step-shape (body kind first at so-far) =
       says _ (test (not (token sheet (at + 1) is LCurly))
       (λ _. follows (asked (assignment (at + 1))) (λ inner rs b. yields _ _ b))

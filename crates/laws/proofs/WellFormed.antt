@@ -31,7 +31,7 @@ use Rattle.grammar.specs.Binding.{argument-of}
 use Rattle.grammar.specs.Arrow.{Policy, parenthesized-head-of}
 use Rattle.grammar.specs.Step.{step, read, plenty}
 use Rattle.grammar.specs.Reading.{whole, reading}
-use Rattle.laws.proofs.Good.{productions, came, Meaning, Reads, Answers, Preserved, good, good-done, yields, refuses, says, follows, heads, test, token-test, converts, so, and-left, and-right}
+use Rattle.laws.proofs.Good.{productions, wants, came, Meaning, Reads, Answers, Preserved, good, good-done, yields, refuses, says, follows, heads, test, token-test, converts, so, and-left, and-right}
 use Rattle.laws.proofs.Bounds.{Nothing, fee, fee-comma, fee-one}
 use Rattle.laws.proofs.Formed.{shapes, or-left, or-right, no-ending, one-ending, Middle, one-more, one-closing, no-more, Kids, KidsOf, in-front, then-rest, free, held, Formed, row-formed, AllFormed, all-nil, all-cons, is-well-formed, Converted, converted-formed}
 use Rattle.laws.specs.Promises.{Kinds, Ends, Class, of, within, in-class, In, OneTree}
@@ -509,9 +509,8 @@ module _ {N : Type 0} (policy : Policy N) (sheet : Sheet) {ask : Asks N} (h : An
   parenthesized-head-well : (at : ℕ) → Reads (Is sheet (head at)) Nothing (parenthesized-head-of sheet ask at)
   unfolding productions
   parenthesized-head-well at =
-      token-test sheet _ _
-      (λ t. follows (asked (parameters (at + 1) nil) no-tree) (λ list rs b. token-test sheet _ _ (λ t. yields _ _ b) (refuses _ tt)))
-      (refuses _ tt)
+      wants sheet _ _ _ tt
+      (λ t. follows (asked (parameters (at + 1) nil) no-tree) (λ list rs b. wants sheet _ _ _ tt (λ t. yields _ _ b)))
 
   arrow-kind : (async : Bool) → IsArrow (if async then Row.AsyncArrow else Row.Arrow)
   arrow-kind async = either-way IsArrow async (λ _. is-async refl) (λ _. is-plain refl)
@@ -549,9 +548,8 @@ module _ {N : Type 0} (policy : Policy N) (sheet : Sheet) {ask : Asks N} (h : An
       (λ target rs b. follows (asked (assignment (at + 1)) tt) (λ right more c. yields _ _ (sole (assign-row (token sheet at is Eq) b (wells c)))))
   step-well (conditional first at left) w =
       follows (asked (assignment (at + 1)) tt)
-      (λ if-true rs b. token-test sheet _ _
-      (λ t. follows (asked (assignment (if-true .end + 1)) tt) (λ if-false more c. yields _ _ (sole (term-of (row-of-three refl refl w (wells b) (wells c)) refl refl))))
-      (refuses _ tt))
+      (λ if-true rs b. wants sheet _ _ _ tt
+      (λ t. follows (asked (assignment (if-true .end + 1)) tt) (λ if-false more c. yields _ _ (sole (term-of (row-of-three refl refl w (wells b) (wells c)) refl refl)))))
   step-well (binary floor at) fit =
       follows (asked (unary at) tt)
       (λ left rs b. asked (operators floor at (left .end) (tree left)) (operand (sole-first b), λ l. wider (λ k. or-left _ _) (sole-first b .well .fits)))
@@ -585,9 +583,8 @@ module _ {N : Type 0} (policy : Policy N) (sheet : Sheet) {ask : Asks N} (h : An
       (λ _. refuses _ tt))
       (token-test sheet _ _
       (λ t. follows (asked (expression (at + 1)) tt)
-      (λ inner rs b. token-test sheet _ _
-      (λ t. asked (links first (inner .end + 1) (node Row.Index first first (inner .end + 1) (cons left (inner .trees)))) (term-of (row-of-tree-and refl refl (fit .well) b) refl refl))
-      (refuses _ tt)))
+      (λ inner rs b. wants sheet _ _ _ tt
+      (λ t. asked (links first (inner .end + 1) (node Row.Index first first (inner .end + 1) (cons left (inner .trees)))) (term-of (row-of-tree-and refl refl (fit .well) b) refl refl))))
       (token-test sheet _ _
       (λ t. follows (asked (arguments first (at + 1) (one left)) (called (fit .well) no-tree)) (λ call rs b. asked (links first (call .end) (tree call)) (sole-first b)))
       (yields _ _ (sole fit))))
@@ -595,7 +592,7 @@ module _ {N : Type 0} (policy : Policy N) (sheet : Sheet) {ask : Asks N} (h : An
       token-test sheet _ _ (λ t. yields _ _ (sole (call-row sheet fit)))
       (follows (or-spread (of is-argument) at (assignment at) (λ _. refl) (assigned at (λ k. or-left _ _)) (token sheet at is Dot3))
       (λ argument rs b. token-test sheet _ _ (λ t. asked (arguments first (argument .end + 1) (join so-far (argument .trees))) (call-join fit (b .0)))
-      (token-test sheet _ _ (λ t. yields _ _ (sole (call-row sheet (call-join fit (b .0))))) (refuses _ tt))))
+      (wants sheet _ _ _ tt (λ t. yields _ _ (sole (call-row sheet (call-join fit (b .0))))))))
   -- 13.2
   step-well (primary at) fit =
       test (is-name (token sheet at)) (λ t. yields _ _ (sole (term-of (leaf-row refl refl) refl refl)))
@@ -603,10 +600,9 @@ module _ {N : Type 0} (policy : Policy N) (sheet : Sheet) {ask : Asks N} (h : An
       (test (is-literal (token sheet at)) (λ t. yields _ _ (sole (term-of (leaf-row refl refl) refl refl)))
       (λ _. token-test sheet _ _
       (λ t. follows (asked (expression (at + 1)) tt)
-      (λ inner rs b. token-test sheet _ _ (λ t. yields _ _ (sole (term-of (row-of-one refl refl b) refl refl))) (refuses _ tt)))
+      (λ inner rs b. wants sheet _ _ _ tt (λ t. yields _ _ (sole (term-of (row-of-one refl refl b) refl refl)))))
       (token-test sheet _ _ (λ t. asked (elements at (at + 1) Row.Array nil) (no-tree, array-closes sheet at no-tree))
-      (token-test sheet _ _ (λ t. asked (properties at (at + 1) Row.Object nil) (no-tree, object-closes sheet at (t .kind-is) no-tree, t .kind-is))
-      (refuses _ tt))))))
+      (wants sheet _ _ _ tt (λ t. asked (properties at (at + 1) Row.Object nil) (no-tree, object-closes sheet at (t .kind-is) no-tree, t .kind-is)))))))
   step-well (elements first at kind so-far) fit =
       token-test sheet _ _ (λ t. yields _ _ (sole (fit .1 (at + 1))))
       (token-test sheet _ _
@@ -615,14 +611,14 @@ module _ {N : Type 0} (policy : Policy N) (sheet : Sheet) {ask : Asks N} (h : An
       (λ element rs b. token-test sheet _ _
       (λ t. asked (elements first (element .end + 1) (if token sheet at is Dot3 then Row.ArrayRestComma else Row.Array) (join so-far (element .trees)))
       (all-join (fit .0) (all-sole (b .0)), array-goes-on first (token sheet at is Dot3) (fit .0) (b .0) (b .1)))
-      (token-test sheet _ _ (λ t. yields _ _ (sole (array-closes sheet first (all-join (fit .0) (all-sole (b .0))) (element .end + 1)))) (refuses _ tt)))))
+      (wants sheet _ _ _ tt (λ t. yields _ _ (sole (array-closes sheet first (all-join (fit .0) (all-sole (b .0))) (element .end + 1))))))))
   step-well (properties first at kind so-far) fit =
       token-test sheet _ _ (λ t. yields _ _ (sole (fit .1 (at + 1))))
       (follows (or-spread (within (may-end Row.Object) is-property) at (property at) (λ _. refl) (asked (property at) tt) (token sheet at is Dot3))
       (λ part rs b. token-test sheet _ _
       (λ t. asked (properties first (part .end + 1) (if token sheet at is Dot3 then Row.ObjectRestComma else Row.Object) (join so-far (part .trees)))
       (all-join (fit .0) (all-sole (b .0)), object-goes-on first (token sheet at is Dot3) (fit .2) (fit .0) (b .0) (b .1), fit .2))
-      (token-test sheet _ _ (λ t. yields _ _ (sole (object-closes sheet first (fit .2) (all-join (fit .0) (all-sole (b .0))) (part .end + 1)))) (refuses _ tt))))
+      (wants sheet _ _ _ tt (λ t. yields _ _ (sole (object-closes sheet first (fit .2) (all-join (fit .0) (all-sole (b .0))) (part .end + 1)))))))
   step-well (property at) fit =
       test (is-name (token sheet at) and not (token sheet (at + 1) is Colon))
       (λ n. token-test sheet _ _
@@ -630,21 +626,19 @@ module _ {N : Type 0} (policy : Policy N) (sheet : Sheet) {ask : Asks N} (h : An
       (λ initializer rs b. yields _ _ (sole (well-of (row-of-tree-and refl refl (well-of (leaf-row refl refl) refl) (wells b)) refl))))
       (yields _ _ (sole (well-of (row-of-one refl refl (sole (well-of (leaf-row refl refl) refl))) refl))))
       (λ _. follows (asked (key at) tt)
-      (λ name rs b. token-test sheet _ _
-      (λ t. follows (asked (assignment (name .end + 1)) tt) (λ content more c. yields _ _ (sole (property-row b (wells c)))))
-      (refuses _ tt)))
+      (λ name rs b. wants sheet _ _ _ tt
+      (λ t. follows (asked (assignment (name .end + 1)) tt) (λ content more c. yields _ _ (sole (property-row b (wells c)))))))
   step-well (key at) fit =
       test (is-word (token sheet at) or token sheet at is Str or token sheet at is Number) (λ t. yields _ _ (sole (well-of (leaf-row refl refl) refl)))
-      (λ _. token-test sheet _ _
+      (λ _. wants sheet _ _ _ tt
       (λ t. follows (asked (assignment (at + 1)) tt)
-      (λ inner rs b. token-test sheet _ _ (λ t. yields _ _ (sole (well-of (row-of-one refl refl (wells b)) refl))) (refuses _ tt)))
-      (refuses _ tt))
+      (λ inner rs b. wants sheet _ _ _ tt (λ t. yields _ _ (sole (well-of (row-of-one refl refl (wells b)) refl))))))
   step-well (spread at) fit = follows (asked (assignment (at + 1)) tt) (λ argument rs b. yields _ _ (sole (well-of (row-of-one refl refl (wells b)) refl)))
   -- 14.3.3
   step-well (binding at) fit =
       test (is-name (token sheet at)) (λ t. yields _ _ (sole (well-of (leaf-row refl refl) refl)))
       (λ _. token-test sheet _ _ (λ t. asked (binding-elements at (at + 1) nil) no-tree)
-      (token-test sheet _ _ (λ t. asked (binding-properties at (at + 1) nil) no-tree) (refuses _ tt)))
+      (wants sheet _ _ _ tt (λ t. asked (binding-properties at (at + 1) nil) no-tree)))
   step-well (binding-element at) fit =
       follows (asked (binding at) tt)
       (λ target rs b. token-test sheet _ _
@@ -656,22 +650,21 @@ module _ {N : Type 0} (policy : Policy N) (sheet : Sheet) {ask : Asks N} (h : An
       (λ t. asked (binding-elements first (at + 1) (join so-far (one (leaf Row.Hole at)))) (all-join a (all-sole (sole (well-of (leaf-row refl refl) refl)))))
       (token-test sheet _ _
       (λ t. follows (asked (binding-rest at) tt)
-      (λ rest rs b. token-test sheet _ _ (λ t. yields _ _ (sole (well-of (row-closed refl refl (all-held Row.BindingArray refl a) (sole-so (rest-well b) (λ t w. well-held Row.BindingArray refl w))) refl))) (refuses _ tt)))
+      (λ rest rs b. wants sheet _ _ _ tt (λ t. yields _ _ (sole (well-of (row-closed refl refl (all-held Row.BindingArray refl a) (sole-so (rest-well b) (λ t w. well-held Row.BindingArray refl w))) refl)))))
       (follows (asked (binding-element at) tt)
       (λ element rs b. token-test sheet _ _ (λ t. asked (binding-elements first (element .end + 1) (join so-far (element .trees))) (array-element a b))
-      (token-test sheet _ _ (λ t. yields _ _ (sole (well-of (row-closable refl refl (all-held Row.BindingArray refl (array-element a b))) refl))) (refuses _ tt))))))
+      (wants sheet _ _ _ tt (λ t. yields _ _ (sole (well-of (row-closable refl refl (all-held Row.BindingArray refl (array-element a b))) refl))))))))
   step-well (binding-properties first at so-far) a =
       token-test sheet _ _ (λ t. yields _ _ (sole (well-of (row-closable refl refl a) refl)))
       (token-test sheet _ _
       (λ t. follows (asked (binding-rest at) tt)
-      (λ rest rs b. token-test sheet _ _
+      (λ rest rs b. wants sheet _ _ _ tt
       (λ t. test (kind-of (argument-of (tree rest)) is Row.BindingName)
       (λ e. yields _ _ (sole (well-of (row-closed refl refl a (name-rest-well b e)) refl)))
-      (λ _. refuses _ tt))
-      (refuses _ tt)))
+      (λ _. refuses _ tt))))
       (follows (asked (binding-property at) tt)
       (λ part rs b. token-test sheet _ _ (λ t. asked (binding-properties first (part .end + 1) (join so-far (part .trees))) (all-join a (all-sole b)))
-      (token-test sheet _ _ (λ t. yields _ _ (sole (well-of (row-closable refl refl (all-join a (all-sole b))) refl))) (refuses _ tt)))))
+      (wants sheet _ _ _ tt (λ t. yields _ _ (sole (well-of (row-closable refl refl (all-join a (all-sole b))) refl)))))))
   step-well (binding-property at) fit =
       test (is-name (token sheet at) and not (token sheet (at + 1) is Colon))
       (λ n. token-test sheet _ _
@@ -679,9 +672,8 @@ module _ {N : Type 0} (policy : Policy N) (sheet : Sheet) {ask : Asks N} (h : An
       (λ initializer rs b. yields _ _ (sole (well-of (row-of-tree-and refl refl (well-of (leaf-row refl refl) refl) (wells b)) refl))))
       (yields _ _ (sole (well-of (row-of-one refl refl (sole (well-of (leaf-row refl refl) refl))) refl))))
       (λ _. follows (asked (key at) tt)
-      (λ name rs b. token-test sheet _ _
-      (λ t. follows (asked (binding-element (name .end + 1)) tt) (λ content more c. yields _ _ (sole (binding-property-row b c))))
-      (refuses _ tt)))
+      (λ name rs b. wants sheet _ _ _ tt
+      (λ t. follows (asked (binding-element (name .end + 1)) tt) (λ content more c. yields _ _ (sole (binding-property-row b c))))))
   step-well (binding-rest at) fit = follows (asked (binding-element (at + 1)) tt) (λ argument rs b. says _ (yields _ _ (sole (rest-over-sole b))))
   step-well (head at) fit =
       token-test sheet _ _
@@ -690,10 +682,10 @@ module _ {N : Type 0} (policy : Policy N) (sheet : Sheet) {ask : Asks N} (h : An
   step-well (parameters at so-far) a =
       token-test sheet _ _ (λ t. yields _ _ (parameters-are a))
       (token-test sheet _ _
-      (λ t. follows (asked (binding-rest at) tt) (λ rest rs b. token-test sheet _ _ (λ t. yields _ _ (parameters-and-rest a (rest-well b))) (refuses _ tt)))
+      (λ t. follows (asked (binding-rest at) tt) (λ rest rs b. wants sheet _ _ _ tt (λ t. yields _ _ (parameters-and-rest a (rest-well b)))))
       (follows (asked (binding-element at) tt)
       (λ parameter rs b. token-test sheet _ _ (λ t. asked (parameters (parameter .end + 1) (join so-far (parameter .trees))) (all-join a (all-sole b)))
-      (token-test sheet _ _ (λ t. yields _ _ (parameters-are (all-join a (all-sole b)))) (refuses _ tt)))))
+      (wants sheet _ _ _ tt (λ t. yields _ _ (parameters-are (all-join a (all-sole b))))))))
   step-well (body kind first at so-far) fit =
       says _ (test (not (token sheet (at + 1) is LCurly))
       (λ n. follows (asked (assignment (at + 1)) tt)
