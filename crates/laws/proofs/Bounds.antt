@@ -220,8 +220,7 @@ module _ {N : Type 0} (policy : Policy N) (sheet : Sheet) {ask : Asks N} (h : An
   parenthesized-head-bound : (at : ℕ) → Reads (Bound (limits sheet (head at))) Nothing (parenthesized-head-of sheet ask at)
   unfolding productions
   parenthesized-head-bound at =
-      wants sheet _ _ _ tt
-      (λ t. follows (asked (parameters (at + 1) nil))
+      wants sheet _ _ _ tt (λ t. follows (asked (parameters (at + 1) nil))
       (λ list rs b. wants sheet _ _ _ tt
       (λ t. yields _ _ (record { within = simp weights (omega (arith, simp weights at (b .within))); single = tt }))))
 
@@ -264,8 +263,7 @@ module _ {N : Type 0} (policy : Policy N) (sheet : Sheet) {ask : Asks N} (h : An
       (λ right more c. yields _ _ (lone _ (simp weights (omega (arith, owes-one kind))))))
   step-bound (conditional first at left) =
       follows (asked (assignment (at + 1)))
-      (λ if-true rs b. wants sheet _ _ _ tt
-      (λ t. follows (asked (assignment (if-true .end + 1)))
+      (λ if-true rs b. wants sheet _ _ _ tt (λ t. follows (asked (assignment (if-true .end + 1)))
       (λ if-false more c. yields _ _ (lone _ (simp weights (omega arith))))))
   -- 13.6 to 13.13
   step-bound (binary floor at) =
@@ -319,14 +317,12 @@ module _ {N : Type 0} (policy : Policy N) (sheet : Sheet) {ask : Asks N} (h : An
       (λ end trees more c. record { within = simp weights (omega (arith, simp weights at (b .within), alone (b .single))); single = c .single })))
       (yields _ _ (lone _ (simp weights (omega arith))))))
   step-bound (arguments first at so-far) =
-      token-test sheet _ _
-      (λ t. yields _ _ (lone _ (simp weights (omega arith))))
+      token-test sheet _ _ (λ t. yields _ _ (lone _ (simp weights (omega arith))))
       (follows (or-spread at 0 (assignment at) (asked (assignment at)) (token sheet at is Dot3))
       (λ argument rs b. token-test sheet _ _
       (λ t. so (asked (arguments first (argument .end + 1) (join so-far (argument .trees))))
       (λ end trees more c. record { within = simp weights (omega (arith, simp weights at (c .within))); single = c .single }))
-      (wants sheet _ _ _ tt
-      (λ t. yields _ _ (lone _ (simp weights (omega arith)))))))
+      (wants sheet _ _ _ tt (λ t. yields _ _ (lone _ (simp weights (omega arith)))))))
   -- 13.2
   step-bound (primary at) =
       test (is-name (token sheet at)) (λ t. yields _ _ (lone _ (simp weights (omega (arith, inside sheet at is-name refl t)))))
@@ -340,8 +336,7 @@ module _ {N : Type 0} (policy : Policy N) (sheet : Sheet) {ask : Asks N} (h : An
       (wants sheet _ _ _ tt
       (λ t. so (asked (properties at (at + 1) Row.Object nil)) (λ end trees more c. record { within = omega (arith, simp weights at (c .within)); single = c .single })))))))
   step-bound (elements first at kind so-far) =
-      token-test sheet _ _
-      (λ t. yields _ _ (lone _ (simp weights (omega (arith, owes-one kind)))))
+      token-test sheet _ _ (λ t. yields _ _ (lone _ (simp weights (omega (arith, owes-one kind)))))
       (token-test sheet _ _
       (λ t. so (asked (elements first (at + 1) Row.Array (join so-far (one (leaf Row.Hole at)))))
       (λ end trees more c. record { within = omega (arith, simp weights at (c .within)); single = c .single }))
@@ -349,17 +344,14 @@ module _ {N : Type 0} (policy : Policy N) (sheet : Sheet) {ask : Asks N} (h : An
       (λ element rs b. token-test sheet _ _
       (λ t. so (asked (elements first (element .end + 1) _ (join so-far (element .trees))))
       (λ end trees more c. record { within = simp weights (omega (arith, simp weights at (c .within))); single = c .single }))
-      (wants sheet _ _ _ tt
-      (λ t. yields _ _ (lone _ (simp weights (omega arith))))))))
+      (wants sheet _ _ _ tt (λ t. yields _ _ (lone _ (simp weights (omega arith))))))))
   step-bound (properties first at kind so-far) =
-      token-test sheet _ _
-      (λ t. yields _ _ (lone _ (simp weights (omega (arith, owes-one kind)))))
+      token-test sheet _ _ (λ t. yields _ _ (lone _ (simp weights (omega (arith, owes-one kind)))))
       (follows (or-spread at 1 (property at) (asked (property at)) (token sheet at is Dot3))
       (λ part rs b. token-test sheet _ _
       (λ t. so (asked (properties first (part .end + 1) _ (join so-far (part .trees))))
       (λ end trees more c. record { within = simp weights (omega (arith, simp weights at (c .within))); single = c .single }))
-      (wants sheet _ _ _ tt
-      (λ t. yields _ _ (lone _ (simp weights (omega arith)))))))
+      (wants sheet _ _ _ tt (λ t. yields _ _ (lone _ (simp weights (omega arith)))))))
   step-bound (property at) =
       test (is-name (token sheet at) and not (token sheet (at + 1) is Colon))
       (λ n. token-test sheet _ _
@@ -371,8 +363,7 @@ module _ {N : Type 0} (policy : Policy N) (sheet : Sheet) {ask : Asks N} (h : An
   step-bound (key at) =
       test (is-word (token sheet at) or token sheet at is Str or token sheet at is Number)
       (λ t. yields _ _ (lone _ (simp weights (omega (arith, inside sheet at (λ k. is-word k or k is Str or k is Number) refl t)))))
-      (λ _. wants sheet _ _ _ tt
-      (λ t. follows (asked (assignment (at + 1)))
+      (λ _. wants sheet _ _ _ tt (λ t. follows (asked (assignment (at + 1)))
       (λ inner rs b. wants sheet _ _ _ tt (λ t. yields _ _ (lone _ (simp weights (omega arith)))))))
   step-bound (spread at) = follows (asked (assignment (at + 1))) (λ argument rs b. yields _ _ (lone _ (simp weights (omega arith))))
   -- 14.3.3
@@ -388,8 +379,7 @@ module _ {N : Type 0} (policy : Policy N) (sheet : Sheet) {ask : Asks N} (h : An
       (λ t. follows (asked (assignment (target .end + 1))) (λ initializer more c. yields _ _ (lone _ (simp weights (omega arith)))))
       (yields _ _ (record { within = simp weights (omega arith); single = b .single })))
   step-bound (binding-elements first at so-far) =
-      token-test sheet _ _
-      (λ t. yields _ _ (lone _ (simp weights (omega arith))))
+      token-test sheet _ _ (λ t. yields _ _ (lone _ (simp weights (omega arith))))
       (token-test sheet _ _
       (λ t. so (asked (binding-elements first (at + 1) (join so-far (one (leaf Row.Hole at)))))
       (λ end trees more c. record { within = omega (arith, simp weights at (c .within)); single = c .single }))
@@ -400,11 +390,9 @@ module _ {N : Type 0} (policy : Policy N) (sheet : Sheet) {ask : Asks N} (h : An
       (λ element rs b. token-test sheet _ _
       (λ t. so (asked (binding-elements first (element .end + 1) (join so-far (element .trees))))
       (λ end trees more c. record { within = simp weights (omega (arith, simp weights at (c .within))); single = c .single }))
-      (wants sheet _ _ _ tt
-      (λ t. yields _ _ (lone _ (simp weights (omega arith)))))))))
+      (wants sheet _ _ _ tt (λ t. yields _ _ (lone _ (simp weights (omega arith)))))))))
   step-bound (binding-properties first at so-far) =
-      token-test sheet _ _
-      (λ t. yields _ _ (lone _ (simp weights (omega arith))))
+      token-test sheet _ _ (λ t. yields _ _ (lone _ (simp weights (omega arith))))
       (token-test sheet _ _
       (λ t. follows (asked (binding-rest at))
       (λ rest rs b. wants sheet _ _ _ tt
@@ -413,8 +401,7 @@ module _ {N : Type 0} (policy : Policy N) (sheet : Sheet) {ask : Asks N} (h : An
       (λ part rs b. token-test sheet _ _
       (λ t. so (asked (binding-properties first (part .end + 1) (join so-far (part .trees))))
       (λ end trees more c. record { within = simp weights (omega (arith, simp weights at (c .within))); single = c .single }))
-      (wants sheet _ _ _ tt
-      (λ t. yields _ _ (lone _ (simp weights (omega arith))))))))
+      (wants sheet _ _ _ tt (λ t. yields _ _ (lone _ (simp weights (omega arith))))))))
   step-bound (binding-property at) =
       test (is-name (token sheet at) and not (token sheet (at + 1) is Colon))
       (λ n. token-test sheet _ _
@@ -434,8 +421,7 @@ module _ {N : Type 0} (policy : Policy N) (sheet : Sheet) {ask : Asks N} (h : An
       (λ _. refuses _ tt))
       (parenthesized-head-bound at)
   step-bound (parameters at so-far) =
-      token-test sheet _ _
-      (λ t. yields _ _ (record { within = omega arith; single = tt }))
+      token-test sheet _ _ (λ t. yields _ _ (record { within = omega arith; single = tt }))
       (token-test sheet _ _
       (λ t. follows (asked (binding-rest at))
       (λ rest rs b. wants sheet _ _ _ tt (λ t. yields _ _ (record { within = simp weights (omega arith); single = tt }))))
@@ -443,8 +429,7 @@ module _ {N : Type 0} (policy : Policy N) (sheet : Sheet) {ask : Asks N} (h : An
       (λ parameter rs b. token-test sheet _ _
       (λ t. so (asked (parameters (parameter .end + 1) (join so-far (parameter .trees))))
       (λ end trees more c. record { within = simp weights (omega (arith, simp weights at (c .within))); single = tt }))
-      (wants sheet _ _ _ tt
-      (λ t. yields _ _ (record { within = simp weights (omega arith); single = tt }))))))
+      (wants sheet _ _ _ tt (λ t. yields _ _ (record { within = simp weights (omega arith); single = tt }))))))
   step-bound (body kind first at so-far) =
       says _ (test (not (token sheet (at + 1) is LCurly))
       (λ _. follows (asked (assignment (at + 1)))

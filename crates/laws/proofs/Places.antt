@@ -236,8 +236,7 @@ module _ {N : Type 0} (policy : Policy N) (sheet : Sheet) {ask : Asks N} (g : An
   parenthesized-head-lies : (at : ℕ) → at ≤ length (sheet .kinds) → Reads (Is (head at)) (Inside sheet) (parenthesized-head-of sheet ask at)
   unfolding productions
   parenthesized-head-lies at i =
-      wants sheet _ _ _ (omega arith)
-      (λ t. follows (asked (parameters (at + 1) nil) (omega arith))
+      wants sheet _ _ _ (omega arith) (λ t. follows (asked (parameters (at + 1) nil) (omega arith))
       (λ list rs b. wants sheet _ _ _ (omega arith) (λ t. yields _ _ (b .1 at (no-trees (omega arith))))))
 
   -- every production
@@ -265,8 +264,7 @@ module _ {N : Type 0} (policy : Policy N) (sheet : Sheet) {ask : Asks N} (g : An
       (inside sheet (left .end) (λ k. k is Arrow) refl (and-right (kind-of (tree left) is Row.Identifier) _ t), lie-leaf at (omega arith) (omega arith)))
       (λ _. test (is-assignment-operator (token sheet (left .end)))
       (λ t. last (assign at (left .end) (tree left)) (inside sheet (left .end) is-assignment-operator refl t, lie-first (b .0 .single) (b .1)))
-      (λ _. token-test sheet _ _
-      (λ t. last (conditional at (left .end) (tree left)) (t .here, lie-first (b .0 .single) (b .1)))
+      (λ _. token-test sheet _ _ (λ t. last (conditional at (left .end) (tree left)) (t .here, lie-first (b .0 .single) (b .1)))
       (yields _ _ (b .1))))))
   step-lies (assign first at left) fit =
       let o = lies-order (fit .1) in
@@ -276,8 +274,7 @@ module _ {N : Type 0} (policy : Policy N) (sheet : Sheet) {ask : Asks N} (g : An
   step-lies (conditional first at left) fit =
       let o = lies-order (fit .1) in
       follows (asked (assignment (at + 1)) (omega arith))
-      (λ if-true rs b. wants sheet _ _ _ (omega arith)
-      (λ t. follows (asked (assignment (if-true .end + 1)) (omega arith))
+      (λ if-true rs b. wants sheet _ _ _ (omega arith) (λ t. follows (asked (assignment (if-true .end + 1)) (omega arith))
       (λ if-false more c. yields _ _ (lie-row (omega arith)
       (then-lie at (fit .1) (lie-join {middle = if-true .end} (lie-wide (b .1) (omega arith)) (lie-wide (c .1) (omega arith))))))))
   -- 13.6 to 13.13
@@ -324,13 +321,11 @@ module _ {N : Type 0} (policy : Policy N) (sheet : Sheet) {ask : Asks N} (g : An
       (λ call rs b. last (links first (call .end) (tree call)) (omega arith, lie-first (b .0 .single) (b .1))))
       (yields _ _ (lie-one (fit .1)))))
   step-lies (arguments first at so-far) fit =
-      token-test sheet _ _
-      (λ t. yields _ _ (lie-row (omega arith) (lie-wide (fit .2) (omega arith))))
+      token-test sheet _ _ (λ t. yields _ _ (lie-row (omega arith) (lie-wide (fit .2) (omega arith))))
       (follows (or-spread at 0 (assignment at) (asked (assignment at) (omega arith)) (token sheet at is Dot3) refl)
       (λ argument rs b. token-test sheet _ _
       (λ t. last (arguments first (argument .end + 1) (join so-far (argument .trees))) (omega arith, omega arith, lie-on (fit .2) (b .1) (omega arith)))
-      (wants sheet _ _ _ (omega arith)
-      (λ t. yields _ _ (lie-row (omega arith) (lie-on (fit .2) (b .1) (omega arith)))))))
+      (wants sheet _ _ _ (omega arith) (λ t. yields _ _ (lie-row (omega arith) (lie-on (fit .2) (b .1) (omega arith)))))))
   -- 13.2
   step-lies (primary at) i =
       test (is-name (token sheet at)) (λ t. yields _ _ (lie-leaf at (omega arith) (omega arith)))
@@ -368,8 +363,7 @@ module _ {N : Type 0} (policy : Policy N) (sheet : Sheet) {ask : Asks N} (g : An
       (λ t. follows (asked (assignment (name .end + 1)) (omega arith)) (λ content more c. yields _ _ (lie-row (omega arith) (lie-on (b .1) (c .1) (omega arith)))))))
   step-lies (key at) i =
       test (is-word (token sheet at) or token sheet at is Str or token sheet at is Number) (λ t. yields _ _ (lie-leaf at (omega arith) (omega arith)))
-      (λ _. wants sheet _ _ _ (omega arith)
-      (λ t. follows (asked (assignment (at + 1)) (omega arith))
+      (λ _. wants sheet _ _ _ (omega arith) (λ t. follows (asked (assignment (at + 1)) (omega arith))
       (λ inner rs b. wants sheet _ _ _ (omega arith) (λ t. yields _ _ (lie-row (omega arith) (lie-wide (b .1) (omega arith)))))))
   step-lies (spread at) i = follows (asked (assignment (at + 1)) (omega arith)) (λ argument rs b. yields _ _ (lie-row (omega arith) (lie-wide (b .1) (omega arith))))
   -- 14.3.3

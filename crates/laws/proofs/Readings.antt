@@ -173,8 +173,7 @@ module _ {N : Type 0} (policy : Policy N) (sheet : Sheet) {ask : Asks N} (h : An
       → Reads (Shaped sheet (head at)) Nothing (parenthesized-head-of sheet ask starts)
   unfolding productions
   parenthesized-head-shape at starts o =
-      wants sheet _ _ _ tt
-      (λ t. follows (asked (parameters (starts + 1) nil))
+      wants sheet _ _ _ tt (λ t. follows (asked (parameters (starts + 1) nil))
       (λ list rs b. wants sheet _ _ _ tt
       (λ u. yields _ _ (record { starts = starts; opens = t .kind-is; opening = o; list = b; arrow = u .kind-is }))))
 
@@ -208,8 +207,7 @@ module _ {N : Type 0} (policy : Policy N) (sheet : Sheet) {ask : Asks N} (h : An
       (λ end trees more c. joined b (skip (flat (λ k. k is Arrow) refl refl refl refl refl refl (and-right (kind-of (tree left) is Row.Identifier) _ t)) c)))
       (λ _. test (is-assignment-operator (token sheet (left .end)))
       (λ t. so (asked (assign at (left .end) (tree left))) (λ end trees more c. joined b (skip (assignment-flat t) c)))
-      (λ _. token-test sheet _ _
-      (λ t. so (asked (conditional at (left .end) (tree left))) (λ end trees more c. joined b (before t refl c)))
+      (λ _. token-test sheet _ _ (λ t. so (asked (conditional at (left .end) (tree left))) (λ end trees more c. joined b (before t refl c)))
       (yields _ _ b)))))
   step-shape (assign first at left) =
       follows (target (if token sheet at is Eq then any else simple) at left)
@@ -310,8 +308,7 @@ module _ {N : Type 0} (policy : Policy N) (sheet : Sheet) {ask : Asks N} (h : An
   step-shape (binding-elements first at so-far) =
       token-test sheet _ _ (λ t. yields _ _ (closed-here t refl))
       (token-test sheet _ _ (λ t. so (asked (binding-elements first (at + 1) (join so-far (one (leaf Row.Hole at))))) (λ end trees more c. closed-on (before t refl none) c))
-      (token-test sheet _ _
-      (λ t. follows (rest-shape at t) (λ rest rs b. wants sheet _ _ _ tt (λ u. yields _ _ (closed-after b u refl))))
+      (token-test sheet _ _ (λ t. follows (rest-shape at t) (λ rest rs b. wants sheet _ _ _ tt (λ u. yields _ _ (closed-after b u refl))))
       (follows (asked (binding-element at))
       (λ element rs b. token-test sheet _ _
       (λ t. so (asked (binding-elements first (element .end + 1) (join so-far (element .trees)))) (λ end trees more c. closed-on (after b t refl) c))
@@ -340,8 +337,7 @@ module _ {N : Type 0} (policy : Policy N) (sheet : Sheet) {ask : Asks N} (h : An
       (parenthesized-head-shape at at (bare refl))
   step-shape (parameters at so-far) =
       token-test sheet _ _ (λ t. yields _ _ (closed-here t refl))
-      (token-test sheet _ _
-      (λ t. follows (rest-shape at t) (λ rest rs b. wants sheet _ _ _ tt (λ u. yields _ _ (closed-after b u refl))))
+      (token-test sheet _ _ (λ t. follows (rest-shape at t) (λ rest rs b. wants sheet _ _ _ tt (λ u. yields _ _ (closed-after b u refl))))
       (follows (asked (binding-element at))
       (λ parameter rs b. token-test sheet _ _
       (λ t. so (asked (parameters (parameter .end + 1) (join so-far (parameter .trees)))) (λ end trees more c. closed-on (after b t refl) c))

@@ -509,8 +509,7 @@ module _ {N : Type 0} (policy : Policy N) (sheet : Sheet) {ask : Asks N} (h : An
   parenthesized-head-well : (at : ℕ) → Reads (Is sheet (head at)) Nothing (parenthesized-head-of sheet ask at)
   unfolding productions
   parenthesized-head-well at =
-      wants sheet _ _ _ tt
-      (λ t. follows (asked (parameters (at + 1) nil) no-tree) (λ list rs b. wants sheet _ _ _ tt (λ t. yields _ _ b)))
+      wants sheet _ _ _ tt (λ t. follows (asked (parameters (at + 1) nil) no-tree) (λ list rs b. wants sheet _ _ _ tt (λ t. yields _ _ b)))
 
   arrow-kind : (async : Bool) → IsArrow (if async then Row.AsyncArrow else Row.Arrow)
   arrow-kind async = either-way IsArrow async (λ _. is-async refl) (λ _. is-plain refl)
@@ -540,8 +539,7 @@ module _ {N : Type 0} (policy : Policy N) (sheet : Sheet) {ask : Asks N} (h : An
       (λ t. asked (body Row.Arrow at (left .end) (one (leaf Row.BindingName at))) (is-plain refl, parameter-leaf at))
       (λ _. test (is-assignment-operator (token sheet (left .end)))
       (λ t. asked (assign at (left .end) (tree left)) (sole-first (b .0) .term .well .formed))
-      (λ _. token-test sheet _ _
-      (λ t. asked (conditional at (left .end) (tree left)) (sole-first (b .0) .term .well))
+      (λ _. token-test sheet _ _ (λ t. asked (conditional at (left .end) (tree left)) (sole-first (b .0) .term .well))
       (yields _ _ (sole-so (b .0) (λ t o. term-so (o .term) (wider (λ k. or-left _ _)))))))))
   step-well (assign first at left) f =
       follows (turn-left (token sheet at is Eq) at left f)
@@ -630,8 +628,7 @@ module _ {N : Type 0} (policy : Policy N) (sheet : Sheet) {ask : Asks N} (h : An
       (λ t. follows (asked (assignment (name .end + 1)) tt) (λ content more c. yields _ _ (sole (property-row b (wells c)))))))
   step-well (key at) fit =
       test (is-word (token sheet at) or token sheet at is Str or token sheet at is Number) (λ t. yields _ _ (sole (well-of (leaf-row refl refl) refl)))
-      (λ _. wants sheet _ _ _ tt
-      (λ t. follows (asked (assignment (at + 1)) tt)
+      (λ _. wants sheet _ _ _ tt (λ t. follows (asked (assignment (at + 1)) tt)
       (λ inner rs b. wants sheet _ _ _ tt (λ t. yields _ _ (sole (well-of (row-of-one refl refl (wells b)) refl))))))
   step-well (spread at) fit = follows (asked (assignment (at + 1)) tt) (λ argument rs b. yields _ _ (sole (well-of (row-of-one refl refl (wells b)) refl)))
   -- 14.3.3
@@ -658,8 +655,7 @@ module _ {N : Type 0} (policy : Policy N) (sheet : Sheet) {ask : Asks N} (h : An
       token-test sheet _ _ (λ t. yields _ _ (sole (well-of (row-closable refl refl a) refl)))
       (token-test sheet _ _
       (λ t. follows (asked (binding-rest at) tt)
-      (λ rest rs b. wants sheet _ _ _ tt
-      (λ t. test (kind-of (argument-of (tree rest)) is Row.BindingName)
+      (λ rest rs b. wants sheet _ _ _ tt (λ t. test (kind-of (argument-of (tree rest)) is Row.BindingName)
       (λ e. yields _ _ (sole (well-of (row-closed refl refl a (name-rest-well b e)) refl)))
       (λ _. refuses _ tt))))
       (follows (asked (binding-property at) tt)
@@ -676,8 +672,7 @@ module _ {N : Type 0} (policy : Policy N) (sheet : Sheet) {ask : Asks N} (h : An
       (λ t. follows (asked (binding-element (name .end + 1)) tt) (λ content more c. yields _ _ (sole (binding-property-row b c))))))
   step-well (binding-rest at) fit = follows (asked (binding-element (at + 1)) tt) (λ argument rs b. says _ (yields _ _ (sole (rest-over-sole b))))
   step-well (head at) fit =
-      token-test sheet _ _
-      (λ t. test (not (break-before sheet (at + 1))) (λ _. parenthesized-head-well (at + 1)) (λ _. refuses _ tt))
+      token-test sheet _ _ (λ t. test (not (break-before sheet (at + 1))) (λ _. parenthesized-head-well (at + 1)) (λ _. refuses _ tt))
       (parenthesized-head-well at)
   step-well (parameters at so-far) a =
       token-test sheet _ _ (λ t. yields _ _ (parameters-are a))
