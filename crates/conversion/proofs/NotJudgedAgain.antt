@@ -7,16 +7,17 @@ use mathlib.Core.Bool.{true}
 use mathlib.Core.List.{[]}
 use Rattle.rows.specs.Row as row
 use Rattle.rows.specs.Shape.{is-listed, is-left-hand-side, is-unary, is-binary, is-logical, is-assignment, is-simple-target, is-target, only, nothing, shape-of, least, may-be, may-end, fits, last-kind, all-fit, is-shaped, well-formed, all-well-formed}
-use Rattle.rows.specs.Tree.{Tree, Forest, node, nil, cons, one, count, kind-of, first-of, kids-of}
-use Rattle.conversion.specs.Conversion.{turned, change, roles, over, both, inner-kind, inner-kinds, seen, as-any, as-simple, as-value, as-element, as-last-element, as-property, as-last-property, as-name, convert-as, convert-kids, convert}
+use Rattle.rows.specs.Tree.{Tree, Forest, node, nil, cons, one, kids-of}
+use Rattle.conversion.specs.Conversion.{turned, convert}
+use Rattle.conversion.proofs.KidRoles.{conversion}
 use Rattle.conversion.specs.TargetRule.{Target, simple, member, array, next-element, no-elements, bare, initialized}
 
 -- a row whose mark is its first token
-abbrev plain : ℕ → ℕ → ℕ → Forest → Tree
+abbrev pub plain : ℕ → ℕ → ℕ → Forest → Tree
 plain kind first end kids = node kind first first end kids
 
 -- a row of one token
-abbrev leaf : ℕ → ℕ → Tree
+abbrev pub leaf : ℕ → ℕ → Tree
 leaf kind at = plain kind at (at + 1) nil
 
 -- an array of one element that is an Assign of the name b; converted, a TargetArray of a TargetDefault
@@ -70,7 +71,7 @@ pub record NotJudgedAgain : Type 0 where
 
 -- THE STATEMENT
 pub not-judged-again : NotJudgedAgain
-unfolding convert-as convert-kids change as-any as-simple as-value as-element as-last-element as-property as-last-property as-name seen roles over both count kind-of inner-kind inner-kinds first-of kids-of is-listed is-left-hand-side is-unary is-binary is-logical is-assignment is-simple-target is-target only nothing shape-of least may-be may-end fits last-kind all-fit is-shaped well-formed all-well-formed
+unfolding conversion kids-of is-listed is-left-hand-side is-unary is-binary is-logical is-assignment is-simple-target is-target only nothing shape-of least may-be may-end fits last-kind all-fit is-shaped well-formed all-well-formed
 not-judged-again =
     record {
       rest = record { formed = refl; ruled = array (next-element initialized no-elements); converts = refl };

@@ -1,20 +1,20 @@
 -- Conversion and the target rule agree on every tree: a row converts with neither refusal nor record exactly if the rule holds.
 -- Assumes nothing.
 use Prim.Native.Nat.{ℕ, _+_}
-use mathlib.Core.Path.{_≡_, refl, ap, _∙_}
+use mathlib.Core.Path.{_≡_, refl, sym, ap, _∙_}
 use mathlib.Core.Logic.{_↔_}
 use mathlib.Core.Bool.{Bool, true, false, not}
 use mathlib.Core.List.{List, [], _∷_, _++_}
 use native.Mathlib.Omega.{arith}
 use lib.Dec.{eqb}
 use borrow.Author.Tests.{eqb-true, ne-eqb}
-use Rattle.tokens.specs.Bool.{if_then_else_, _and_, _or_}
+use Rattle.tokens.specs.Bool.{if_then_else_, _and_}
 use Rattle.tokens.specs.declared.cause.Cause.{Cause}
 use Rattle.rows.specs.Row as row
 use Rattle.rows.specs.Tree.{Tree, Forest, node, nil, cons, one, count, kind-of}
 use Rattle.rows.specs.Record.{Record}
-use Rattle.conversion.specs.Conversion.{Outcome, turned, refused, Role, Change, refuse, keep, turn, only, is-array-or-object, is-reference, last-of, inner-kind, inner-kinds, array-argument, object-argument, seen, as-simple, as-any, as-value, as-element, as-last-element, as-property, as-last-property, as-name, change, roles, over, both, convert-as, convert-kids, convert}
-use Rattle.conversion.proofs.KidRoles.{elements, properties, key-and-value, name-and-initializer}
+use Rattle.conversion.specs.Conversion.{Outcome, turned, refused, Role, Change, refuse, keep, turn, only, each, is-array-or-object, is-reference, last-of, inner-kind, inner-kinds, array-argument, object-argument, seen, as-simple, as-any, as-value, as-element, as-last-element, as-property, as-last-property, as-name, change, roles, over, both, convert-as, convert-kids, convert}
+use Rattle.conversion.proofs.KidRoles.{conversion, elements, properties, key-and-value, name-and-initializer}
 use Rattle.conversion.specs.TargetRule.{Simple, identifier, member, index, parenthesized, Target, simple, array, object, Elements, no-elements, elision, next-element, rest-element, Element, bare, initialized, Properties, no-properties, next-property, rest-property, Property, reference, reference-initialized, pair}
 
 abbrev ends-in-spread : Forest → Bool
@@ -50,14 +50,14 @@ references index = refl
 references (parenthesized s) = references s
 
 simple-any : {t : Tree} → Simple t → change Role.any (seen t) ≡ change Role.simple (seen t)
-unfolding change as-any as-simple as-value as-element as-last-element as-property as-last-property as-name seen
+unfolding conversion
 simple-any identifier = refl
 simple-any member = refl
 simple-any index = refl
 simple-any (parenthesized s) = refl
 
 simple-clean : {t : Tree} → Simple t → Clean t Role.simple
-unfolding convert-as convert-kids change as-any as-simple as-value as-element as-last-element as-property as-last-property as-name seen roles over both count
+unfolding conversion
 simple-clean identifier = record { made = _; is = refl }
 simple-clean member = record { made = _; is = refl }
 simple-clean index = record { made = _; is = refl }
@@ -75,18 +75,18 @@ rest-kinds (array d) = refl
 rest-kinds (object d) = refl
 
 -- an AssignmentElement is the same among others, and last
-element-value : {t : Tree} → Element t → change Role.element (seen t) ≡ change Role.value (seen t)
-unfolding change as-any as-simple as-value as-element as-last-element as-property as-last-property as-name seen
-element-value (bare (simple identifier)) = refl
-element-value (bare (simple member)) = refl
-element-value (bare (simple index)) = refl
-element-value (bare (simple (parenthesized s))) = refl
-element-value (bare (array d)) = refl
-element-value (bare (object d)) = refl
-element-value initialized = refl
+element-value : {t : Tree} → Element t → (change Role.element (seen t) ≡ change Role.value (seen t)) × (change (Role.last-element []) (seen t) ≡ change Role.value (seen t))
+unfolding conversion
+element-value (bare (simple identifier)) = (refl, refl)
+element-value (bare (simple member)) = (refl, refl)
+element-value (bare (simple index)) = (refl, refl)
+element-value (bare (simple (parenthesized s))) = (refl, refl)
+element-value (bare (array d)) = (refl, refl)
+element-value (bare (object d)) = (refl, refl)
+element-value initialized = (refl, refl)
 
 target-value : {t : Tree} → Target t → change Role.value (seen t) ≡ change Role.any (seen t)
-unfolding change as-any as-simple as-value as-element as-last-element as-property as-last-property as-name seen
+unfolding conversion
 target-value (simple identifier) = refl
 target-value (simple member) = refl
 target-value (simple index) = refl
@@ -94,136 +94,80 @@ target-value (simple (parenthesized s)) = refl
 target-value (array d) = refl
 target-value (object d) = refl
 
-last-value : {t : Tree} → Element t → change (Role.last-element []) (seen t) ≡ change Role.value (seen t)
-unfolding change as-any as-simple as-value as-element as-last-element as-property as-last-property as-name seen
-last-value (bare (simple identifier)) = refl
-last-value (bare (simple member)) = refl
-last-value (bare (simple index)) = refl
-last-value (bare (simple (parenthesized s))) = refl
-last-value (bare (array d)) = refl
-last-value (bare (object d)) = refl
-last-value initialized = refl
-
 last-property : {t : Tree} → Property t → change (Role.last-property []) (seen t) ≡ change Role.property (seen t)
-unfolding change as-any as-simple as-value as-element as-last-element as-property as-last-property as-name seen
+unfolding conversion
 last-property reference = refl
 last-property reference-initialized = refl
 last-property (pair e) = refl
 
--- a role that is one of two
-either : {t : Tree} {r s : Role} (b : Bool) → Clean t r → Clean t s → Clean t (if b then r else s)
-either true c d = c
-either false c d = d
+-- a test, either way
+pub either-way : {A : Type 0} (P : A → Type 0) (b : Bool) {x y : A} → (b ≡ true → P x) → (b ≡ false → P y) → P (if b then x else y)
+either-way P true p q = p refl
+either-way P false p q = q refl
 
 cons-clean : {t : Tree} {ts : Forest} (each : ℕ → Role) → Clean t (each (count ts)) → CleanKids ts each → CleanKids (cons t ts) each
 unfolding convert-kids both
 cons-clean {t} {ts} each c d = record { made = cons (c .made) (d .made); is = rw (c .is, d .is) }
 
-one-clean : {t : Tree} (each : ℕ → Role) → Clean t (each 0) → CleanKids (one t) each
-unfolding convert-kids both count
-one-clean {t} each c = record { made = one (c .made); is = rw (c .is) }
-
-no-kids-clean : (each : ℕ → Role) → CleanKids nil each
-unfolding convert-kids
-no-kids-clean each = record { made = nil; is = refl }
-
-array-clean : (mark first end : ℕ) {ts : Forest} → CleanKids ts (elements []) → Clean (node row.Array mark first end ts) Role.any
-unfolding convert-as change as-any as-simple as-value as-element as-last-element as-property as-last-property as-name seen roles over
-array-clean mark first end c = record { made = node row.TargetArray mark first end (c .made); is = rw (c .is) }
-
-object-clean : (mark first end : ℕ) {ts : Forest} → CleanKids ts (properties []) → Clean (node row.Object mark first end ts) Role.any
-unfolding convert-as change as-any as-simple as-value as-element as-last-element as-property as-last-property as-name seen roles over
-object-clean mark first end c = record { made = node row.TargetObject mark first end (c .made); is = rw (c .is) }
-
-hole-clean : (mark first end : ℕ) (kids : Forest) (after : ℕ) → Clean (node row.Hole mark first end kids) (elements [] after)
-unfolding convert-as change as-any as-simple as-value as-element as-last-element as-property as-last-property as-name seen roles over
-hole-clean mark first end kids after = either (eqb after 0) (record { made = _; is = refl }) (record { made = _; is = refl })
-
-initialized-clean : (mark first end : ℕ) (kids : Forest) → Clean (node row.Assign mark first end kids) Role.value
-unfolding convert-as change as-any as-simple as-value as-element as-last-element as-property as-last-property as-name seen roles over
-initialized-clean mark first end kids = record { made = _; is = refl }
-
-rest-clean : (mark first end : ℕ) {t : Tree} → Target t → Clean t Role.any → CleanKids (one (node row.Spread mark first end (one t))) (elements [])
-unfolding convert-as convert-kids change as-any as-simple as-value as-element as-last-element as-property as-last-property as-name seen roles over both count
-rest-clean mark first end d c = record { made = one (node row.TargetRest mark first end (one (c .made))); is = rw (rest-kinds d, c .is) }
-
-rest-property-clean : (mark first end : ℕ) {t : Tree} → Simple t → CleanKids (one (node row.Spread mark first end (one t))) (properties [])
-unfolding convert-as convert-kids change as-any as-simple as-value as-element as-last-element as-property as-last-property as-name seen roles over both count
-rest-property-clean mark first end {t} s =
-    let c : Clean t Role.any = as-alike (simple-any s) (simple-clean s) in
-    record { made = one (node row.TargetRest mark first end (one (c .made))); is = rw (references s, c .is) }
-
-pair-clean : (mark first end : ℕ) (key : Tree) {t : Tree} → Clean t Role.value → Clean (node row.Property mark first end (cons key (one t))) Role.property
-unfolding convert-as convert-kids change as-any as-simple as-value as-element as-last-element as-property as-last-property as-name seen roles over both count kind-of
-pair-clean mark first end (node k m f e kids) c =
-    record { made = node row.TargetProperty mark first end (cons (node k m f e kids) (one (c .made))); is = rw (c .is) }
-
-reference-clean : (mark first end mark′ first′ end′ : ℕ) (kids : Forest)
-    → Clean (node row.Shorthand mark first end (one (node row.Identifier mark′ first′ end′ kids))) Role.property
-unfolding convert-as convert-kids change as-any as-simple as-value as-element as-last-element as-property as-last-property as-name seen roles over both count
-reference-clean mark first end mark′ first′ end′ kids = record { made = _; is = refl }
-
-reference-initialized-clean : (mark first end mark′ first′ end′ : ℕ) (kids : Forest) (t : Tree)
-    → Clean (node row.ShorthandInit mark first end (cons (node row.Identifier mark′ first′ end′ kids) (one t))) Role.property
-unfolding convert-as convert-kids change as-any as-simple as-value as-element as-last-element as-property as-last-property as-name seen roles over both count kind-of
-reference-initialized-clean mark first end mark′ first′ end′ kids (node k m f e ts) = record { made = _; is = refl }
+-- a key or an initializer
+stays : (t : Tree) → convert-as t Role.same ≡ turned t []
+unfolding conversion
+stays (node kind mark first end kids) = refl
 
 mutual
+  unfolding conversion
+
   target-clean : {t : Tree} → Target t → Clean t Role.any
   target-clean (simple s) = as-alike (simple-any s) (simple-clean s)
-  target-clean (array {mark} {first} {end} d) = array-clean mark first end (elements-clean d)
-  target-clean (object {mark} {first} {end} d) = object-clean mark first end (properties-clean d)
+  target-clean (array {mark} {first} {end} d) = let c = elements-clean d in record { made = node row.TargetArray mark first end (c .made); is = rw (c .is) }
+  target-clean (object {mark} {first} {end} d) = let c = properties-clean d in record { made = node row.TargetObject mark first end (c .made); is = rw (c .is) }
 
   elements-clean : {ts : Forest} → Elements ts → CleanKids ts (elements [])
-  elements-clean no-elements = no-kids-clean (elements [])
-  elements-clean (elision {mark} {first} {end} {kids} {ts} d) = cons-clean (elements []) (hole-clean mark first end kids (count ts)) (elements-clean d)
+  elements-clean no-elements = record { made = nil; is = refl }
+  elements-clean (elision {ts = ts} d) = cons-clean (elements []) (either-way (Clean _) (eqb (count ts) 0) (λ _. record { made = _; is = refl }) (λ _. record { made = _; is = refl })) (elements-clean d)
   elements-clean (next-element {t} {ts} e d) =
       let c = element-clean e in
-      cons-clean (elements []) (either (eqb (count ts) 0) (as-alike (last-value e) c) (as-alike (element-value e) c)) (elements-clean d)
-  elements-clean (rest-element {mark} {first} {end} d) = rest-clean mark first end d (target-clean d)
+      cons-clean (elements []) (either-way (Clean t) (eqb (count ts) 0) (λ _. as-alike (element-value e .1) c) (λ _. as-alike (element-value e .0) c)) (elements-clean d)
+  elements-clean (rest-element {mark} {first} {end} d) =
+      let c = target-clean d in record { made = one (node row.TargetRest mark first end (one (c .made))); is = rw (rest-kinds d, c .is) }
 
   element-clean : {t : Tree} → Element t → Clean t Role.value
   element-clean (bare d) = as-alike (target-value d) (target-clean d)
-  element-clean (initialized {mark} {first} {end} {kids}) = initialized-clean mark first end kids
+  element-clean initialized = record { made = _; is = refl }
 
   properties-clean : {ts : Forest} → Properties ts → CleanKids ts (properties [])
-  properties-clean no-properties = no-kids-clean (properties [])
+  properties-clean no-properties = record { made = nil; is = refl }
   properties-clean (next-property {t} {ts} e d) =
       let c = property-clean e in
-      cons-clean (properties []) (either (eqb (count ts) 0) (as-alike (last-property e) c) c) (properties-clean d)
-  properties-clean (rest-property {mark} {first} {end} s) = rest-property-clean mark first end s
+      cons-clean (properties []) (either-way (Clean t) (eqb (count ts) 0) (λ _. as-alike (last-property e) c) (λ _. c)) (properties-clean d)
+  properties-clean (rest-property {mark} {first} {end} {t} s) =
+      let c : Clean t Role.any = as-alike (simple-any s) (simple-clean s) in
+      record { made = one (node row.TargetRest mark first end (one (c .made))); is = rw (references s, c .is) }
 
   property-clean : {t : Tree} → Property t → Clean t Role.property
-  property-clean (reference {mark} {first} {end} {mark′} {first′} {end′} {kids}) = reference-clean mark first end mark′ first′ end′ kids
+  property-clean reference = record { made = _; is = refl }
   property-clean (reference-initialized {mark} {first} {end} {mark′} {first′} {end′} {kids} {initializer}) =
-      reference-initialized-clean mark first end mark′ first′ end′ kids initializer
-  property-clean (pair {mark} {first} {end} {key} e) = pair-clean mark first end key (element-clean e)
+      record { made = node row.TargetShorthandInit mark first end (cons (node row.TargetName mark′ first′ end′ kids) (one initializer)); is = rw (stays initializer) }
+  property-clean (pair {mark} {first} {end} {key} e) =
+      let c = element-clean e in record { made = node row.TargetProperty mark first end (cons key (one (c .made))); is = rw (stays key, c .is) }
 
 -- What the rule says of a row in a role.
 data Slot (t : Tree) : Type 0 where
   hole : kind-of t ≡ row.Hole → Slot t
   slot : Element t → Slot t
 
--- a Spread of one argument
-record Rest (t : Tree) (P : Tree → Type 0) : Type 0 where
-  mark : ℕ
-  first : ℕ
-  end : ℕ
-  argument : Tree
-  is : t ≡ node row.Spread mark first end (one argument)
-  holds : P argument
-
-data Last (comma : List Record) (t : Tree) (P Q : Tree → Type 0) : Type 0 where
-  one-more : P t → Last comma t P Q
-  rest : comma ≡ [] → Rest t Q → Last comma t P Q
+-- the last kid: one more, or a Spread of one argument
+data Last (comma : List Record) (P Q : Tree → Type 0) : Tree → Type 0 where
+  one-more : {t : Tree} → P t → Last comma P Q t
+  rest : {mark first end : ℕ} {t : Tree} → comma ≡ [] → Q t → Last comma P Q (node row.Spread mark first end (one t))
 
 abbrev Ruled : Role → Tree → Type 0
 Ruled Role.any t = Target t
 Ruled Role.simple t = Simple t
 Ruled Role.element t = Slot t
-Ruled (Role.last-element comma) t = Last comma t Slot Target
+Ruled (Role.last-element comma) t = Last comma Slot Target t
 Ruled Role.property t = Property t
-Ruled (Role.last-property comma) t = Last comma t Property Simple
+Ruled (Role.last-property comma) t = Last comma Property Simple t
 Ruled Role.value t = Element t
 Ruled Role.name t = kind-of t ≡ row.Identifier
 Ruled Role.same t = Unit {0}
@@ -290,17 +234,21 @@ gone (goes b a r) = (b, a, r)
 kept-none : {kids : Forest} {k : ℕ} {records : List Record} → Step kids (keep k records) → records ≡ []
 kept-none (kept e) = e
 
--- what is known of an only kid, and of two kids
-of-one : (kids : Forest) (t : Tree) (each : ℕ → Role) → kids ≡ one t → RuledKids each kids → Ruled (each 0) t
-unfolding RuledKids count
-of-one kids t each e r = (rw e at r) .0
+module _ (k m f e : ℕ) (kids : Forest) (P : Tree → Type 0) (kind : ℕ) (each : ℕ → Role) (r : RuledKids each kids) where
+  -- a row of a kind, over one kid or two of the rule
+  over-one : eqb k kind and eqb (count kids) 1 ≡ true → ((t : Tree) → kids ≡ one t → Ruled (each 0) t → P (node kind m f e (one t))) → P (node k m f e kids)
+  unfolding RuledKids count
+  over-one is h =
+      let a = both-true (eqb k kind) _ is in
+      let q = one-kid kids (a .1) in
+      rw (eqb-true k kind (a .0), q .1) (h (q .0) (q .1) ((rw (q .1) at r) .0))
 
-of-two : (kids : Forest) (t u : Tree) (each : ℕ → Role) → kids ≡ cons t (one u) → RuledKids each kids → Ruled (each 1) t × Ruled (each 0) u
-unfolding RuledKids count
-of-two kids t u each e r = ((rw e at r) .0, (rw e at r) .1 .0)
-
-same-node : (m f e : ℕ) {k k′ : ℕ} {kids kids′ : Forest} → k ≡ k′ → kids ≡ kids′ → node k m f e kids ≡ node k′ m f e kids′
-same-node m f e p q = cc
+  over-two : eqb k kind and eqb (count kids) 2 ≡ true → ((t u : Tree) → Ruled (each 1) t → Ruled (each 0) u → P (node kind m f e (cons t (one u)))) → P (node k m f e kids)
+  unfolding RuledKids count
+  over-two is h =
+      let a = both-true (eqb k kind) _ is in
+      let q = two-kids kids (a .1) in
+      rw (eqb-true k kind (a .0), q .2) (h (q .0) (q .1) ((rw (q .2) at r) .0) ((rw (q .2) at r) .1 .0))
 
 rule-simple : (k m f e : ℕ) (kids : Forest) → Step kids (as-simple (seen (node k m f e kids))) → Simple (node k m f e kids)
 unfolding as-simple seen
@@ -309,10 +257,7 @@ rule-simple k m f e kids s =
     (λ _ s. by-test (Step kids) (eqb k row.Member) s (λ is _. rw (eqb-true k _ is) member)
     (λ _ s. by-test (Step kids) (eqb k row.Index) s (λ is _. rw (eqb-true k _ is) index)
     (λ _ s. by-test (Step kids) ((eqb k row.Paren and eqb (count kids) 1) and not (is-array-or-object (kind-of (last-of kids)))) s
-    (λ is s.
-    let a = both-true (eqb k row.Paren) _ (both-true (eqb k row.Paren and eqb (count kids) 1) _ is .0) in
-    let q = one-kid kids (a .1) in
-    rw (eqb-true k _ (a .0), q .1) (parenthesized (of-one kids (q .0) (only Role.simple) (q .1) (gone s .2))))
+    (λ is s. over-one k m f e kids Simple row.Paren (only Role.simple) (gone s .2) (both-true (eqb k row.Paren and eqb (count kids) 1) _ is .0) (λ t q r. parenthesized r))
     (λ _ s. absurd (nothing s)))))
 
 -- no rule gives a Spread but as a rest, and a rest with a comma after it is not clean
@@ -340,21 +285,15 @@ property-no-spread reference e = omega arith
 property-no-spread reference-initialized e = omega arith
 property-no-spread (pair d) e = omega arith
 
-last-no-spread : {t : Tree} {r : Record} {P Q : Tree → Type 0} → (P t → kind-of t ≡ row.Spread → ⊥) → Last (r ∷ []) t P Q → kind-of t ≡ row.Spread → ⊥
+last-no-spread : {t : Tree} {r : Record} {P Q : Tree → Type 0} → (P t → kind-of t ≡ row.Spread → ⊥) → Last (r ∷ []) P Q t → kind-of t ≡ row.Spread → ⊥
 last-no-spread h (one-more p) e = h p e
 last-no-spread h (rest c q) e = let z : _≡_ {A = ℕ} 0 1 = cc in omega arith
 
-no-rest-comma : (ts : Forest) (r : Record) → ends-in-spread ts ≡ true → RuledKids (elements (r ∷ [])) ts → ⊥
+no-rest-comma : (others last : Role) → ((t : Tree) → Ruled last t → kind-of t ≡ row.Spread → ⊥) → (ts : Forest) → ends-in-spread ts ≡ true → RuledKids (each others last) ts → ⊥
 unfolding RuledKids kind-of count
-no-rest-comma nil r e k = let z : _≡_ {A = ℕ} 0 1 = cc in omega arith
-no-rest-comma (cons t nil) r e k = last-no-spread slot-no-spread (k .0) (eqb-true _ _ e)
-no-rest-comma (cons t (cons u us)) r e k = no-rest-comma (cons u us) r e (k .1)
-
-no-rest-comma-property : (ts : Forest) (r : Record) → ends-in-spread ts ≡ true → RuledKids (properties (r ∷ [])) ts → ⊥
-unfolding RuledKids kind-of count
-no-rest-comma-property nil r e k = let z : _≡_ {A = ℕ} 0 1 = cc in omega arith
-no-rest-comma-property (cons t nil) r e k = last-no-spread property-no-spread (k .0) (eqb-true _ _ e)
-no-rest-comma-property (cons t (cons u us)) r e k = no-rest-comma-property (cons u us) r e (k .1)
+no-rest-comma others last h nil e k = let z : _≡_ {A = ℕ} 0 1 = cc in omega arith
+no-rest-comma others last h (cons t nil) e k = h t (k .0) (eqb-true _ _ e)
+no-rest-comma others last h (cons t (cons u us)) e k = no-rest-comma others last h (cons u us) e (k .1)
 
 -- another kid follows
 pub follows : (n : ℕ) → eqb (n + 1) 0 ≡ false
@@ -370,9 +309,9 @@ unfolding RuledKids count
 elements-ruled nil k = no-elements
 elements-ruled (cons t nil) k = last (k .0)
   where
-    last : Last [] t Slot Target → Elements (one t)
-    last (one-more p) = next-slot t p no-elements
-    last (rest c q) = rw (q .is) (rest-element (q .holds))
+    last : {t : Tree} → Last [] Slot Target t → Elements (one t)
+    last (one-more {t} p) = next-slot t p no-elements
+    last (rest c q) = rest-element q
 elements-ruled (cons t (cons u us)) k = next-slot t (rw (follows (count us)) at (k .0)) (elements-ruled (cons u us) (k .1))
 
 properties-ruled : (ts : Forest) → RuledKids (properties []) ts → Properties ts
@@ -380,9 +319,9 @@ unfolding RuledKids count
 properties-ruled nil k = no-properties
 properties-ruled (cons t nil) k = last (k .0)
   where
-    last : Last [] t Property Simple → Properties (one t)
+    last : {t : Tree} → Last [] Property Simple t → Properties (one t)
     last (one-more p) = next-property p no-properties
-    last (rest c q) = rw (q .is) (rest-property (q .holds))
+    last (rest c q) = rest-property q
 properties-ruled (cons t (cons u us)) k = next-property (rw (follows (count us)) at (k .0)) (properties-ruled (cons u us) (k .1))
 
 rule-any : (k m f e : ℕ) (kids : Forest) → Step kids (as-any (seen (node k m f e kids))) → Target (node k m f e kids)
@@ -390,10 +329,10 @@ unfolding as-any seen
 rule-any k m f e kids s =
     by-test (Step kids) (eqb k row.Array) s (λ is s. rw (eqb-true k _ is) (array (elements-ruled kids (gone s .2))))
     (λ _ s. by-test (Step kids) (eqb k row.ArrayRestComma and ends-in-spread kids) s
-    (λ is s. absurd (no-rest-comma kids _ (both-true (eqb k row.ArrayRestComma) _ is .1) (gone s .2)))
+    (λ is s. absurd (no-rest-comma Role.element (Role.last-element (_ ∷ [])) (λ t l. last-no-spread slot-no-spread l) kids (both-true (eqb k row.ArrayRestComma) _ is .1) (gone s .2)))
     (λ _ s. by-test (Step kids) (eqb k row.Object) s (λ is s. rw (eqb-true k _ is) (object (properties-ruled kids (gone s .2))))
     (λ _ s. by-test (Step kids) (eqb k row.ObjectRestComma and ends-in-spread kids) s
-    (λ is s. absurd (no-rest-comma-property kids _ (both-true (eqb k row.ObjectRestComma) _ is .1) (gone s .2)))
+    (λ is s. absurd (no-rest-comma Role.property (Role.last-property (_ ∷ [])) (λ t l. last-no-spread property-no-spread l) kids (both-true (eqb k row.ObjectRestComma) _ is .1) (gone s .2)))
     (λ _ s. simple (rule-simple k m f e kids s)))))
 
 rule-value : (k m f e : ℕ) (kids : Forest) → Step kids (as-value (seen (node k m f e kids))) → Element (node k m f e kids)
@@ -409,22 +348,11 @@ rule-element k m f e kids s =
     by-test (Step kids) (eqb k row.Hole) s (λ is _. hole (eqb-true k _ is))
     (λ _ s. by-test (Step kids) (eqb k row.Spread) s (λ _ s. absurd (nothing s)) (λ _ s. slot (rule-value k m f e kids s)))
 
-rule-last-element : (comma : List Record) (k m f e : ℕ) (kids : Forest) → Step kids (as-last-element comma (seen (node k m f e kids))) → Last comma (node k m f e kids) Slot Target
+rule-last-element : (comma : List Record) (k m f e : ℕ) (kids : Forest) → Step kids (as-last-element comma (seen (node k m f e kids))) → Last comma Slot Target (node k m f e kids)
 unfolding as-last-element seen
 rule-last-element comma k m f e kids s =
     by-test (Step kids) (eqb k row.Spread and eqb (count kids) 1) s
-    (λ is s.
-    let a = both-true (eqb k row.Spread) _ is in
-    let q = one-kid kids (a .1) in
-    rest (gone s .1)
-    (record {
-      mark = m;
-      first = f;
-      end = e;
-      argument = q .0;
-      is = same-node m f e (eqb-true k _ (a .0)) (q .1);
-      holds = of-one kids (q .0) (only Role.any) (q .1) (gone s .2);
-    }))
+    (λ is s. over-one k m f e kids (Last comma Slot Target) row.Spread (only Role.any) (gone s .2) is (λ t q r. rest (gone s .1) r))
     (λ _ s. one-more (rule-element k m f e kids s))
 
 rule-name : (k m f e : ℕ) (kids : Forest) → Step kids (as-name (seen (node k m f e kids))) → k ≡ row.Identifier
@@ -443,20 +371,11 @@ rule-property : (k m f e : ℕ) (kids : Forest) → Step kids (as-property (seen
 unfolding as-property seen
 rule-property k m f e kids s =
     by-test (Step kids) (eqb k row.Shorthand and eqb (count kids) 1) s
-    (λ is s.
-    let a = both-true (eqb k row.Shorthand) _ is in
-    let q = one-kid kids (a .1) in
-    rw (eqb-true k _ (a .0), q .1) (shorthand m f e (q .0) (of-one kids (q .0) (only Role.name) (q .1) (gone s .2))))
+    (λ is s. over-one k m f e kids Property row.Shorthand (only Role.name) (gone s .2) is (λ t q r. shorthand m f e t r))
     (λ _ s. by-test (Step kids) (eqb k row.ShorthandInit and eqb (count kids) 2) s
-    (λ is s.
-    let a = both-true (eqb k row.ShorthandInit) _ is in
-    let q = two-kids kids (a .1) in
-    rw (eqb-true k _ (a .0), q .2) (shorthand-initialized m f e (q .0) (q .1) (of-two kids (q .0) (q .1) name-and-initializer (q .2) (gone s .2) .0)))
+    (λ is s. over-two k m f e kids Property row.ShorthandInit name-and-initializer (gone s .2) is (λ t u r _. shorthand-initialized m f e t u r))
     (λ _ s. by-test (Step kids) (eqb k row.Property and eqb (count kids) 2) s
-    (λ is s.
-    let a = both-true (eqb k row.Property) _ is in
-    let q = two-kids kids (a .1) in
-    rw (eqb-true k _ (a .0), q .2) (pair (of-two kids (q .0) (q .1) key-and-value (q .2) (gone s .2) .1)))
+    (λ is s. over-two k m f e kids Property row.Property key-and-value (gone s .2) is (λ t u _ r. pair r))
     (λ _ s. by-test (Step kids) (eqb k row.Spread) s (λ _ s. absurd (nothing s)) (λ _ s. absurd (nothing s)))))
 
 -- through Parens a reference, and simple or a literal: then it is simple
@@ -467,24 +386,13 @@ simple-argument (array d) e = let z : _≡_ {A = ℕ} 0 1 = cc in absurd (omega 
 simple-argument (object d) e = let z : _≡_ {A = ℕ} 0 1 = cc in absurd (omega arith)
 
 rule-last-property : (comma : List Record) (k m f e : ℕ) (kids : Forest) → Step kids (as-last-property comma (seen (node k m f e kids)))
-    → Last comma (node k m f e kids) Property Simple
+    → Last comma Property Simple (node k m f e kids)
 unfolding as-last-property seen
 rule-last-property comma k m f e kids s =
     by-test (Step kids) (eqb k row.Spread and eqb (count kids) 1) s
     (λ is s.
-    let a = both-true (eqb k row.Spread) _ is in
-    let q = one-kid kids (a .1) in
     let b = append-nil (object-argument (last-of kids)) comma (gone s .0) in
-    let none : object-argument (q .0) ≡ [] = rw (q .1) at (b .0) in
-    rest (b .1)
-    (record {
-      mark = m;
-      first = f;
-      end = e;
-      argument = q .0;
-      is = same-node m f e (eqb-true k _ (a .0)) (q .1);
-      holds = simple-argument (of-one kids (q .0) (only Role.any) (q .1) (gone s .2)) none;
-    }))
+    over-one k m f e kids (Last comma Property Simple) row.Spread (only Role.any) (gone s .2) is (λ t q r. rest (b .1) (simple-argument r (rw q at (b .0)))))
     (λ _ s. one-more (rule-property k m f e kids s))
 
 rule-of : (role : Role) (k m f e : ℕ) (kids : Forest) → Step kids (change role (seen (node k m f e kids))) → Ruled role (node k m f e kids)
@@ -499,14 +407,44 @@ rule-of Role.value k m f e kids s = rule-value k m f e kids s
 rule-of Role.name k m f e kids s = rule-name k m f e kids s
 rule-of Role.same k m f e kids s = tt
 
-both-clean : (x : Outcome Tree) (y : Outcome Forest) (ts′ : Forest) → both x y ≡ turned ts′ [] → (t : Tree) × (us : Forest) × (x ≡ turned t []) × (y ≡ turned us [])
+-- what an outcome holds
+pub turned-is : {A : Type 0} {a b : A} {rs ss : List Record} → turned a rs ≡ turned b ss → a ≡ b
+turned-is e = cc
+
+pub turned-records : {A : Type 0} {a b : A} {rs ss : List Record} → turned a rs ≡ turned b ss → rs ≡ ss
+turned-records e = cc
+
+-- what comes of a row and of those after it
+pub record Both (x : Outcome Tree) (y : Outcome Forest) (ts′ : Forest) (rs : List Record) : Type 0 where
+  pub one : Tree
+  pub first : List Record
+  pub rest : Forest
+  pub later : List Record
+  pub one-is : x ≡ turned one first
+  pub rest-is : y ≡ turned rest later
+  pub made : ts′ ≡ cons one rest
+  pub records : rs ≡ first ++ later
+
+pub both-parts : (x : Outcome Tree) (y : Outcome Forest) (ts′ : Forest) (rs : List Record) → both x y ≡ turned ts′ rs → Both x y ts′ rs
 unfolding both
-both-clean (refused c) y ts′ e = absurd (refused-turned e)
-both-clean (turned t rs) (refused c) ts′ e = absurd (refused-turned e)
-both-clean (turned t rs) (turned us more) ts′ e =
-    let all : rs ++ more ≡ [] = cc in
-    let a = append-nil rs more all in
-    (t, us, ap (turned t) (a .0), ap (turned us) (a .1))
+both-parts (refused c) y ts′ rs h = absurd (refused-turned h)
+both-parts (turned t ss) (refused c) ts′ rs h = absurd (refused-turned h)
+both-parts (turned t ss) (turned us vs) ts′ rs h =
+    record {
+      one = t;
+      first = ss;
+      rest = us;
+      later = vs;
+      one-is = refl;
+      rest-is = refl;
+      made = sym (turned-is h);
+      records = sym (turned-records h);
+    }
+
+pub cons-parts : (t : Tree) (ts : Forest) (each : ℕ → Role) (ts′ : Forest) (rs : List Record) → convert-kids (cons t ts) each ≡ turned ts′ rs
+    → Both (convert-as t (each (count ts))) (convert-kids ts each) ts′ rs
+unfolding convert-kids
+cons-parts t ts each ts′ rs h = both-parts (convert-as t (each (count ts))) (convert-kids ts each) ts′ rs h
 
 mutual
   unfolding convert-as convert-kids RuledKids
@@ -520,8 +458,9 @@ mutual
   ruled-kids : (ts : Forest) (each : ℕ → Role) (ts′ : Forest) → convert-kids ts each ≡ turned ts′ [] → RuledKids each ts
   ruled-kids nil each ts′ h = tt
   ruled-kids (cons t ts) each ts′ h =
-      let b = both-clean (convert-as t (each (count ts))) (convert-kids ts each) ts′ h in
-      (ruled t (each (count ts)) (b .0) (b .2), ruled-kids ts each (b .1) (b .3))
+      let b = cons-parts t ts each ts′ [] h in
+      let none = append-nil (b .first) (b .later) (sym (b .records)) in
+      (ruled t (each (count ts)) (b .one) (b .one-is ∙ ap (turned (b .one)) (none .0)), ruled-kids ts each (b .rest) (b .rest-is ∙ ap (turned (b .rest)) (none .1)))
 
 -- Any target: converted with neither refusal nor record, exactly if the rule holds.
 pub target-rule : (t : Tree) → ((t′ : Tree) × (convert t ≡ turned t′ [])) ↔ Target t

@@ -199,8 +199,5 @@ module _ (sheet : Sheet) (job : Job) (there : looked-at job ≤ length (sheet .k
       → read (box sheet) sheet (plenty sheet) job notes ≡ done end trees records after → Fine after
   notes-stay {notes} f e = kept-if-done (box sheet) sheet 0 Fine (λ at m l i k. fine-set at k) job (omega arith) there notes f (plenty sheet) (in-plenty sheet job) e
 
-  pub notes-stay-failing : {notes : List ℕ} → Fine notes → {cause : Cause} {after : List ℕ} → read (box sheet) sheet (plenty sheet) job notes ≡ fail cause after → Fine after
-  notes-stay-failing {notes} f e = kept-if-fail (box sheet) sheet 0 Fine (λ at m l i k. fine-set at k) job (omega arith) there notes f (plenty sheet) (in-plenty sheet job) e
-
   pub notes-stay-whole : {trees : Forest} {records : List Record} {notes : List ℕ} → reading (box sheet) sheet job cleared ≡ whole trees records notes → Fine notes
   notes-stay-whole e = notes-stay fine-cleared (came (box sheet) sheet job cleared e .done-at-end)

@@ -10,28 +10,26 @@ use lib.Dec.{ltb}
 use lib.ListN.{length, length-append}
 use borrow.Author.Tests.{eqb-true}
 use Rattle.tokens.specs.Bool.{_or_, _and_, _is_, if_then_else_, between}
-use Rattle.tokens.specs.Kind.{Async, Str, Number, LParen, LCurly, Comma, Colon, Dot3, Arrow, Question2, Amp2, Star2, Eq}
+use Rattle.tokens.specs.Kind.{Async, Str, Number, LCurly, Comma, Colon, Dot3, Arrow, Question2, Amp2, Star2, Eq}
 use Rattle.tokens.specs.Token.{is-name, is-word, is-literal}
 use Rattle.operators.specs.Precedence.{expression-level}
-use Rattle.tokens.specs.declared.cause.Cause.{Cause}
 use Rattle.rows.specs.Row as Row
 use Rattle.rows.specs.Tree.{Tree, Forest, node, nil, cons, one, join, size, sizes, kind-of, mark-of}
 use Rattle.rows.specs.Record.{Record, break-before-arrow, rest-initializer}
 use Rattle.conversion.specs.Conversion.{Role, any, simple}
-use Rattle.grammar.specs.Sheet.{Sheet, token, break-before, done, Part, first-tree, tree, leaf}
+use Rattle.conversion.proofs.RuleHolds.{either-way}
+use Rattle.grammar.specs.Sheet.{Sheet, token, break-before, done, first-tree, tree, leaf}
 use Rattle.grammar.specs.Job.{Job, expression, sequence, assignment, value, assign, conditional, binary, operators, unary, postfix, left-hand-side, links, arguments, primary, elements, properties, property, key, spread, binding, binding-element, binding-elements, binding-properties, binding-property, binding-rest, head, parameters, body, Asks}
-use Rattle.grammar.specs.Comma.{expression-of, sequence-of}
-use Rattle.grammar.specs.Assignment.{is-assignment-operator, assign-of, conditional-of, after-binary, is-async-name, value-of}
-use Rattle.grammar.specs.Binary.{operation-kind, right-floor, is-or-and, operation-records, binary-of, operators-of}
-use Rattle.grammar.specs.Update.{is-unary-operator, is-update-operator, converted, unary-of, postfix-of}
-use Rattle.grammar.specs.LeftHandSide.{left-hand-side-of, links-of, arguments-of}
-use Rattle.grammar.specs.Primary.{parenthesized-of, primary-of, spread-of, elements-of, properties-of, shorthand-of, property-of, key-of}
-use Rattle.grammar.specs.Binding.{binding-of, binding-element-of, binding-rest-of, binding-elements-of, argument-of, binding-properties-of, binding-shorthand-of, binding-property-of}
-use Rattle.grammar.specs.Arrow.{Policy, arrow-of, assignment-of, parenthesized-head-of, head-of, parameters-of, body-of}
+use Rattle.grammar.specs.Assignment.{is-assignment-operator, is-async-name}
+use Rattle.grammar.specs.Binary.{operation-kind, right-floor, is-or-and, operation-records}
+use Rattle.grammar.specs.Update.{is-unary-operator, is-update-operator, converted}
+use Rattle.grammar.specs.Binding.{argument-of}
+use Rattle.grammar.specs.Arrow.{Policy, parenthesized-head-of}
 use Rattle.grammar.specs.Step.{step, read}
 use Rattle.laws.specs.Settles.{Settles, μ}
 use Rattle.grammar.specs.Reading.{unconverteds, whole, reading}
-use Rattle.laws.proofs.Good.{came, Reads, Answers, Preserved, good, good-done, yields, refuses, says, follows, tries, test, token-test, chooses, notes, converts, so, inside, and-left}
+use Rattle.laws.proofs.Good.{productions, wants, came, Reads, Answers, Preserved, good, good-done, yields, refuses, says, follows, heads, test, token-test, converts, so, inside, and-left}
+pub use Rattle.laws.proofs.Good.{Any, Nothing}
 use Rattle.laws.proofs.Owed.{owes, owes-one, owed, oweds, lent, sizes-join, oweds-join, same-size, pays, pays-lasts}
 
 -- what a nonterminal at a place is bound by: the least and the most that its end can be; the rows and the dues (records, and what rows owe) that
@@ -148,11 +146,7 @@ fee-comma e = rw e
 
 pub fee-one : (kind : ℕ) → fee kind ≤ 1
 unfolding fee
-fee-one kind = go (kind is Comma)
-  where
-    go : (b : Bool) → (if b then 0 else 1) ≤ 1
-    go true = omega arith
-    go false = omega arith
+fee-one kind = either-way (λ n. n ≤ 1) (kind is Comma) (λ _. omega arith) (λ _. omega arith)
 
 -- one tree within limits
 lone : {l : Limits} {end : ℕ} (t : Tree) {records : List Record} → Within l end (sizes (one t)) (length records + oweds (one t)) → Bound l end (one t) records
@@ -187,13 +181,11 @@ target role at left z =
     (λ cause e. tt)
 
 one-at-most : (holds : Bool) (r : Record) → length (if holds then r ∷ [] else []) ≤ 1
-one-at-most true r = omega arith
-one-at-most false r = omega arith
+one-at-most holds r = either-way (λ rs. length rs ≤ 1) holds (λ _. omega arith) (λ _. omega arith)
 
 arrow-free : (async : Bool) → owes (if async then Row.AsyncArrow else Row.Arrow) ≡ 0
 unfolding owes
-arrow-free true = refl
-arrow-free false = refl
+arrow-free async = either-way (λ kind. owes kind ≡ 0) async (λ _. refl) (λ _. refl)
 
 -- an operator says at most one thing, and its row owes nothing
 none-or-one : (a b : Bool) (r s : Record) → (a ≡ true → b ≡ false) → length ((if a then r ∷ [] else []) ++ (if b then s ∷ [] else [])) ≤ 1
@@ -209,94 +201,76 @@ operation-one sheet at left right =
 
 pub operation-free : (kind : ℕ) → owes (operation-kind kind) ≡ 0
 unfolding operation-kind owes
-operation-free kind = go (between Question2 Amp2 kind)
-  where
-    go : (b : Bool) → owes (if b then Row.Logical else Row.Binary) ≡ 0
-    go true = refl
-    go false = refl
+operation-free kind = either-way (λ row. owes row ≡ 0) (between Question2 Amp2 kind) (λ _. refl) (λ _. refl)
 
 pub lent-either : (plain : Bool) → lent (if plain then any else simple) ≡ 0
-lent-either true = refl
-lent-either false = refl
+lent-either plain = either-way (λ role. lent role ≡ 0) plain (λ _. refl) (λ _. refl)
 
-abbrev pub Any : Job → Type 0
-Any job = Unit {0}
-
-abbrev pub Nothing : Cause → Type 0
-Nothing cause = Unit {0}
-
-module _ {N : Type 0} (sheet : Sheet) {ask : Asks N} (h : Answers Any (λ job. Bound (limits sheet job)) Nothing ask) where
+-- THE PRODUCTIONS
+module _ {N : Type 0} (policy : Policy N) (sheet : Sheet) {ask : Asks N} (h : Answers Any (λ job. Bound (limits sheet job)) Nothing ask) where
   asked : (job : Job) → Reads (Bound (limits sheet job)) Nothing (ask job)
   asked job = h .with job tt
 
+  -- another part, or a spread
+  or-spread : (at rows : ℕ) (other : Job) → Reads (Bound (reads sheet at rows 0)) Nothing (ask other) → (dots : Bool) → Reads (Bound (reads sheet at rows 0)) Nothing (ask (if dots then spread at else other))
+  or-spread at rows other o true = so (asked (spread at)) (λ end trees more c. record { within = omega arith; single = c .single })
+  or-spread at rows other o false = o
+
+  -- 15.3 and 15.9
+  parenthesized-head-bound : (at : ℕ) → Reads (Bound (limits sheet (head at))) Nothing (parenthesized-head-of sheet ask at)
+  unfolding productions
+  parenthesized-head-bound at =
+      wants sheet _ _ _ tt (λ t. follows (asked (parameters (at + 1) nil))
+      (λ list rs b. wants sheet _ _ _ tt
+      (λ t. yields _ _ (record { within = simp weights (omega (arith, simp weights at (b .within))); single = tt }))))
+
+  -- every production
+  pub step-bound : (job : Job) → Reads (Bound (limits sheet job)) Nothing (step policy sheet ask job)
+  unfolding productions is-name is-word is-literal is-update-operator fee owes
   -- 13.16
-  expression-bound : (at : ℕ) → Reads (Bound (limits sheet (expression at))) Nothing (expression-of sheet ask at)
-  unfolding expression-of
-  expression-bound at =
+  step-bound (expression at) =
       follows (asked (assignment at))
       (λ part rs b. token-test sheet _ _
       (λ t. so (asked (sequence at (part .end) (part .end) (part .trees))) (λ end trees more c. record { within = simp weights (omega (arith, fee-comma (t .kind-is))); single = c .single }))
       (yields _ _ (record { within = simp weights (omega arith); single = b .single })))
-
-  sequence-bound : (first comma at : ℕ) (so-far : Forest) → Reads (Bound (limits sheet (sequence first comma at so-far))) Nothing (sequence-of sheet ask first comma at so-far)
-  unfolding sequence-of fee owes
-  sequence-bound first comma at so-far =
+  step-bound (sequence first comma at so-far) =
       test (token sheet at is Comma)
       (λ t. follows (asked (assignment (at + 1)))
       (λ part rs b. so (asked (sequence first comma (part .end) (join so-far (part .trees))))
       (λ end trees more c. record { within = simp weights (omega (arith, simp weights at (c .within), fee-one (token sheet (part .end)))); single = c .single })))
       (λ f. yields _ _ (lone _ (simp (weights, f) (omega arith))))
-
-  -- 13.15 and 13.14
-  after-binary-bound : (first : ℕ) (left : Part) (rs : List Record) → Bound (limits sheet (binary 0 first)) (left .end) (left .trees) rs
-      → Reads (λ end trees more. Bound (limits sheet (value first)) end trees (rs ++ more)) Nothing (after-binary sheet ask first left)
-  unfolding after-binary owes
-  after-binary-bound first left rs b =
-      test (kind-of (tree left) is Row.Identifier and token sheet (left .end) is Arrow)
-      (λ t. so (asked (body Row.Arrow first (left .end) (one (leaf Row.BindingName first))))
-      (λ end trees more c. record { within = simp weights (omega (arith, simp weights at (c .within))); single = c .single }))
-      (λ _. test (is-assignment-operator (token sheet (left .end)))
-      (λ t. so (asked (assign first (left .end) (tree left))) (λ end trees more c. record { within = simp weights (omega (arith, alone (b .single))); single = c .single }))
-      (λ _. token-test sheet _ _
-      (λ t. so (asked (conditional first (left .end) (tree left))) (λ end trees more c. record { within = simp weights (omega (arith, alone (b .single))); single = c .single }))
-      (yields _ _ (record { within = simp weights (omega arith); single = b .single }))))
-
-  value-bound : (at : ℕ) → Reads (Bound (limits sheet (value at))) Nothing (value-of sheet ask at)
-  unfolding value-of owes
-  value-bound at =
+  step-bound (assignment at) =
+      heads policy sheet ask at (asked (value at)) (asked (head at))
+      (λ list rs b. so (asked (body _ at (list .end) (list .trees)))
+      (λ end trees more c. record { within = simp weights (omega (arith, arrow-free (token sheet at is Async))); single = c .single }))
+  step-bound (value at) =
       test (is-async-name sheet at)
       (λ t. so (asked (body Row.AsyncArrow at (at + 2) (one (leaf Row.BindingName (at + 1)))))
       (λ end trees more c. record { within = omega (arith, simp weights at (c .within)); single = c .single }))
-      (λ _. follows (asked (binary 0 at)) (λ left rs b. after-binary-bound at left rs b))
-
-  assign-bound : (first at : ℕ) (left : Tree) → Reads (Bound (limits sheet (assign first at left))) Nothing (assign-of sheet ask first at left)
-  unfolding assign-of
-  assign-bound first at left =
+      (λ _. follows (asked (binary 0 at))
+      (λ left rs b. test (kind-of (tree left) is Row.Identifier and token sheet (left .end) is Arrow)
+      (λ t. so (asked (body Row.Arrow at (left .end) (one (leaf Row.BindingName at))))
+      (λ end trees more c. record { within = simp weights (omega (arith, simp weights at (c .within))); single = c .single }))
+      (λ _. test (is-assignment-operator (token sheet (left .end)))
+      (λ t. so (asked (assign at (left .end) (tree left))) (λ end trees more c. record { within = simp weights (omega (arith, alone (b .single))); single = c .single }))
+      (λ _. token-test sheet _ _
+      (λ t. so (asked (conditional at (left .end) (tree left))) (λ end trees more c. record { within = simp weights (omega (arith, alone (b .single))); single = c .single }))
+      (yields _ _ (record { within = simp weights (omega arith); single = b .single }))))))
+  step-bound (assign first at left) =
       let kind = if token sheet at is Eq then Row.Assign else Row.CompoundAssign in
       follows (target (if token sheet at is Eq then any else simple) at left (lent-either (token sheet at is Eq)))
       (λ target rs b. follows (asked (assignment (at + 1)))
       (λ right more c. yields _ _ (lone _ (simp weights (omega (arith, owes-one kind))))))
-
-  conditional-bound : (first at : ℕ) (left : Tree) → Reads (Bound (limits sheet (conditional first at left))) Nothing (conditional-of sheet ask first at left)
-  unfolding conditional-of owes
-  conditional-bound first at left =
+  step-bound (conditional first at left) =
       follows (asked (assignment (at + 1)))
-      (λ if-true rs b. token-test sheet _ _
-      (λ t. follows (asked (assignment (if-true .end + 1)))
-      (λ if-false more c. yields _ _ (lone _ (simp weights (omega arith)))))
-      (refuses _ tt))
-
+      (λ if-true rs b. wants sheet _ _ _ tt (λ t. follows (asked (assignment (if-true .end + 1)))
+      (λ if-false more c. yields _ _ (lone _ (simp weights (omega arith))))))
   -- 13.6 to 13.13
-  binary-bound : (floor at : ℕ) → Reads (Bound (limits sheet (binary floor at))) Nothing (binary-of sheet ask floor at)
-  unfolding binary-of
-  binary-bound floor at =
+  step-bound (binary floor at) =
       follows (asked (unary at))
       (λ left rs b. so (asked (operators floor at (left .end) (tree left)))
       (λ end trees more c. record { within = simp weights (omega (arith, alone (b .single))); single = c .single }))
-
-  operators-bound : (floor first at : ℕ) (left : Tree) → Reads (Bound (limits sheet (operators floor first at left))) Nothing (operators-of sheet ask floor first at left)
-  unfolding operators-of
-  operators-bound floor first at left =
+  step-bound (operators floor first at left) =
       test (ltb floor (expression-level (token sheet at)))
       (λ t. follows (asked (binary (right-floor (token sheet at)) (at + 1)))
       (λ right rs b. says _ (so (asked (operators floor first (right .end) (node (operation-kind (token sheet at)) at first (right .end) (cons left (right .trees)))))
@@ -305,11 +279,8 @@ module _ {N : Type 0} (sheet : Sheet) {ask : Asks N} (h : Answers Any (λ job. B
         single = c .single;
       }))))
       (λ _. yields _ _ (lone _ (simp weights (omega arith))))
-
   -- 13.5 and 13.4
-  unary-bound : (at : ℕ) → Reads (Bound (limits sheet (unary at))) Nothing (unary-of sheet ask at)
-  unfolding unary-of owes
-  unary-bound at =
+  step-bound (unary at) =
       test (is-unary-operator (token sheet at))
       (λ t. follows (asked (unary (at + 1))) (λ operand rs b. yields _ _ (lone _ (simp weights (omega arith)))))
       (λ _. test (is-update-operator (token sheet at))
@@ -317,28 +288,19 @@ module _ {N : Type 0} (sheet : Sheet) {ask : Asks N} (h : Answers Any (λ job. B
       (λ operand rs b. follows (target simple (operand .end) (tree operand) refl)
       (λ target more c. yields _ _ (lone _ (simp weights (omega (arith, alone (b .single))))))))
       (λ _. asked (postfix at)))
-
-  postfix-bound : (at : ℕ) → Reads (Bound (limits sheet (postfix at))) Nothing (postfix-of sheet ask at)
-  unfolding postfix-of is-update-operator owes
-  postfix-bound at =
+  step-bound (postfix at) =
       follows (asked (left-hand-side at))
       (λ operand rs b. test (is-update-operator (token sheet (operand .end)) and not (break-before sheet (operand .end)))
       (λ t. follows (target simple (operand .end) (tree operand) refl)
       (λ target more c. yields _ _ (lone _ (simp weights
       (omega (arith, alone (b .single), inside sheet (operand .end) is-update-operator refl (and-left (is-update-operator (token sheet (operand .end))) _ t)))))))
       (λ _. yields _ _ (record { within = simp weights (omega arith); single = b .single })))
-
   -- 13.3
-  left-hand-side-bound : (at : ℕ) → Reads (Bound (limits sheet (left-hand-side at))) Nothing (left-hand-side-of sheet ask at)
-  unfolding left-hand-side-of
-  left-hand-side-bound at =
+  step-bound (left-hand-side at) =
       follows (asked (primary at))
       (λ base rs b. so (asked (links at (base .end) (tree base)))
       (λ end trees more c. record { within = simp weights (omega (arith, alone (b .single))); single = c .single }))
-
-  links-bound : (first at : ℕ) (left : Tree) → Reads (Bound (limits sheet (links first at left))) Nothing (links-of sheet ask first at left)
-  unfolding links-of is-word owes
-  links-bound first at left =
+  step-bound (links first at left) =
       token-test sheet _ _
       (λ t. test (is-word (token sheet (at + 1)))
       (λ w. so (asked (links first (at + 2) (node Row.Member (at + 1) first (at + 2) (one left))))
@@ -346,277 +308,133 @@ module _ {N : Type 0} (sheet : Sheet) {ask : Asks N} (h : Answers Any (λ job. B
       (λ _. refuses _ tt))
       (token-test sheet _ _
       (λ t. follows (asked (expression (at + 1)))
-      (λ inner rs b. token-test sheet _ _
+      (λ inner rs b. wants sheet _ _ _ tt
       (λ t. so (asked (links first (inner .end + 1) (node Row.Index first first (inner .end + 1) (cons left (inner .trees)))))
-      (λ end trees more c. record { within = simp weights (omega (arith, simp weights at (c .within))); single = c .single }))
-      (refuses _ tt)))
+      (λ end trees more c. record { within = simp weights (omega (arith, simp weights at (c .within))); single = c .single }))))
       (token-test sheet _ _
       (λ t. follows (asked (arguments first (at + 1) (one left)))
       (λ call rs b. so (asked (links first (call .end) (tree call)))
       (λ end trees more c. record { within = simp weights (omega (arith, simp weights at (b .within), alone (b .single))); single = c .single })))
       (yields _ _ (lone _ (simp weights (omega arith))))))
-
-  argument-bound : (at : ℕ) (dots : Bool) → Reads (Bound (reads sheet at 0 0)) Nothing (ask (if dots then spread at else assignment at))
-  argument-bound at true = asked (spread at)
-  argument-bound at false = asked (assignment at)
-
-  arguments-bound : (first at : ℕ) (so-far : Forest) → Reads (Bound (limits sheet (arguments first at so-far))) Nothing (arguments-of sheet ask first at so-far)
-  unfolding arguments-of owes
-  arguments-bound first at so-far =
-      token-test sheet _ _
-      (λ t. yields _ _ (lone _ (simp weights (omega arith))))
-      (follows (argument-bound at (token sheet at is Dot3))
+  step-bound (arguments first at so-far) =
+      token-test sheet _ _ (λ t. yields _ _ (lone _ (simp weights (omega arith))))
+      (follows (or-spread at 0 (assignment at) (asked (assignment at)) (token sheet at is Dot3))
       (λ argument rs b. token-test sheet _ _
       (λ t. so (asked (arguments first (argument .end + 1) (join so-far (argument .trees))))
       (λ end trees more c. record { within = simp weights (omega (arith, simp weights at (c .within))); single = c .single }))
-      (token-test sheet _ _
-      (λ t. yields _ _ (lone _ (simp weights (omega arith))))
-      (refuses _ tt))))
-
+      (wants sheet _ _ _ tt (λ t. yields _ _ (lone _ (simp weights (omega arith)))))))
   -- 13.2
-  primary-bound : (at : ℕ) → Reads (Bound (limits sheet (primary at))) Nothing (primary-of sheet ask at)
-  unfolding primary-of parenthesized-of is-name is-literal owes
-  primary-bound at =
+  step-bound (primary at) =
       test (is-name (token sheet at)) (λ t. yields _ _ (lone _ (simp weights (omega (arith, inside sheet at is-name refl t)))))
       (λ _. token-test sheet _ _ (λ t. yields _ _ (lone _ (simp weights (omega arith))))
       (test (is-literal (token sheet at)) (λ t. yields _ _ (lone _ (simp weights (omega (arith, inside sheet at is-literal refl t)))))
       (λ _. token-test sheet _ _
       (λ t. follows (asked (expression (at + 1)))
-      (λ inner rs b. token-test sheet _ _ (λ t. yields _ _ (lone _ (simp weights (omega arith)))) (refuses _ tt)))
+      (λ inner rs b. wants sheet _ _ _ tt (λ t. yields _ _ (lone _ (simp weights (omega arith))))))
       (token-test sheet _ _
       (λ t. so (asked (elements at (at + 1) Row.Array nil)) (λ end trees more c. record { within = omega (arith, simp weights at (c .within)); single = c .single }))
-      (token-test sheet _ _
-      (λ t. so (asked (properties at (at + 1) Row.Object nil)) (λ end trees more c. record { within = omega (arith, simp weights at (c .within)); single = c .single }))
-      (refuses _ tt))))))
-
-  spread-bound : (at : ℕ) → Reads (Bound (limits sheet (spread at))) Nothing (spread-of sheet ask at)
-  unfolding spread-of owes
-  spread-bound at = follows (asked (assignment (at + 1))) (λ argument rs b. yields _ _ (lone _ (simp weights (omega arith))))
-
-  elements-bound : (first at kind : ℕ) (so-far : Forest) → Reads (Bound (limits sheet (elements first at kind so-far))) Nothing (elements-of sheet ask first at kind so-far)
-  unfolding elements-of owes
-  elements-bound first at kind so-far =
-      token-test sheet _ _
-      (λ t. yields _ _ (lone _ (simp weights (omega (arith, owes-one kind)))))
+      (wants sheet _ _ _ tt
+      (λ t. so (asked (properties at (at + 1) Row.Object nil)) (λ end trees more c. record { within = omega (arith, simp weights at (c .within)); single = c .single })))))))
+  step-bound (elements first at kind so-far) =
+      token-test sheet _ _ (λ t. yields _ _ (lone _ (simp weights (omega (arith, owes-one kind)))))
       (token-test sheet _ _
       (λ t. so (asked (elements first (at + 1) Row.Array (join so-far (one (leaf Row.Hole at)))))
       (λ end trees more c. record { within = omega (arith, simp weights at (c .within)); single = c .single }))
-      (follows (argument-bound at (token sheet at is Dot3))
+      (follows (or-spread at 0 (assignment at) (asked (assignment at)) (token sheet at is Dot3))
       (λ element rs b. token-test sheet _ _
       (λ t. so (asked (elements first (element .end + 1) _ (join so-far (element .trees))))
       (λ end trees more c. record { within = simp weights (omega (arith, simp weights at (c .within))); single = c .single }))
-      (token-test sheet _ _
-      (λ t. yields _ _ (lone _ (simp weights (omega arith))))
-      (refuses _ tt)))))
-
-  property-or-spread-bound : (at : ℕ) (dots : Bool) → Reads (Bound (reads sheet at 1 0)) Nothing (ask (if dots then spread at else property at))
-  property-or-spread-bound at true = so (asked (spread at)) (λ end trees more c. record { within = omega arith; single = c .single })
-  property-or-spread-bound at false = asked (property at)
-
-  properties-bound : (first at kind : ℕ) (so-far : Forest) → Reads (Bound (limits sheet (properties first at kind so-far))) Nothing (properties-of sheet ask first at kind so-far)
-  unfolding properties-of owes
-  properties-bound first at kind so-far =
-      token-test sheet _ _
-      (λ t. yields _ _ (lone _ (simp weights (omega (arith, owes-one kind)))))
-      (follows (property-or-spread-bound at (token sheet at is Dot3))
+      (wants sheet _ _ _ tt (λ t. yields _ _ (lone _ (simp weights (omega arith))))))))
+  step-bound (properties first at kind so-far) =
+      token-test sheet _ _ (λ t. yields _ _ (lone _ (simp weights (omega (arith, owes-one kind)))))
+      (follows (or-spread at 1 (property at) (asked (property at)) (token sheet at is Dot3))
       (λ part rs b. token-test sheet _ _
       (λ t. so (asked (properties first (part .end + 1) _ (join so-far (part .trees))))
       (λ end trees more c. record { within = simp weights (omega (arith, simp weights at (c .within))); single = c .single }))
-      (token-test sheet _ _
-      (λ t. yields _ _ (lone _ (simp weights (omega arith))))
-      (refuses _ tt))))
-
-  property-bound : (at : ℕ) → Reads (Bound (limits sheet (property at))) Nothing (property-of sheet ask at)
-  unfolding property-of shorthand-of is-name owes
-  property-bound at =
+      (wants sheet _ _ _ tt (λ t. yields _ _ (lone _ (simp weights (omega arith)))))))
+  step-bound (property at) =
       test (is-name (token sheet at) and not (token sheet (at + 1) is Colon))
       (λ n. token-test sheet _ _
       (λ t. follows (asked (assignment (at + 2))) (λ initializer rs b. yields _ _ (lone _ (simp weights (omega arith)))))
       (yields _ _ (lone _ (simp weights (omega (arith, inside sheet at is-name refl (and-left (is-name (token sheet at)) _ n)))))))
       (λ _. follows (asked (key at))
-      (λ name rs b. token-test sheet _ _
-      (λ t. follows (asked (assignment (name .end + 1))) (λ content more c. yields _ _ (lone _ (simp weights (omega arith)))))
-      (refuses _ tt)))
-
-  key-bound : (at : ℕ) → Reads (Bound (limits sheet (key at))) Nothing (key-of sheet ask at)
-  unfolding key-of is-word owes
-  key-bound at =
+      (λ name rs b. wants sheet _ _ _ tt
+      (λ t. follows (asked (assignment (name .end + 1))) (λ content more c. yields _ _ (lone _ (simp weights (omega arith)))))))
+  step-bound (key at) =
       test (is-word (token sheet at) or token sheet at is Str or token sheet at is Number)
       (λ t. yields _ _ (lone _ (simp weights (omega (arith, inside sheet at (λ k. is-word k or k is Str or k is Number) refl t)))))
-      (λ _. token-test sheet _ _
-      (λ t. follows (asked (assignment (at + 1)))
-      (λ inner rs b. token-test sheet _ _ (λ t. yields _ _ (lone _ (simp weights (omega arith)))) (refuses _ tt)))
-      (refuses _ tt))
-
+      (λ _. wants sheet _ _ _ tt (λ t. follows (asked (assignment (at + 1)))
+      (λ inner rs b. wants sheet _ _ _ tt (λ t. yields _ _ (lone _ (simp weights (omega arith)))))))
+  step-bound (spread at) = follows (asked (assignment (at + 1))) (λ argument rs b. yields _ _ (lone _ (simp weights (omega arith))))
   -- 14.3.3
-  binding-bound : (at : ℕ) → Reads (Bound (limits sheet (binding at))) Nothing (binding-of sheet ask at)
-  unfolding binding-of is-name owes
-  binding-bound at =
+  step-bound (binding at) =
       test (is-name (token sheet at)) (λ t. yields _ _ (lone _ (simp weights (omega (arith, inside sheet at is-name refl t)))))
       (λ _. token-test sheet _ _
       (λ t. so (asked (binding-elements at (at + 1) nil)) (λ end trees more c. record { within = omega (arith, simp weights at (c .within)); single = c .single }))
-      (token-test sheet _ _
-      (λ t. so (asked (binding-properties at (at + 1) nil)) (λ end trees more c. record { within = omega (arith, simp weights at (c .within)); single = c .single }))
-      (refuses _ tt)))
-
-  binding-element-bound : (at : ℕ) → Reads (Bound (limits sheet (binding-element at))) Nothing (binding-element-of sheet ask at)
-  unfolding binding-element-of owes
-  binding-element-bound at =
+      (wants sheet _ _ _ tt
+      (λ t. so (asked (binding-properties at (at + 1) nil)) (λ end trees more c. record { within = omega (arith, simp weights at (c .within)); single = c .single }))))
+  step-bound (binding-element at) =
       follows (asked (binding at))
       (λ target rs b. token-test sheet _ _
       (λ t. follows (asked (assignment (target .end + 1))) (λ initializer more c. yields _ _ (lone _ (simp weights (omega arith)))))
       (yields _ _ (record { within = simp weights (omega arith); single = b .single })))
-
-  binding-rest-bound : (at : ℕ) → Reads (Bound (limits sheet (binding-rest at))) Nothing (binding-rest-of sheet ask at)
-  unfolding binding-rest-of owes
-  binding-rest-bound at =
-      follows (asked (binding-element (at + 1)))
-      (λ argument rs b. says _ (yields _ _ (lone _ (simp weights
-      (omega (arith, one-at-most (kind-of (tree argument) is Row.BindingDefault) (rest-initializer (mark-of (tree argument)))))))))
-
-  binding-elements-bound : (first at : ℕ) (so-far : Forest) → Reads (Bound (limits sheet (binding-elements first at so-far))) Nothing (binding-elements-of sheet ask first at so-far)
-  unfolding binding-elements-of owes
-  binding-elements-bound first at so-far =
-      token-test sheet _ _
-      (λ t. yields _ _ (lone _ (simp weights (omega arith))))
+  step-bound (binding-elements first at so-far) =
+      token-test sheet _ _ (λ t. yields _ _ (lone _ (simp weights (omega arith))))
       (token-test sheet _ _
       (λ t. so (asked (binding-elements first (at + 1) (join so-far (one (leaf Row.Hole at)))))
       (λ end trees more c. record { within = omega (arith, simp weights at (c .within)); single = c .single }))
       (token-test sheet _ _
       (λ t. follows (asked (binding-rest at))
-      (λ rest rs b. token-test sheet _ _ (λ t. yields _ _ (lone _ (simp weights (omega arith)))) (refuses _ tt)))
+      (λ rest rs b. wants sheet _ _ _ tt (λ t. yields _ _ (lone _ (simp weights (omega arith))))))
       (follows (asked (binding-element at))
       (λ element rs b. token-test sheet _ _
       (λ t. so (asked (binding-elements first (element .end + 1) (join so-far (element .trees))))
       (λ end trees more c. record { within = simp weights (omega (arith, simp weights at (c .within))); single = c .single }))
-      (token-test sheet _ _
-      (λ t. yields _ _ (lone _ (simp weights (omega arith))))
-      (refuses _ tt))))))
-
-  binding-properties-bound : (first at : ℕ) (so-far : Forest) → Reads (Bound (limits sheet (binding-properties first at so-far))) Nothing (binding-properties-of sheet ask first at so-far)
-  unfolding binding-properties-of owes
-  binding-properties-bound first at so-far =
-      token-test sheet _ _
-      (λ t. yields _ _ (lone _ (simp weights (omega arith))))
+      (wants sheet _ _ _ tt (λ t. yields _ _ (lone _ (simp weights (omega arith)))))))))
+  step-bound (binding-properties first at so-far) =
+      token-test sheet _ _ (λ t. yields _ _ (lone _ (simp weights (omega arith))))
       (token-test sheet _ _
       (λ t. follows (asked (binding-rest at))
-      (λ rest rs b. token-test sheet _ _
-      (λ t. test (kind-of (argument-of (tree rest)) is Row.BindingName) (λ _. yields _ _ (lone _ (simp weights (omega arith)))) (λ _. refuses _ tt))
-      (refuses _ tt)))
+      (λ rest rs b. wants sheet _ _ _ tt
+      (λ t. test (kind-of (argument-of (tree rest)) is Row.BindingName) (λ _. yields _ _ (lone _ (simp weights (omega arith)))) (λ _. refuses _ tt))))
       (follows (asked (binding-property at))
       (λ part rs b. token-test sheet _ _
       (λ t. so (asked (binding-properties first (part .end + 1) (join so-far (part .trees))))
       (λ end trees more c. record { within = simp weights (omega (arith, simp weights at (c .within))); single = c .single }))
-      (token-test sheet _ _
-      (λ t. yields _ _ (lone _ (simp weights (omega arith))))
-      (refuses _ tt)))))
-
-  binding-property-bound : (at : ℕ) → Reads (Bound (limits sheet (binding-property at))) Nothing (binding-property-of sheet ask at)
-  unfolding binding-property-of binding-shorthand-of is-name owes
-  binding-property-bound at =
+      (wants sheet _ _ _ tt (λ t. yields _ _ (lone _ (simp weights (omega arith))))))))
+  step-bound (binding-property at) =
       test (is-name (token sheet at) and not (token sheet (at + 1) is Colon))
       (λ n. token-test sheet _ _
       (λ t. follows (asked (assignment (at + 2))) (λ initializer rs b. yields _ _ (lone _ (simp weights (omega arith)))))
       (yields _ _ (lone _ (simp weights (omega (arith, inside sheet at is-name refl (and-left (is-name (token sheet at)) _ n)))))))
       (λ _. follows (asked (key at))
-      (λ name rs b. token-test sheet _ _
-      (λ t. follows (asked (binding-element (name .end + 1))) (λ content more c. yields _ _ (lone _ (simp weights (omega arith)))))
-      (refuses _ tt)))
-
-  -- 15.3 and 15.9
-  parenthesized-head-bound : (at : ℕ) → Reads (Bound (limits sheet (head at))) Nothing (parenthesized-head-of sheet ask at)
-  unfolding parenthesized-head-of
-  parenthesized-head-bound at =
-      token-test sheet _ _
-      (λ t. follows (asked (parameters (at + 1) nil))
-      (λ list rs b. token-test sheet _ _
-      (λ t. yields _ _ (record { within = simp weights (omega (arith, simp weights at (b .within))); single = tt }))
-      (refuses _ tt)))
-      (refuses _ tt)
-
-  head-bound : (at : ℕ) → Reads (Bound (limits sheet (head at))) Nothing (head-of sheet ask at)
-  unfolding head-of
-  head-bound at =
+      (λ name rs b. wants sheet _ _ _ tt
+      (λ t. follows (asked (binding-element (name .end + 1))) (λ content more c. yields _ _ (lone _ (simp weights (omega arith)))))))
+  step-bound (binding-rest at) =
+      follows (asked (binding-element (at + 1)))
+      (λ argument rs b. says _ (yields _ _ (lone _ (simp weights
+      (omega (arith, one-at-most (kind-of (tree argument) is Row.BindingDefault) (rest-initializer (mark-of (tree argument)))))))))
+  step-bound (head at) =
       token-test sheet _ _
       (λ t. test (not (break-before sheet (at + 1)))
       (λ _. so (parenthesized-head-bound (at + 1)) (λ end trees more c. record { within = omega arith; single = tt }))
       (λ _. refuses _ tt))
       (parenthesized-head-bound at)
-
-  parameters-bound : (at : ℕ) (so-far : Forest) → Reads (Bound (limits sheet (parameters at so-far))) Nothing (parameters-of sheet ask at so-far)
-  unfolding parameters-of
-  parameters-bound at so-far =
-      token-test sheet _ _
-      (λ t. yields _ _ (record { within = omega arith; single = tt }))
+  step-bound (parameters at so-far) =
+      token-test sheet _ _ (λ t. yields _ _ (record { within = omega arith; single = tt }))
       (token-test sheet _ _
       (λ t. follows (asked (binding-rest at))
-      (λ rest rs b. token-test sheet _ _ (λ t. yields _ _ (record { within = simp weights (omega arith); single = tt })) (refuses _ tt)))
+      (λ rest rs b. wants sheet _ _ _ tt (λ t. yields _ _ (record { within = simp weights (omega arith); single = tt }))))
       (follows (asked (binding-element at))
       (λ parameter rs b. token-test sheet _ _
       (λ t. so (asked (parameters (parameter .end + 1) (join so-far (parameter .trees))))
       (λ end trees more c. record { within = simp weights (omega (arith, simp weights at (c .within))); single = tt }))
-      (token-test sheet _ _
-      (λ t. yields _ _ (record { within = simp weights (omega arith); single = tt }))
-      (refuses _ tt)))))
-
-  body-bound : (kind first at : ℕ) (so-far : Forest) → Reads (Bound (limits sheet (body kind first at so-far))) Nothing (body-of sheet ask kind first at so-far)
-  unfolding body-of
-  body-bound kind first at so-far =
+      (wants sheet _ _ _ tt (λ t. yields _ _ (record { within = simp weights (omega arith); single = tt }))))))
+  step-bound (body kind first at so-far) =
       says _ (test (not (token sheet (at + 1) is LCurly))
       (λ _. follows (asked (assignment (at + 1)))
       (λ inner rs b. yields _ _ (lone _ (simp weights (omega (arith, one-at-most (break-before sheet at) (break-before-arrow at)))))))
       (λ _. refuses _ tt))
-
-  -- 13.15, where a head is tried
-  arrow-bound : (policy : Policy N) (at : ℕ) (list : Part) (rs : List Record) → Bound (limits sheet (head at)) (list .end) (list .trees) rs
-      → Reads (λ end trees more. Bound (limits sheet (assignment at)) end trees (rs ++ more)) Nothing (arrow-of policy sheet ask at list)
-  unfolding arrow-of
-  arrow-bound policy at list rs b =
-      so (asked (body (if token sheet at is Async then Row.AsyncArrow else Row.Arrow) at (list .end) (list .trees)))
-      (λ end trees more c. record { within = simp weights (omega (arith, arrow-free (token sheet at is Async))); single = c .single })
-
-  assignment-bound : (policy : Policy N) (at : ℕ) → Reads (Bound (limits sheet (assignment at))) Nothing (assignment-of policy sheet ask at)
-  unfolding assignment-of
-  assignment-bound policy at =
-      test (token sheet at is LParen or token sheet at is Async)
-      (λ _. chooses (policy .way at)
-      (asked (value at))
-      (tries (asked (head at)) (arrow-bound policy at) (notes (policy .mark at) (asked (value at))))
-      (follows (asked (head at)) (arrow-bound policy at)))
-      (λ _. asked (value at))
-
--- every production
-pub step-bound : {N : Type 0} (policy : Policy N) (sheet : Sheet) {ask : Asks N} → Answers Any (λ job. Bound (limits sheet job)) Nothing ask
-    → (job : Job) → Reads (Bound (limits sheet job)) Nothing (step policy sheet ask job)
-unfolding step
-step-bound policy sheet h (expression at) = expression-bound sheet h at
-step-bound policy sheet h (sequence first comma at so-far) = sequence-bound sheet h first comma at so-far
-step-bound policy sheet h (assignment at) = assignment-bound sheet h policy at
-step-bound policy sheet h (value at) = value-bound sheet h at
-step-bound policy sheet h (assign first at left) = assign-bound sheet h first at left
-step-bound policy sheet h (conditional first at left) = conditional-bound sheet h first at left
-step-bound policy sheet h (binary floor at) = binary-bound sheet h floor at
-step-bound policy sheet h (operators floor first at left) = operators-bound sheet h floor first at left
-step-bound policy sheet h (unary at) = unary-bound sheet h at
-step-bound policy sheet h (postfix at) = postfix-bound sheet h at
-step-bound policy sheet h (left-hand-side at) = left-hand-side-bound sheet h at
-step-bound policy sheet h (links first at left) = links-bound sheet h first at left
-step-bound policy sheet h (arguments first at so-far) = arguments-bound sheet h first at so-far
-step-bound policy sheet h (primary at) = primary-bound sheet h at
-step-bound policy sheet h (elements first at kind so-far) = elements-bound sheet h first at kind so-far
-step-bound policy sheet h (properties first at kind so-far) = properties-bound sheet h first at kind so-far
-step-bound policy sheet h (property at) = property-bound sheet h at
-step-bound policy sheet h (key at) = key-bound sheet h at
-step-bound policy sheet h (spread at) = spread-bound sheet h at
-step-bound policy sheet h (binding at) = binding-bound sheet h at
-step-bound policy sheet h (binding-element at) = binding-element-bound sheet h at
-step-bound policy sheet h (binding-elements first at so-far) = binding-elements-bound sheet h first at so-far
-step-bound policy sheet h (binding-properties first at so-far) = binding-properties-bound sheet h first at so-far
-step-bound policy sheet h (binding-property at) = binding-property-bound sheet h at
-step-bound policy sheet h (binding-rest at) = binding-rest-bound sheet h at
-step-bound policy sheet h (head at) = head-bound sheet h at
-step-bound policy sheet h (parameters at so-far) = parameters-bound sheet h at so-far
-step-bound policy sheet h (body kind first at so-far) = body-bound sheet h kind first at so-far
 
 -- THE STATEMENTS
 module _ {N : Type 0} (policy : Policy N) (sheet : Sheet) where

@@ -15,10 +15,11 @@ use Rattle.laws.proofs.Good.{and-left, and-right}
 use Rattle.rows.specs.Row as Row
 use Rattle.rows.specs.Tree.{Tree, Forest, node, nil, cons, one, count, kind-of, kids-of}
 use Rattle.rows.specs.Record.{Record}
-use Rattle.conversion.specs.Conversion.{Outcome, turned, refused, Role, any, simple, element, last-element, property, last-property, value, name, same, Change, refuse, keep, turn, is-array-or-object, last-of, seen, as-simple, as-any, as-value, as-element, as-last-element, as-property, as-last-property, as-name, change, roles, over, both, convert-as, convert-kids}
+use Rattle.conversion.specs.Conversion.{Outcome, turned, refused, Role, any, simple, element, last-element, property, last-property, value, name, same, Change, refuse, keep, turn, is-array-or-object, last-of, seen, as-simple, as-any, as-value, as-element, as-last-element, as-property, as-last-property, as-name, change, roles, over, convert-as, convert-kids}
+use Rattle.conversion.proofs.RuleHolds.{refused-turned, turned-is, cons-parts}
 use Rattle.conversion.proofs.KidRoles.{elements, properties, key-and-value, name-and-initializer}
 use Rattle.tokens.specs.declared.cause.Cause.{Cause}
-use Rattle.rows.specs.Shape.{is-listed, is-left-hand-side, is-unary, is-binary, is-logical, is-assignment, is-parameter, is-simple-target, is-target, nothing, only, Shape, shape-of, least, may-be, may-end, fits, last-kind, all-fit, is-shaped, well-formed, all-well-formed}
+use Rattle.rows.specs.Shape.{is-listed, is-left-hand-side, is-unary, is-binary, is-logical, is-assignment, is-expression, is-binding, is-parameter, is-body, is-simple-target, is-target, nothing, only, Shape, shape-of, least, may-be, may-end, fits, last-kind, all-fit, is-shaped, well-formed, all-well-formed}
 use Rattle.laws.proofs.RowKinds.{is-key, is-value, is-target-element, is-target-property, is-target-value}
 use Rattle.laws.specs.Promises.{Class, Ends, In, Kinds, in-class, of, within}
 
@@ -54,6 +55,11 @@ mutual
 -- among these kinds the last kid of a row does not matter, in a row of this kind
 unfoldable pub free : ℕ → Kinds → Bool
 free kind kinds = not (eqb kind Row.BindingObject or kinds Row.Property)
+
+-- the table of shapes, and the sets of kinds in it: to unfold this is to unfold them all
+unfoldable pub shapes : Type 0
+unfolding shape-of is-listed in-class free may-end only is-left-hand-side is-unary is-binary is-logical is-assignment is-expression is-binding is-parameter is-simple-target is-target is-body kind-of kids-of last-kind
+shapes = Unit {0}
 
 ends-free : (kind : ℕ) (kinds : Kinds) (kid last : ℕ) → free kind kinds ≡ true → kinds kid ≡ true → may-end kind kid last ≡ true
 unfolding free may-end
@@ -100,7 +106,7 @@ module _ {ends : Ends} where
   kids-count (in-front i k) = omega (arith, kids-count k)
   kids-count (then-rest k) = omega (arith, middle-count k)
 
-or-right : (a : Bool) → a or true ≡ true
+pub or-right : (a : Bool) → a or true ≡ true
 or-right true = refl
 or-right false = refl
 
@@ -279,7 +285,7 @@ compound-kids (in-front i k) = in-front (held Row.TargetDefault refl (target-of 
 -- what each change makes of a row that is Formed
 module _ (kind mark first end : ℕ) (kids : Forest) (k : KidsOf kind kids) (a : AllFormed kids) where
   simple-becomes : Becomes (λ t. In (of is-simple-target) t) mark first end kids (as-simple (seen (node kind mark first end kids)))
-  unfolding shape-of is-listed in-class may-end free only is-target is-simple-target kind-of kids-of last-kind seen as-simple
+  unfolding shapes seen as-simple
   simple-becomes =
       becomes-if (eqb kind Row.Identifier) (λ e. keeps _ _ refl (row-formed refl (rw (eqb-true kind Row.Identifier e) at k) a) (record { holds = refl }))
       (becomes-if (eqb kind Row.Member) (λ e. keeps _ _ refl (row-formed refl (rw (eqb-true kind Row.Member e) at k) a) (record { holds = refl }))
@@ -291,7 +297,7 @@ module _ (kind mark first end : ℕ) (kids : Forest) (k : KidsOf kind kids) (a :
       (refuses _ refl))))
 
   any-becomes : Becomes (λ t. In (of is-target) t) mark first end kids (as-any (seen (node kind mark first end kids)))
-  unfolding shape-of is-listed in-class may-end free only is-target is-simple-target kind-of kids-of last-kind seen as-any
+  unfolding shapes seen as-any
   any-becomes =
       becomes-if (eqb kind Row.Array) (λ e. array [])
       (becomes-if (eqb kind Row.ArrayRestComma and eqb (kind-of (last-of kids)) Row.Spread) (λ e. array _)
@@ -308,20 +314,20 @@ module _ (kind mark first end : ℕ) (kids : Forest) (k : KidsOf kind kids) (a :
           turns _ _ _ _ refl (λ kids′ c f. row-formed refl (then-rest (list-kids Row.TargetObject (properties comma) refl (λ t t′ i. i) (λ n t t′ i. rw (eqb·suc-zero n) at i) c)) f) (λ kids′. record { holds = refl })
 
   value-becomes : Becomes (λ t. In (of is-target-value) t) mark first end kids (as-value (seen (node kind mark first end kids)))
-  unfolding shape-of is-listed in-class may-end free only is-target is-simple-target kind-of kids-of last-kind seen as-value
+  unfolding shapes seen as-value
   value-becomes =
       becomes-if (eqb kind Row.Assign) (λ e. keeps _ _ refl (row-formed refl (rw (eqb-true kind Row.Assign e) at k) a) (record { holds = refl }))
       (becomes-if (eqb kind Row.CompoundAssign) (λ e. keeps _ _ refl (row-formed refl (compound-kids (rw (eqb-true kind Row.CompoundAssign e) at k)) a) (record { holds = refl }))
       (becomes-so target-value-of any-becomes))
 
   element-becomes : Becomes (λ t. In (of is-target-element) t) mark first end kids (as-element (seen (node kind mark first end kids)))
-  unfolding shape-of is-listed in-class may-end free only is-target is-simple-target kind-of kids-of last-kind seen as-element
+  unfolding shapes seen as-element
   element-becomes =
       becomes-if (eqb kind Row.Hole) (λ e. keeps _ _ refl (row-formed refl (rw (eqb-true kind Row.Hole e) at k) a) (record { holds = refl }))
       (becomes-if (eqb kind Row.Spread) (λ e. refuses _ refl) (becomes-so target-value-element value-becomes))
 
   last-element-becomes : (comma : List Record) → Becomes (λ t. Last is-target-element t) mark first end kids (as-last-element comma (seen (node kind mark first end kids)))
-  unfolding shape-of is-listed in-class may-end free only is-target is-simple-target kind-of kids-of last-kind seen as-last-element
+  unfolding shapes seen as-last-element
   last-element-becomes comma =
       becomes-if (eqb kind Row.Spread and eqb (count kids) 1)
       (λ e. turns _ _ _ _ refl (λ kids′ c f. row-formed refl (one-kid Row.TargetRest {role = any} refl (λ t t′ i. i) (eqb-true (count kids) 1 (and-right (eqb kind Row.Spread) _ e)) c) f)
@@ -329,7 +335,7 @@ module _ (kind mark first end : ℕ) (kids : Forest) (k : KidsOf kind kids) (a :
       (becomes-so (λ t i. as-others i) element-becomes)
 
   property-becomes : Becomes (λ t. In (of is-target-property) t) mark first end kids (as-property (seen (node kind mark first end kids)))
-  unfolding shape-of is-listed in-class may-end free only is-target is-simple-target kind-of kids-of last-kind seen as-property
+  unfolding shapes seen as-property
   property-becomes =
       becomes-if (eqb kind Row.Shorthand and eqb (count kids) 1)
       (λ e. turns _ _ _ _ refl (λ kids′ c f. row-formed refl (one-kid Row.TargetShorthand {role = name} refl (λ t t′ i. i) (eqb-true (count kids) 1 (and-right (eqb kind Row.Shorthand) _ e)) c) f)
@@ -341,7 +347,7 @@ module _ (kind mark first end : ℕ) (kids : Forest) (k : KidsOf kind kids) (a :
       (becomes-if (eqb kind Row.Spread) (λ e. refuses _ refl) (refuses _ refl))))
 
   last-property-becomes : (comma : List Record) → Becomes (λ t. Last is-target-property t) mark first end kids (as-last-property comma (seen (node kind mark first end kids)))
-  unfolding shape-of is-listed in-class may-end free only is-target is-simple-target kind-of kids-of last-kind seen as-last-property
+  unfolding shapes seen as-last-property
   last-property-becomes comma =
       becomes-if (eqb kind Row.Spread and eqb (count kids) 1)
       (λ e. turns _ _ _ _ refl (λ kids′ c f. row-formed refl (one-kid Row.TargetRest {role = any} refl (λ t t′ i. i) (eqb-true (count kids) 1 (and-right (eqb kind Row.Spread) _ e)) c) f)
@@ -349,7 +355,7 @@ module _ (kind mark first end : ℕ) (kids : Forest) (k : KidsOf kind kids) (a :
       (becomes-so (λ t i. as-others i) property-becomes)
 
   name-becomes : Becomes (λ t. In (of (only Row.TargetName)) t) mark first end kids (as-name (seen (node kind mark first end kids)))
-  unfolding shape-of is-listed in-class may-end free only is-target is-simple-target kind-of kids-of last-kind seen as-name
+  unfolding shapes seen as-name
   name-becomes = becomes-if (eqb kind Row.Identifier) (λ e. keeps _ _ refl (row-formed refl (rw (eqb-true kind Row.Identifier e) at k) a) (record { holds = refl })) (refuses _ refl)
 
   becomes : is-listed kind ≡ true → (role : Role) → Becomes (After role (node kind mark first end kids)) mark first end kids (change role (seen (node kind mark first end kids)))
@@ -364,54 +370,33 @@ module _ (kind mark first end : ℕ) (kids : Forest) (k : KidsOf kind kids) (a :
   becomes l name = name-becomes
   becomes l same = keeps _ _ refl (row-formed l k a) refl
 
--- what comes of a tree that is Formed
-data Turns (role : Role) (t : Tree) (o : Outcome Tree) : Type 0 where
-  turns-to : (t′ : Tree) (records : List Record) → o ≡ turned t′ records → Formed t′ → After role t t′ → Turns role t o
-  turns-not : (cause : Cause) → o ≡ refused cause → Turns role t o
-
-data TurnKids (each : ℕ → Role) (ts : Forest) (o : Outcome Forest) : Type 0 where
-  turn-kids : (ts′ : Forest) (records : List Record) → o ≡ turned ts′ records → AllFormed ts′ → Each each ts ts′ → TurnKids each ts o
-  turn-not : (cause : Cause) → o ≡ refused cause → TurnKids each ts o
-
-over-turns : {role : Role} {kind mark first end : ℕ} {kids : Forest} (c : Change) {o : Outcome Forest} → Becomes (After role (node kind mark first end kids)) mark first end kids c
-    → TurnKids (roles c) kids o → Turns role (node kind mark first end kids) (over c (node kind mark first end kids) o)
-unfolding over roles
-over-turns c (refuses cause e) k = rw e (turns-not cause refl)
-over-turns c (keeps kind′ records e f a) k = rw e (turns-to _ _ refl f a)
-over-turns {role} {kind} {mark} {first} {end} {kids} c {o} (turns kind′ before each after e f a) k = rw e (go (rw e at k))
-  where
-    go : TurnKids each kids o → Turns role (node kind mark first end kids) (over (turn kind′ before each after) (node kind mark first end kids) o)
-    go (turn-kids ts′ records q g h) = rw q (turns-to _ _ refl (f ts′ h g) (a ts′))
-    go (turn-not cause q) = rw q (turns-not cause refl)
-
-both-turn : {each : ℕ → Role} {t : Tree} {ts : Forest} {o : Outcome Tree} {o′ : Outcome Forest} → Turns (each (count ts)) t o → TurnKids each ts o′ → TurnKids each (cons t ts) (both o o′)
-unfolding both
-both-turn (turns-not cause e) k = rw e (turn-not cause refl)
-both-turn (turns-to t′ records e f a) (turn-not cause e′) = rw (e, e′) (turn-not cause refl)
-both-turn (turns-to t′ records e f a) (turn-kids ts′ more e′ g h) = rw (e, e′) (turn-kids _ _ refl (all-cons f g) (each-cons a h))
-
-mutual
-  unfolding convert-as convert-kids
-
-  convert-turns : (t : Tree) (role : Role) → Formed t → Turns role t (convert-as t role)
-  convert-turns (node kind mark first end kids) role (row-formed l k a) =
-      over-turns (change role (seen (node kind mark first end kids))) (becomes kind mark first end kids k a l role) (kids-turn kids (roles (change role (seen (node kind mark first end kids)))) a)
-
-  kids-turn : (ts : Forest) (each : ℕ → Role) → AllFormed ts → TurnKids each ts (convert-kids ts each)
-  kids-turn nil each all-nil = turn-kids nil [] refl all-nil each-nil
-  kids-turn (cons t ts) each (all-cons f a) = both-turn (convert-turns t (each (count ts)) f) (kids-turn ts each a)
-
 -- conversion of what is Formed is Formed, and of the class that the role asks for
 pub record Converted (role : Role) (t t′ : Tree) : Type 0 where
   pub is-formed : Formed t′
   pub is-after : After role t t′
 
-pub converted-formed : (t : Tree) (role : Role) {t′ : Tree} {records : List Record} → Formed t → convert-as t role ≡ turned t′ records → Converted role t t′
-converted-formed t role {t′} {records} f e = go (convert-turns t role f)
-  where
-    go : Turns role t (convert-as t role) → Converted role t t′
-    go (turns-to u rs e′ g a) = let q : u ≡ t′ = cc in rw q at (both-of u g a)
-      where
-        both-of : (u : Tree) → Formed u → After role t u → Converted role t u
-        both-of u g a = record { is-formed = g; is-after = a }
-    go (turns-not cause e′) = let z : _≡_ {A = ℕ} 0 1 = cc in absurd (omega arith)
+over-converted : {role : Role} {kind mark first end : ℕ} {kids : Forest} (c : Change) (o : Outcome Forest) {t′ : Tree} {rs : List Record}
+    → Becomes (After role (node kind mark first end kids)) mark first end kids c → over c (node kind mark first end kids) o ≡ turned t′ rs
+    → ((ts′ : Forest) (ss : List Record) → o ≡ turned ts′ ss → AllFormed ts′ × Each (roles c) kids ts′) → Converted role (node kind mark first end kids) t′
+unfolding over roles
+over-converted c o (refuses cause e) h k = absurd (refused-turned (rw e at h))
+over-converted c o (keeps kind′ records e f a) h k = rw (sym (turned-is (rw e at h))) (record { is-formed = f; is-after = a })
+over-converted c (refused cause) (turns kind′ before each after e f a) h k = absurd (refused-turned (rw e at h))
+over-converted c (turned ts ss) (turns kind′ before each after e f a) h k =
+    let d = rw e at (k ts ss refl) in rw (sym (turned-is (rw e at h))) (record { is-formed = f ts (d .1) (d .0); is-after = a ts })
+
+mutual
+  unfolding convert-as convert-kids
+
+  pub converted-formed : (t : Tree) (role : Role) {t′ : Tree} {rs : List Record} → Formed t → convert-as t role ≡ turned t′ rs → Converted role t t′
+  converted-formed (node kind mark first end kids) role (row-formed l k a) h =
+      over-converted (change role (seen (node kind mark first end kids))) (convert-kids kids (roles (change role (seen (node kind mark first end kids)))))
+      (becomes kind mark first end kids k a l role) h (λ ts′ ss q. kids-formed kids (roles (change role (seen (node kind mark first end kids)))) a q)
+
+  kids-formed : (ts : Forest) (each : ℕ → Role) {ts′ : Forest} {rs : List Record} → AllFormed ts → convert-kids ts each ≡ turned ts′ rs → AllFormed ts′ × Each each ts ts′
+  kids-formed nil each all-nil h = rw (sym (turned-is h)) (all-nil, each-nil)
+  kids-formed (cons t ts) each (all-cons f a) h =
+      let b = cons-parts t ts each _ _ h in
+      let c = converted-formed t (each (count ts)) f (b .one-is) in
+      let d = kids-formed ts each a (b .rest-is) in
+      rw (b .made) (all-cons (c .is-formed) (d .0), each-cons (c .is-after) (d .1))

@@ -9,18 +9,31 @@ use mathlib.Core.List.{List, [], _++_}
 use native.Mathlib.Omega.{arith}
 use lib.ListN.{length}
 use borrow.Author.Tests.{eqb-true, eq-eqb}
-use Rattle.tokens.specs.Bool.{_is_, _and_, if_then_else_}
+use Rattle.tokens.specs.Kind.{Async, LParen}
+use Rattle.rows.specs.Row as Row
+use Rattle.tokens.specs.Bool.{_or_, _is_, _and_, if_then_else_}
 use Rattle.tokens.proofs.Stands.{stands}
 use Rattle.tokens.specs.declared.cause.Cause.{Cause}
 use Rattle.rows.specs.Tree.{Tree, Forest, one}
 use Rattle.rows.specs.Record.{Record}
 use Rattle.conversion.specs.Conversion.{Role, Outcome, turned, refused, convert-as}
 use Rattle.grammar.specs.Sheet.{Sheet, token, Out, done, fail, stuck, Reading, Part, after-records, and-then, or-else, _>>=_, try, yield, refuse, say}
-use Rattle.grammar.specs.Job.{Job, Asks}
-use Rattle.grammar.specs.Update.{converted-to, converted}
-use Rattle.grammar.specs.Arrow.{Way, pass, attempt, commit, Policy, by-way, choose, noting}
+use Rattle.grammar.specs.Job.{Job, value, head, body, Asks}
+use Rattle.grammar.specs.Comma.{expression-of, sequence-of}
+use Rattle.grammar.specs.Assignment.{assign-of, conditional-of, after-binary, value-of}
+use Rattle.grammar.specs.Binary.{binary-of, operators-of}
+use Rattle.grammar.specs.Update.{converted-to, converted, unary-of, postfix-of}
+use Rattle.grammar.specs.LeftHandSide.{left-hand-side-of, links-of, arguments-of}
+use Rattle.grammar.specs.Primary.{parenthesized-of, primary-of, spread-of, elements-of, properties-of, shorthand-of, property-of, key-of}
+use Rattle.grammar.specs.Binding.{binding-of, binding-element-of, binding-rest-of, binding-elements-of, binding-properties-of, binding-shorthand-of, binding-property-of}
+use Rattle.grammar.specs.Arrow.{Way, pass, attempt, commit, Policy, by-way, choose, noting, arrow-of, assignment-of, parenthesized-head-of, head-of, parameters-of, body-of}
 use Rattle.grammar.specs.Step.{step, read, plenty}
 use Rattle.grammar.specs.Reading.{unconverteds, whole, refused as refused-whole, at-end, reading}
+
+-- every production: to unfold this is to unfold them all
+unfoldable pub productions : Type 0
+unfolding step expression-of sequence-of assignment-of arrow-of value-of after-binary assign-of conditional-of binary-of operators-of unary-of postfix-of left-hand-side-of links-of arguments-of primary-of parenthesized-of elements-of properties-of property-of shorthand-of key-of spread-of binding-of binding-element-of binding-elements-of binding-properties-of binding-property-of binding-shorthand-of binding-rest-of head-of parenthesized-head-of parameters-of body-of
+productions = Unit {0}
 
 -- what may be said of what is done: up to where, the trees, the records
 abbrev pub Meaning : Type 1
@@ -46,6 +59,13 @@ module _ {N : Type 0} where
   pub record Answers (Fit : Job → Type 0) (Good : Job → Meaning) (Bad : Cause → Type 0) (ask : Asks N) : Type 0 where
     pub with : (job : Job) → Fit job → Reads (Good job) Bad (ask job)
 
+-- any nonterminal may be asked; and of a refusal nothing is said
+abbrev pub Any : Job → Type 0
+Any job = Unit {0}
+
+abbrev pub Nothing : Cause → Type 0
+Nothing cause = Unit {0}
+
 -- THE PRINCIPLE, for any policy, sheet and notion of good
 module _ {N : Type 0} (policy : Policy N) (sheet : Sheet) (Fit : Job → Type 0) (Good : Job → Meaning) (Bad : Cause → Type 0) where
   -- every production makes good answers out of good answers
@@ -53,8 +73,8 @@ module _ {N : Type 0} (policy : Policy N) (sheet : Sheet) (Fit : Job → Type 0)
     pub with : (ask : Asks N) → Answers Fit Good Bad ask → Answers Fit Good Bad (step policy sheet ask)
 
   -- the same where something else is known of every answer already
-  pub good-given : (Given : Job → Meaning) → ((steps : ℕ) → Answers {N = N} (λ job. Unit {0}) Given (λ cause. Unit {0}) (read policy sheet steps))
-      → ((ask : Asks N) → Answers (λ job. Unit {0}) Given (λ cause. Unit {0}) ask → Answers Fit Good Bad ask → Answers Fit Good Bad (step policy sheet ask))
+  pub good-given : (Given : Job → Meaning) → ((steps : ℕ) → Answers {N = N} Any Given Nothing (read policy sheet steps))
+      → ((ask : Asks N) → Answers Any Given Nothing ask → Answers Fit Good Bad ask → Answers Fit Good Bad (step policy sheet ask))
       → (steps : ℕ) → Answers Fit Good Bad (read policy sheet steps)
   unfolding read
   good-given Given g p zero = record { with = λ job fit. record { with = λ notes. ends-stuck refl } }
@@ -214,10 +234,14 @@ module _ {N : Type 0} {F : Cause → Type 0} where
     test true h g = h refl
     test false h g = g refl
 
-    -- `if token sheet at is kind then .. else ..`, so `want sheet kind at` too
+    -- `if token sheet at is kind then .. else ..`
     pub token-test : (sheet : Sheet) (at kind : ℕ) {x y : Reading N} → (Stands sheet at (suc kind) → Reads P F x) → Reads P F y
         → Reads P F (if token sheet at is suc kind then x else y)
     token-test sheet at kind h g = test (token sheet at is suc kind) (λ e. h (record { kind-is = eqb-true _ _ e; here = stands (sheet .kinds) (eqb-true _ _ e) })) (λ e. g)
+
+    -- `want sheet kind at`: the token must stand here
+    pub wants : (sheet : Sheet) (at kind : ℕ) (cause : Cause) {x : Reading N} → F cause → (Stands sheet at (suc kind) → Reads P F x) → Reads P F (if token sheet at is suc kind then x else refuse cause)
+    wants sheet at kind cause f h = token-test sheet at kind h (refuses _ f)
 
     -- `choose way`
     pub chooses : (way : N → Way) {x y z : Reading N} → Reads P F x → Reads P F y → Reads P F z → Reads P F (choose way x y z)
@@ -253,6 +277,15 @@ module _ {N : Type 0} {F : Cause → Type 0} where
       go (ends-done end trees records notes e q) = ends-done end trees records notes e (h end trees records q)
       go (ends-fail cause notes e f) = ends-fail cause notes e f
       go (ends-stuck e) = ends-stuck e
+
+-- 13.15: a value, or a head and the body after it, whether the head is tried or must be
+pub heads : {N : Type 0} {F : Cause → Type 0} {P Q : Meaning} (policy : Policy N) (sheet : Sheet) (ask : Asks N) (at : ℕ) → Reads P F (ask (value at)) → Reads Q F (ask (head at))
+    → ((list : Part) (records : List Record) → Q (list .end) (list .trees) records
+    → Reads (λ end trees more. P end trees (records ++ more)) F (ask (body (if token sheet at is Async then Row.AsyncArrow else Row.Arrow) at (list .end) (list .trees))))
+    → Reads P F (assignment-of policy sheet ask at)
+unfolding productions
+heads policy sheet ask at v h b =
+    test (token sheet at is LParen or token sheet at is Async) (λ _. chooses (policy .way at) v (tries h b (notes (policy .mark at) v)) (follows h b)) (λ _. v)
 
 -- what is known in two ways is known together
 pub both : {N : Type 0} {F G : Cause → Type 0} {P Q : Meaning} {reading : Reading N} → Reads P F reading → Reads Q G reading

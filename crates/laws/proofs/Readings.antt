@@ -10,26 +10,22 @@ use lib.Dec.{ltb}
 use Rattle.tokens.specs.Bool.{_or_, _and_, _is_, if_then_else_}
 use Rattle.tokens.specs.Kind.{Async, Str, Number, LParen, LCurly, Colon, Dot3, Arrow, Eq}
 use Rattle.tokens.specs.Token.{is-name, is-word, is-literal}
-use Rattle.tokens.specs.declared.cause.Cause.{Cause}
 use Rattle.operators.specs.Precedence.{expression-level}
 use Rattle.rows.specs.Row as Row
 use Rattle.rows.specs.Tree.{Tree, Forest, node, nil, cons, one, join, kind-of}
 use Rattle.rows.specs.Record.{Record}
 use Rattle.conversion.specs.Conversion.{Role, any, simple}
-use Rattle.grammar.specs.Sheet.{Sheet, token, break-before, done, Part, tree, leaf}
+use Rattle.grammar.specs.Sheet.{Sheet, token, break-before, done, tree, leaf}
 use Rattle.grammar.specs.Job.{Job, expression, sequence, assignment, value, assign, conditional, binary, operators, unary, postfix, left-hand-side, links, arguments, primary, elements, properties, property, key, spread, binding, binding-element, binding-elements, binding-properties, binding-property, binding-rest, head, parameters, body, Asks}
-use Rattle.grammar.specs.Comma.{expression-of, sequence-of}
-use Rattle.grammar.specs.Assignment.{is-assignment-operator, assign-of, conditional-of, after-binary, is-async-name, value-of}
-use Rattle.grammar.specs.Binary.{operation-kind, right-floor, binary-of, operators-of}
-use Rattle.grammar.specs.Update.{is-unary-operator, is-update-operator, converted, unary-of, postfix-of}
-use Rattle.grammar.specs.LeftHandSide.{left-hand-side-of, links-of, arguments-of}
-use Rattle.grammar.specs.Primary.{parenthesized-of, primary-of, spread-of, elements-of, properties-of, shorthand-of, property-of, key-of}
-use Rattle.grammar.specs.Binding.{binding-of, binding-element-of, binding-rest-of, binding-elements-of, argument-of, binding-properties-of, binding-shorthand-of, binding-property-of}
-use Rattle.grammar.specs.Arrow.{Policy, arrow-of, assignment-of, parenthesized-head-of, head-of, parameters-of, body-of}
+use Rattle.grammar.specs.Assignment.{is-assignment-operator, is-async-name}
+use Rattle.grammar.specs.Binary.{operation-kind, right-floor}
+use Rattle.grammar.specs.Update.{is-unary-operator, is-update-operator, converted}
+use Rattle.grammar.specs.Binding.{argument-of}
+use Rattle.grammar.specs.Arrow.{Policy, parenthesized-head-of}
 use Rattle.grammar.specs.Step.{step, read}
 use Rattle.laws.proofs.Balanced as Balance
 use Rattle.laws.proofs.Balanced.{side-of, Side, Balanced, none, skip, nest, partner, joined, flat, name-flat, word-flat, literal-flat, operator-flat}
-use Rattle.laws.proofs.Good.{Meaning, Stands, Reads, Answers, Preserved, good, good-done, yields, refuses, says, follows, tries, test, token-test, chooses, notes, converts, so, and-left, and-right}
+use Rattle.laws.proofs.Good.{productions, wants, Any, Nothing, Meaning, Stands, Reads, Answers, Preserved, good, good-done, yields, refuses, says, follows, heads, test, token-test, converts, so, and-left, and-right}
 
 -- balanced up to a closing bracket, and past it
 pub record Closes (sheet : Sheet) (at end : ℕ) : Type 0 where
@@ -115,13 +111,6 @@ Shape sheet (body kind first at so-far) end = Balanced sheet (at + 1) end
 abbrev pub Shaped : Sheet → Job → Meaning
 Shaped sheet job end trees records = Shape sheet job end
 
--- any nonterminal may be asked, and of a refusal nothing is said
-abbrev Any : Job → Type 0
-Any job = Unit {0}
-
-abbrev Nothing : Cause → Type 0
-Nothing cause = Unit {0}
-
 -- what conversion makes of a tree ends where that ends
 target : {N : Type 0} (role : Role) (at : ℕ) (left : Tree) → Reads {N = N} (λ end trees records. end ≡ at) Nothing (converted role at left)
 target role at left = converts role at left (λ t records e. refl) (λ cause e. tt)
@@ -164,41 +153,46 @@ whole-head {sheet} {at} {end} d = go (d .opening)
     go (after-async a e) = skip {i = at} (record { goes = rw a }) (rw e at list)
 
 -- THE PRODUCTIONS
-module _ {N : Type 0} (sheet : Sheet) {ask : Asks N} (h : Answers Any (Shaped sheet) Nothing ask) where
+module _ {N : Type 0} (policy : Policy N) (sheet : Sheet) {ask : Asks N} (h : Answers Any (Shaped sheet) Nothing ask) where
   asked : (job : Job) → Reads (Shaped sheet job) Nothing (ask job)
   asked job = h .with job tt
 
+  -- another part, or a spread
+  or-spread : (at : ℕ) (other : Job) → Reads (λ end trees records. Balanced sheet at end) Nothing (ask other) → (dots : Bool) → token sheet at is Dot3 ≡ dots
+      → Reads (λ end trees records. Balanced sheet at end) Nothing (ask (if dots then spread at else other))
+  or-spread at other o true e = so (asked (spread at)) (λ end trees more c. skip (flat (λ k. k is Dot3) refl refl refl refl refl refl e) c)
+  or-spread at other o false e = o
+
+  -- a rest from its `...` on
+  rest-shape : (at : ℕ) → Stands sheet at Dot3 → Reads (λ end trees records. Balanced sheet at end) Nothing (ask (binding-rest at))
+  unfolding side-of
+  rest-shape at t = so (asked (binding-rest at)) (λ end trees more c. before t refl c)
+
+  -- 15.3 and 15.9
+  parenthesized-head-shape : (at starts : ℕ) → Opening sheet at starts
+      → Reads (Shaped sheet (head at)) Nothing (parenthesized-head-of sheet ask starts)
+  unfolding productions
+  parenthesized-head-shape at starts o =
+      wants sheet _ _ _ tt (λ t. follows (asked (parameters (starts + 1) nil))
+      (λ list rs b. wants sheet _ _ _ tt
+      (λ u. yields _ _ (record { starts = starts; opens = t .kind-is; opening = o; list = b; arrow = u .kind-is }))))
+
+  -- every production
+  pub step-shape : (job : Job) → Reads (Shaped sheet job) Nothing (step policy sheet ask job)
+  unfolding productions is-async-name side-of
   -- 13.16
-  expression-shape : (at : ℕ) → Reads (Shaped sheet (expression at)) Nothing (expression-of sheet ask at)
-  unfolding expression-of
-  expression-shape at =
+  step-shape (expression at) =
       follows (asked (assignment at))
       (λ part rs b. token-test sheet _ _ (λ t. so (asked (sequence at (part .end) (part .end) (part .trees))) (λ end trees more c. joined b c)) (yields _ _ b))
-
-  sequence-shape : (first comma at : ℕ) (so-far : Forest) → Reads (Shaped sheet (sequence first comma at so-far)) Nothing (sequence-of sheet ask first comma at so-far)
-  unfolding sequence-of side-of
-  sequence-shape first comma at so-far =
+  step-shape (sequence first comma at so-far) =
       token-test sheet _ _
       (λ t. follows (asked (assignment (at + 1)))
       (λ part rs b. so (asked (sequence first comma (part .end) (join so-far (part .trees)))) (λ end trees more c. before t refl (joined b c))))
       (yields _ _ none)
-
-  -- 13.15 and 13.14
-  after-binary-shape : (at : ℕ) (left : Part) (rs : List Record) → Balanced sheet at (left .end) → Reads (λ end trees more. Balanced sheet at end) Nothing (after-binary sheet ask at left)
-  unfolding after-binary side-of
-  after-binary-shape at left rs b =
-      test (kind-of (tree left) is Row.Identifier and token sheet (left .end) is Arrow)
-      (λ t. so (asked (body Row.Arrow at (left .end) (one (leaf Row.BindingName at))))
-      (λ end trees more c. joined b (skip (flat (λ k. k is Arrow) refl refl refl refl refl refl (and-right (kind-of (tree left) is Row.Identifier) _ t)) c)))
-      (λ _. test (is-assignment-operator (token sheet (left .end)))
-      (λ t. so (asked (assign at (left .end) (tree left))) (λ end trees more c. joined b (skip (assignment-flat t) c)))
-      (λ _. token-test sheet _ _
-      (λ t. so (asked (conditional at (left .end) (tree left))) (λ end trees more c. joined b (before t refl c)))
-      (yields _ _ b)))
-
-  value-shape : (at : ℕ) → Reads (Shaped sheet (value at)) Nothing (value-of sheet ask at)
-  unfolding value-of is-async-name
-  value-shape at =
+  step-shape (assignment at) =
+      heads policy sheet ask at (asked (value at)) (asked (head at))
+      (λ list rs d. so (asked (body _ at (list .end) (list .trees))) (λ end trees more c. joined (whole-head d) (skip (record { goes = rw (d .arrow) }) c)))
+  step-shape (value at) =
       test (is-async-name sheet at)
       (λ t. so (asked (body Row.AsyncArrow at (at + 2) (one (leaf Row.BindingName (at + 1)))))
       (λ end trees more c.
@@ -207,297 +201,151 @@ module _ {N : Type 0} (sheet : Sheet) {ask : Asks N} (h : Answers Any (Shaped sh
       skip (flat (λ k. k is Async) refl refl refl refl refl refl (and-left (token sheet at is Async) _ t))
       (skip (name-flat (and-left (is-name (token sheet (at + 1))) _ named))
       (two at (skip (flat (λ k. k is Arrow) refl refl refl refl refl refl rest) c)))))
-      (λ _. follows (asked (binary 0 at)) (λ left rs b. after-binary-shape at left rs b))
-
-  assign-shape : (first at : ℕ) (left : Tree) → Reads (Shaped sheet (assign first at left)) Nothing (assign-of sheet ask first at left)
-  unfolding assign-of
-  assign-shape first at left =
+      (λ _. follows (asked (binary 0 at))
+      (λ left rs b. test (kind-of (tree left) is Row.Identifier and token sheet (left .end) is Arrow)
+      (λ t. so (asked (body Row.Arrow at (left .end) (one (leaf Row.BindingName at))))
+      (λ end trees more c. joined b (skip (flat (λ k. k is Arrow) refl refl refl refl refl refl (and-right (kind-of (tree left) is Row.Identifier) _ t)) c)))
+      (λ _. test (is-assignment-operator (token sheet (left .end)))
+      (λ t. so (asked (assign at (left .end) (tree left))) (λ end trees more c. joined b (skip (assignment-flat t) c)))
+      (λ _. token-test sheet _ _ (λ t. so (asked (conditional at (left .end) (tree left))) (λ end trees more c. joined b (before t refl c)))
+      (yields _ _ b)))))
+  step-shape (assign first at left) =
       follows (target (if token sheet at is Eq then any else simple) at left)
       (λ target rs e. follows (asked (assignment (at + 1))) (λ right more c. yields _ _ c))
-
-  conditional-shape : (first at : ℕ) (left : Tree) → Reads (Shaped sheet (conditional first at left)) Nothing (conditional-of sheet ask first at left)
-  unfolding conditional-of side-of
-  conditional-shape first at left =
+  step-shape (conditional first at left) =
       follows (asked (assignment (at + 1)))
-      (λ if-true rs b. token-test sheet _ _
-      (λ t. follows (asked (assignment (if-true .end + 1))) (λ if-false more c. yields _ _ (joined b (before t refl c))))
-      (refuses _ tt))
-
+      (λ if-true rs b. wants sheet _ _ _ tt
+      (λ t. follows (asked (assignment (if-true .end + 1))) (λ if-false more c. yields _ _ (joined b (before t refl c)))))
   -- 13.6 to 13.13
-  binary-shape : (floor at : ℕ) → Reads (Shaped sheet (binary floor at)) Nothing (binary-of sheet ask floor at)
-  unfolding binary-of
-  binary-shape floor at = follows (asked (unary at)) (λ left rs b. so (asked (operators floor at (left .end) (tree left))) (λ end trees more c. joined b c))
-
-  operators-shape : (floor first at : ℕ) (left : Tree) → Reads (Shaped sheet (operators floor first at left)) Nothing (operators-of sheet ask floor first at left)
-  unfolding operators-of
-  operators-shape floor first at left =
+  step-shape (binary floor at) = follows (asked (unary at)) (λ left rs b. so (asked (operators floor at (left .end) (tree left))) (λ end trees more c. joined b c))
+  step-shape (operators floor first at left) =
       test (ltb floor (expression-level (token sheet at)))
       (λ t. follows (asked (binary (right-floor (token sheet at)) (at + 1)))
       (λ right rs b. says _ (so (asked (operators floor first (right .end) (node (operation-kind (token sheet at)) at first (right .end) (cons left (right .trees)))))
       (λ end trees more c. skip (operator-flat floor t) (joined b c)))))
       (λ _. yields _ _ none)
-
   -- 13.5 and 13.4
-  unary-shape : (at : ℕ) → Reads (Shaped sheet (unary at)) Nothing (unary-of sheet ask at)
-  unfolding unary-of
-  unary-shape at =
+  step-shape (unary at) =
       test (is-unary-operator (token sheet at))
       (λ t. follows (asked (unary (at + 1))) (λ operand rs b. yields _ _ (skip (unary-flat t) b)))
       (λ _. test (is-update-operator (token sheet at))
       (λ t. follows (asked (unary (at + 1)))
       (λ operand rs b. follows (target simple (operand .end) (tree operand)) (λ target more e. yields _ _ (skip (update-flat t) (rw e b)))))
       (λ _. asked (postfix at)))
-
-  postfix-shape : (at : ℕ) → Reads (Shaped sheet (postfix at)) Nothing (postfix-of sheet ask at)
-  unfolding postfix-of
-  postfix-shape at =
+  step-shape (postfix at) =
       follows (asked (left-hand-side at))
       (λ operand rs b. test (is-update-operator (token sheet (operand .end)) and not (break-before sheet (operand .end)))
       (λ t. follows (target simple (operand .end) (tree operand))
       (λ target more e. yields _ _ (rw e (joined b (skip (update-flat (and-left (is-update-operator (token sheet (operand .end))) _ t)) none)))))
       (λ _. yields _ _ b))
-
   -- 13.3
-  left-hand-side-shape : (at : ℕ) → Reads (Shaped sheet (left-hand-side at)) Nothing (left-hand-side-of sheet ask at)
-  unfolding left-hand-side-of
-  left-hand-side-shape at = follows (asked (primary at)) (λ base rs b. so (asked (links at (base .end) (tree base))) (λ end trees more c. joined b c))
-
-  links-shape : (first at : ℕ) (left : Tree) → Reads (Shaped sheet (links first at left)) Nothing (links-of sheet ask first at left)
-  unfolding links-of side-of
-  links-shape first at left =
+  step-shape (left-hand-side at) = follows (asked (primary at)) (λ base rs b. so (asked (links at (base .end) (tree base))) (λ end trees more c. joined b c))
+  step-shape (links first at left) =
       token-test sheet _ _
       (λ t. test (is-word (token sheet (at + 1)))
       (λ w. so (asked (links first (at + 2) (node Row.Member (at + 1) first (at + 2) (one left)))) (λ end trees more c. before t refl (skip (word-flat w) (two at c))))
       (λ _. refuses _ tt))
       (token-test sheet _ _
       (λ t. follows (asked (expression (at + 1)))
-      (λ inner rs b. token-test sheet _ _
-      (λ u. so (asked (links first (inner .end + 1) (node Row.Index first first (inner .end + 1) (cons left (inner .trees))))) (λ end trees more c. joined (around t refl b u refl) c))
-      (refuses _ tt)))
+      (λ inner rs b. wants sheet _ _ _ tt
+      (λ u. so (asked (links first (inner .end + 1) (node Row.Index first first (inner .end + 1) (cons left (inner .trees))))) (λ end trees more c. joined (around t refl b u refl) c))))
       (token-test sheet _ _
       (λ t. follows (asked (arguments first (at + 1) (one left)))
       (λ call rs b. so (asked (links first (call .end) (tree call))) (λ end trees more c. joined (around-list t refl b) c)))
       (yields _ _ none)))
-
-  argument-shape : (at : ℕ) (dots : Bool) → token sheet at is Dot3 ≡ dots → Reads (λ end trees records. Balanced sheet at end) Nothing (ask (if dots then spread at else assignment at))
-  argument-shape at true e = so (asked (spread at)) (λ end trees more c. skip (flat (λ k. k is Dot3) refl refl refl refl refl refl e) c)
-  argument-shape at false e = asked (assignment at)
-
-  arguments-shape : (first at : ℕ) (so-far : Forest) → Reads (Shaped sheet (arguments first at so-far)) Nothing (arguments-of sheet ask first at so-far)
-  unfolding arguments-of side-of
-  arguments-shape first at so-far =
+  step-shape (arguments first at so-far) =
       token-test sheet _ _ (λ t. yields _ _ (closed-here t refl))
-      (follows (argument-shape at (token sheet at is Dot3) refl)
+      (follows (or-spread at (assignment at) (asked (assignment at)) (token sheet at is Dot3) refl)
       (λ argument rs b. token-test sheet _ _
       (λ t. so (asked (arguments first (argument .end + 1) (join so-far (argument .trees)))) (λ end trees more c. closed-on (after b t refl) c))
-      (token-test sheet _ _ (λ t. yields _ _ (closed-after b t refl)) (refuses _ tt))))
-
+      (wants sheet _ _ _ tt (λ t. yields _ _ (closed-after b t refl)))))
   -- 13.2
-  primary-shape : (at : ℕ) → Reads (Shaped sheet (primary at)) Nothing (primary-of sheet ask at)
-  unfolding primary-of parenthesized-of side-of
-  primary-shape at =
+  step-shape (primary at) =
       test (is-name (token sheet at)) (λ t. yields _ _ (skip (name-flat t) none))
       (λ _. token-test sheet _ _ (λ t. yields _ _ (before t refl none))
       (test (is-literal (token sheet at)) (λ t. yields _ _ (skip (literal-flat t) none))
       (λ _. token-test sheet _ _
-      (λ t. follows (asked (expression (at + 1))) (λ inner rs b. token-test sheet _ _ (λ u. yields _ _ (around t refl b u refl)) (refuses _ tt)))
+      (λ t. follows (asked (expression (at + 1))) (λ inner rs b. wants sheet _ _ _ tt (λ u. yields _ _ (around t refl b u refl))))
       (token-test sheet _ _ (λ t. so (asked (elements at (at + 1) Row.Array nil)) (λ end trees more c. around-list t refl c))
-      (token-test sheet _ _ (λ t. so (asked (properties at (at + 1) Row.Object nil)) (λ end trees more c. around-list t refl c)) (refuses _ tt))))))
-
-  spread-shape : (at : ℕ) → Reads (Shaped sheet (spread at)) Nothing (spread-of sheet ask at)
-  unfolding spread-of
-  spread-shape at = follows (asked (assignment (at + 1))) (λ argument rs b. yields _ _ b)
-
-  elements-shape : (first at kind : ℕ) (so-far : Forest) → Reads (Shaped sheet (elements first at kind so-far)) Nothing (elements-of sheet ask first at kind so-far)
-  unfolding elements-of side-of
-  elements-shape first at kind so-far =
+      (wants sheet _ _ _ tt (λ t. so (asked (properties at (at + 1) Row.Object nil)) (λ end trees more c. around-list t refl c)))))))
+  step-shape (elements first at kind so-far) =
       token-test sheet _ _ (λ t. yields _ _ (closed-here t refl))
       (token-test sheet _ _ (λ t. so (asked (elements first (at + 1) Row.Array (join so-far (one (leaf Row.Hole at))))) (λ end trees more c. closed-on (before t refl none) c))
-      (follows (argument-shape at (token sheet at is Dot3) refl)
+      (follows (or-spread at (assignment at) (asked (assignment at)) (token sheet at is Dot3) refl)
       (λ element rs b. token-test sheet _ _
       (λ t. so (asked (elements first (element .end + 1) (if token sheet at is Dot3 then Row.ArrayRestComma else Row.Array) (join so-far (element .trees))))
       (λ end trees more c. closed-on (after b t refl) c))
-      (token-test sheet _ _ (λ t. yields _ _ (closed-after b t refl)) (refuses _ tt)))))
-
-  property-or-spread-shape : (at : ℕ) (dots : Bool) → token sheet at is Dot3 ≡ dots → Reads (λ end trees records. Balanced sheet at end) Nothing (ask (if dots then spread at else property at))
-  property-or-spread-shape at true e = so (asked (spread at)) (λ end trees more c. skip (flat (λ k. k is Dot3) refl refl refl refl refl refl e) c)
-  property-or-spread-shape at false e = asked (property at)
-
-  properties-shape : (first at kind : ℕ) (so-far : Forest) → Reads (Shaped sheet (properties first at kind so-far)) Nothing (properties-of sheet ask first at kind so-far)
-  unfolding properties-of side-of
-  properties-shape first at kind so-far =
+      (wants sheet _ _ _ tt (λ t. yields _ _ (closed-after b t refl))))))
+  step-shape (properties first at kind so-far) =
       token-test sheet _ _ (λ t. yields _ _ (closed-here t refl))
-      (follows (property-or-spread-shape at (token sheet at is Dot3) refl)
+      (follows (or-spread at (property at) (asked (property at)) (token sheet at is Dot3) refl)
       (λ part rs b. token-test sheet _ _
       (λ t. so (asked (properties first (part .end + 1) (if token sheet at is Dot3 then Row.ObjectRestComma else Row.Object) (join so-far (part .trees))))
       (λ end trees more c. closed-on (after b t refl) c))
-      (token-test sheet _ _ (λ t. yields _ _ (closed-after b t refl)) (refuses _ tt))))
-
-  property-shape : (at : ℕ) → Reads (Shaped sheet (property at)) Nothing (property-of sheet ask at)
-  unfolding property-of shorthand-of side-of
-  property-shape at =
+      (wants sheet _ _ _ tt (λ t. yields _ _ (closed-after b t refl)))))
+  step-shape (property at) =
       test (is-name (token sheet at) and not (token sheet (at + 1) is Colon))
       (λ t. let n = name-flat (and-left (is-name (token sheet at)) _ t) in token-test sheet _ _
       (λ u. follows (asked (assignment (at + 2))) (λ initializer rs b. yields _ _ (skip n (before u refl (two at b)))))
       (yields _ _ (skip n none)))
       (λ _. follows (asked (key at))
-      (λ name rs b. token-test sheet _ _ (λ t. follows (asked (assignment (name .end + 1))) (λ content more c. yields _ _ (joined b (before t refl c)))) (refuses _ tt)))
-
-  key-shape : (at : ℕ) → Reads (Shaped sheet (key at)) Nothing (key-of sheet ask at)
-  unfolding key-of side-of
-  key-shape at =
+      (λ name rs b. wants sheet _ _ _ tt (λ t. follows (asked (assignment (name .end + 1))) (λ content more c. yields _ _ (joined b (before t refl c))))))
+  step-shape (key at) =
       test (is-word (token sheet at) or token sheet at is Str or token sheet at is Number) (λ t. yields _ _ (skip (key-flat t) none))
-      (λ _. token-test sheet _ _
-      (λ t. follows (asked (assignment (at + 1))) (λ inner rs b. token-test sheet _ _ (λ u. yields _ _ (around t refl b u refl)) (refuses _ tt)))
-      (refuses _ tt))
-
+      (λ _. wants sheet _ _ _ tt
+      (λ t. follows (asked (assignment (at + 1))) (λ inner rs b. wants sheet _ _ _ tt (λ u. yields _ _ (around t refl b u refl)))))
+  step-shape (spread at) = follows (asked (assignment (at + 1))) (λ argument rs b. yields _ _ b)
   -- 14.3.3
-  binding-shape : (at : ℕ) → Reads (Shaped sheet (binding at)) Nothing (binding-of sheet ask at)
-  unfolding binding-of side-of
-  binding-shape at =
+  step-shape (binding at) =
       test (is-name (token sheet at)) (λ t. yields _ _ (skip (name-flat t) none))
       (λ _. token-test sheet _ _ (λ t. so (asked (binding-elements at (at + 1) nil)) (λ end trees more c. around-list t refl c))
-      (token-test sheet _ _ (λ t. so (asked (binding-properties at (at + 1) nil)) (λ end trees more c. around-list t refl c)) (refuses _ tt)))
-
-  binding-element-shape : (at : ℕ) → Reads (Shaped sheet (binding-element at)) Nothing (binding-element-of sheet ask at)
-  unfolding binding-element-of side-of
-  binding-element-shape at =
+      (wants sheet _ _ _ tt (λ t. so (asked (binding-properties at (at + 1) nil)) (λ end trees more c. around-list t refl c))))
+  step-shape (binding-element at) =
       follows (asked (binding at))
       (λ target rs b. token-test sheet _ _
       (λ t. follows (asked (assignment (target .end + 1))) (λ initializer more c. yields _ _ (joined b (before t refl c))))
       (yields _ _ b))
-
-  binding-rest-shape : (at : ℕ) → Reads (Shaped sheet (binding-rest at)) Nothing (binding-rest-of sheet ask at)
-  unfolding binding-rest-of
-  binding-rest-shape at = follows (asked (binding-element (at + 1))) (λ argument rs b. says _ (yields _ _ b))
-
-  -- a rest from its `...` on
-  rest-shape : (at : ℕ) → Stands sheet at Dot3 → Reads (λ end trees records. Balanced sheet at end) Nothing (ask (binding-rest at))
-  unfolding side-of
-  rest-shape at t = so (asked (binding-rest at)) (λ end trees more c. before t refl c)
-
-  binding-elements-shape : (first at : ℕ) (so-far : Forest) → Reads (Shaped sheet (binding-elements first at so-far)) Nothing (binding-elements-of sheet ask first at so-far)
-  unfolding binding-elements-of side-of
-  binding-elements-shape first at so-far =
+  step-shape (binding-elements first at so-far) =
       token-test sheet _ _ (λ t. yields _ _ (closed-here t refl))
       (token-test sheet _ _ (λ t. so (asked (binding-elements first (at + 1) (join so-far (one (leaf Row.Hole at))))) (λ end trees more c. closed-on (before t refl none) c))
-      (token-test sheet _ _
-      (λ t. follows (rest-shape at t) (λ rest rs b. token-test sheet _ _ (λ u. yields _ _ (closed-after b u refl)) (refuses _ tt)))
+      (token-test sheet _ _ (λ t. follows (rest-shape at t) (λ rest rs b. wants sheet _ _ _ tt (λ u. yields _ _ (closed-after b u refl))))
       (follows (asked (binding-element at))
       (λ element rs b. token-test sheet _ _
       (λ t. so (asked (binding-elements first (element .end + 1) (join so-far (element .trees)))) (λ end trees more c. closed-on (after b t refl) c))
-      (token-test sheet _ _ (λ t. yields _ _ (closed-after b t refl)) (refuses _ tt))))))
-
-  binding-properties-shape : (first at : ℕ) (so-far : Forest) → Reads (Shaped sheet (binding-properties first at so-far)) Nothing (binding-properties-of sheet ask first at so-far)
-  unfolding binding-properties-of side-of
-  binding-properties-shape first at so-far =
+      (wants sheet _ _ _ tt (λ t. yields _ _ (closed-after b t refl)))))))
+  step-shape (binding-properties first at so-far) =
       token-test sheet _ _ (λ t. yields _ _ (closed-here t refl))
       (token-test sheet _ _
       (λ t. follows (rest-shape at t)
-      (λ rest rs b. token-test sheet _ _
-      (λ u. test (kind-of (argument-of (tree rest)) is Row.BindingName) (λ _. yields _ _ (closed-after b u refl)) (λ _. refuses _ tt))
-      (refuses _ tt)))
+      (λ rest rs b. wants sheet _ _ _ tt
+      (λ u. test (kind-of (argument-of (tree rest)) is Row.BindingName) (λ _. yields _ _ (closed-after b u refl)) (λ _. refuses _ tt))))
       (follows (asked (binding-property at))
       (λ part rs b. token-test sheet _ _
       (λ t. so (asked (binding-properties first (part .end + 1) (join so-far (part .trees)))) (λ end trees more c. closed-on (after b t refl) c))
-      (token-test sheet _ _ (λ t. yields _ _ (closed-after b t refl)) (refuses _ tt)))))
-
-  binding-property-shape : (at : ℕ) → Reads (Shaped sheet (binding-property at)) Nothing (binding-property-of sheet ask at)
-  unfolding binding-property-of binding-shorthand-of side-of
-  binding-property-shape at =
+      (wants sheet _ _ _ tt (λ t. yields _ _ (closed-after b t refl))))))
+  step-shape (binding-property at) =
       test (is-name (token sheet at) and not (token sheet (at + 1) is Colon))
       (λ t. let n = name-flat (and-left (is-name (token sheet at)) _ t) in token-test sheet _ _
       (λ u. follows (asked (assignment (at + 2))) (λ initializer rs b. yields _ _ (skip n (before u refl (two at b)))))
       (yields _ _ (skip n none)))
       (λ _. follows (asked (key at))
-      (λ name rs b. token-test sheet _ _ (λ t. follows (asked (binding-element (name .end + 1))) (λ content more c. yields _ _ (joined b (before t refl c)))) (refuses _ tt)))
-
-  -- 15.3 and 15.9
-  parenthesized-head-shape : (at starts : ℕ) → Opening sheet at starts
-      → Reads (Shaped sheet (head at)) Nothing (parenthesized-head-of sheet ask starts)
-  unfolding parenthesized-head-of
-  parenthesized-head-shape at starts o =
-      token-test sheet _ _
-      (λ t. follows (asked (parameters (starts + 1) nil))
-      (λ list rs b. token-test sheet _ _
-      (λ u. yields _ _ (record { starts = starts; opens = t .kind-is; opening = o; list = b; arrow = u .kind-is }))
-      (refuses _ tt)))
-      (refuses _ tt)
-
-  head-shape : (at : ℕ) → Reads (Shaped sheet (head at)) Nothing (head-of sheet ask at)
-  unfolding head-of
-  head-shape at =
+      (λ name rs b. wants sheet _ _ _ tt (λ t. follows (asked (binding-element (name .end + 1))) (λ content more c. yields _ _ (joined b (before t refl c))))))
+  step-shape (binding-rest at) = follows (asked (binding-element (at + 1))) (λ argument rs b. says _ (yields _ _ b))
+  step-shape (head at) =
       token-test sheet _ _
       (λ t. test (not (break-before sheet (at + 1))) (λ _. parenthesized-head-shape at (at + 1) (after-async (t .kind-is) refl)) (λ _. refuses _ tt))
       (parenthesized-head-shape at at (bare refl))
-
-  parameters-shape : (at : ℕ) (so-far : Forest) → Reads (Shaped sheet (parameters at so-far)) Nothing (parameters-of sheet ask at so-far)
-  unfolding parameters-of side-of
-  parameters-shape at so-far =
+  step-shape (parameters at so-far) =
       token-test sheet _ _ (λ t. yields _ _ (closed-here t refl))
-      (token-test sheet _ _
-      (λ t. follows (rest-shape at t) (λ rest rs b. token-test sheet _ _ (λ u. yields _ _ (closed-after b u refl)) (refuses _ tt)))
+      (token-test sheet _ _ (λ t. follows (rest-shape at t) (λ rest rs b. wants sheet _ _ _ tt (λ u. yields _ _ (closed-after b u refl))))
       (follows (asked (binding-element at))
       (λ parameter rs b. token-test sheet _ _
       (λ t. so (asked (parameters (parameter .end + 1) (join so-far (parameter .trees)))) (λ end trees more c. closed-on (after b t refl) c))
-      (token-test sheet _ _ (λ t. yields _ _ (closed-after b t refl)) (refuses _ tt)))))
-
-  body-shape : (kind first at : ℕ) (so-far : Forest) → Reads (Shaped sheet (body kind first at so-far)) Nothing (body-of sheet ask kind first at so-far)
-  unfolding body-of
-  body-shape kind first at so-far =
+      (wants sheet _ _ _ tt (λ t. yields _ _ (closed-after b t refl))))))
+  step-shape (body kind first at so-far) =
       says _ (test (not (token sheet (at + 1) is LCurly))
       (λ _. follows (asked (assignment (at + 1))) (λ inner rs b. yields _ _ b))
       (λ _. refuses _ tt))
-
-  -- 13.15, where a head is tried
-  arrow-shape : (policy : Policy N) (at : ℕ) (list : Part) (rs : List Record) → Headed sheet at (list .end)
-      → Reads (λ end trees more. Balanced sheet at end) Nothing (arrow-of policy sheet ask at list)
-  unfolding arrow-of side-of
-  arrow-shape policy at list rs d =
-      so (asked (body (if token sheet at is Async then Row.AsyncArrow else Row.Arrow) at (list .end) (list .trees)))
-      (λ end trees more c. joined (whole-head d) (skip (record { goes = rw (d .arrow) }) c))
-
-  assignment-shape : (policy : Policy N) (at : ℕ) → Reads (Shaped sheet (assignment at)) Nothing (assignment-of policy sheet ask at)
-  unfolding assignment-of
-  assignment-shape policy at =
-      test (token sheet at is LParen or token sheet at is Async)
-      (λ _. chooses (policy .way at)
-      (asked (value at))
-      (tries (asked (head at)) (arrow-shape policy at) (notes (policy .mark at) (asked (value at))))
-      (follows (asked (head at)) (arrow-shape policy at)))
-      (λ _. asked (value at))
-
--- every production
-pub step-shape : {N : Type 0} (policy : Policy N) (sheet : Sheet) {ask : Asks N} → Answers Any (Shaped sheet) Nothing ask → (job : Job) → Reads (Shaped sheet job) Nothing (step policy sheet ask job)
-unfolding step
-step-shape policy sheet h (expression at) = expression-shape sheet h at
-step-shape policy sheet h (sequence first comma at so-far) = sequence-shape sheet h first comma at so-far
-step-shape policy sheet h (assignment at) = assignment-shape sheet h policy at
-step-shape policy sheet h (value at) = value-shape sheet h at
-step-shape policy sheet h (assign first at left) = assign-shape sheet h first at left
-step-shape policy sheet h (conditional first at left) = conditional-shape sheet h first at left
-step-shape policy sheet h (binary floor at) = binary-shape sheet h floor at
-step-shape policy sheet h (operators floor first at left) = operators-shape sheet h floor first at left
-step-shape policy sheet h (unary at) = unary-shape sheet h at
-step-shape policy sheet h (postfix at) = postfix-shape sheet h at
-step-shape policy sheet h (left-hand-side at) = left-hand-side-shape sheet h at
-step-shape policy sheet h (links first at left) = links-shape sheet h first at left
-step-shape policy sheet h (arguments first at so-far) = arguments-shape sheet h first at so-far
-step-shape policy sheet h (primary at) = primary-shape sheet h at
-step-shape policy sheet h (elements first at kind so-far) = elements-shape sheet h first at kind so-far
-step-shape policy sheet h (properties first at kind so-far) = properties-shape sheet h first at kind so-far
-step-shape policy sheet h (property at) = property-shape sheet h at
-step-shape policy sheet h (key at) = key-shape sheet h at
-step-shape policy sheet h (spread at) = spread-shape sheet h at
-step-shape policy sheet h (binding at) = binding-shape sheet h at
-step-shape policy sheet h (binding-element at) = binding-element-shape sheet h at
-step-shape policy sheet h (binding-elements first at so-far) = binding-elements-shape sheet h first at so-far
-step-shape policy sheet h (binding-properties first at so-far) = binding-properties-shape sheet h first at so-far
-step-shape policy sheet h (binding-property at) = binding-property-shape sheet h at
-step-shape policy sheet h (binding-rest at) = binding-rest-shape sheet h at
-step-shape policy sheet h (head at) = head-shape sheet h at
-step-shape policy sheet h (parameters at so-far) = parameters-shape sheet h at so-far
-step-shape policy sheet h (body kind first at so-far) = body-shape sheet h kind first at so-far
 
 -- THE STATEMENT: what is done is balanced, with any policy, from any notes, at any bound on the steps
 module _ {N : Type 0} (policy : Policy N) (sheet : Sheet) where

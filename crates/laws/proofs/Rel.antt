@@ -21,18 +21,16 @@ use Rattle.rows.specs.Record.{Record}
 use Rattle.conversion.specs.Conversion.{Role, any, simple, Outcome, turned, refused, convert-as}
 use Rattle.grammar.specs.Sheet.{Sheet, token, break-before, Out, done, fail, Reading, Part, tree, leaf, after-records, and-then, or-else, _>>=_, try, yield, refuse, say}
 use Rattle.grammar.specs.Job.{Job, expression, sequence, assignment, value, assign, conditional, binary, operators, unary, postfix, left-hand-side, links, arguments, primary, elements, properties, property, key, spread, binding, binding-element, binding-elements, binding-properties, binding-property, binding-rest, head, parameters, body, Asks}
-use Rattle.grammar.specs.Comma.{expression-of, sequence-of}
-use Rattle.grammar.specs.Assignment.{is-assignment-operator, assign-of, conditional-of, after-binary, is-async-name, value-of}
-use Rattle.grammar.specs.Binary.{operation-kind, right-floor, binary-of, operators-of}
-use Rattle.grammar.specs.Update.{is-unary-operator, is-update-operator, converted-to, converted, unary-of, postfix-of}
-use Rattle.grammar.specs.LeftHandSide.{left-hand-side-of, links-of, arguments-of}
-use Rattle.grammar.specs.Primary.{parenthesized-of, primary-of, spread-of, elements-of, properties-of, shorthand-of, property-of, key-of}
-use Rattle.grammar.specs.Binding.{binding-of, binding-element-of, binding-rest-of, binding-elements-of, argument-of, binding-properties-of, binding-shorthand-of, binding-property-of}
-use Rattle.grammar.specs.Arrow.{Way, pass, attempt, commit, Policy, by-way, choose, noting, arrow-of, assignment-of, parenthesized-head-of, head-of, parameters-of, body-of}
+use Rattle.grammar.specs.Assignment.{is-assignment-operator, is-async-name}
+use Rattle.grammar.specs.Binary.{operation-kind, right-floor}
+use Rattle.grammar.specs.Update.{is-unary-operator, is-update-operator, converted-to, converted}
+use Rattle.grammar.specs.Binding.{argument-of}
+use Rattle.grammar.specs.Arrow.{Way, pass, attempt, commit, Policy, by-way, choose, noting, arrow-of, assignment-of, parenthesized-head-of}
 use Rattle.grammar.specs.Step.{step, read}
 use Rattle.laws.specs.Settles.{μ, looked-at}
-use Rattle.laws.proofs.Good.{Meaning, Stands, inside, and-right}
-use Rattle.laws.proofs.Bounds.{reads, limits, Bound, bounded-at}
+pub use Rattle.laws.proofs.Settles.{positive}
+use Rattle.laws.proofs.Good.{productions, Meaning, Stands, inside, and-right}
+use Rattle.laws.proofs.Bounds.{limits, Bound, bounded-at}
 
 -- the first place at which a nonterminal may note something: a head notes nothing where it begins
 abbrev pub first-noted : Job → ℕ
@@ -200,9 +198,17 @@ async-inside sheet at t =
     inside sheet (at + 2) (λ k. k is Arrow) refl
     (and-right (not (break-before sheet (at + 1))) _ (and-right (is-name (token sheet (at + 1))) _ (and-right (token sheet at is Async) _ t)))
 
--- THE PRODUCTIONS
-module _ {N N′ : Type 0} {Sim : N → N′ → Type 0} {Alike : Cause → Cause → Type 0} (alike : (cause : Cause) → Alike cause cause) (sheet : Sheet) {low n : ℕ} {ask : Asks N} {ask′ : Asks N′}
-    (h : Near Sim Alike sheet low n ask ask′) where
+-- a head that both have read
+pub arrow-rel : {N N′ : Type 0} {Sim : N → N′ → Type 0} {Alike : Cause → Cause → Type 0} → ((cause : Cause) → Alike cause cause) → (sheet : Sheet) {low n : ℕ} {ask : Asks N} {ask′ : Asks N′}
+    → Near Sim Alike sheet low n ask ask′ → (A : Policy N) (B : Policy N′) (at : ℕ) → Ready sheet low (suc n) (assignment at) → (list : Part) (records : List Record)
+    → Bound (limits sheet (head at)) (list .end) (list .trees) records → Agree Sim Alike Whatever (arrow-of A sheet ask at list) (arrow-of B sheet ask′ at list)
+unfolding arrow-of
+arrow-rel alike sheet h A B at r list rs b = forget (h .with (body (if token sheet at is Async then Row.AsyncArrow else Row.Arrow) at (list .end) (list .trees)) (omega arith))
+
+-- EVERY PRODUCTION, with any two policies and any two ways to answer what is asked, from what is special to the policies
+module _ {N N′ : Type 0} {Sim : N → N′ → Type 0} {Alike : Cause → Cause → Type 0} (alike : (cause : Cause) → Alike cause cause) (sheet : Sheet) (low : ℕ) (A : Policy N) (B : Policy N′) {n : ℕ}
+    {ask : Asks N} {ask′ : Asks N′} (h : Near Sim Alike sheet low n ask ask′)
+    (assignment-rel : (at : ℕ) → Ready sheet low (suc n) (assignment at) → Agree Sim Alike Whatever (assignment-of A sheet ask at) (assignment-of B sheet ask′ at)) where
   asked : (job : Job) → Ready sheet low n job → Agree Sim Alike (Bound (limits sheet job)) (ask job) (ask′ job)
   asked job r = h .with job r
 
@@ -212,25 +218,32 @@ module _ {N N′ : Type 0} {Sim : N → N′ → Type 0} {Alike : Cause → Caus
   no : (cause : Cause) → Agree Sim Alike Whatever (refuse cause) (refuse cause)
   no cause = both-refuse alike cause
 
+  -- another part, or a spread
+  or-spread : (at : ℕ) (other : Job) → Agree Sim Alike (λ end trees records. (at + 1 ≤ end) × (end ≤ length (sheet .kinds))) (ask other) (ask′ other) → (dots : Bool) → token sheet at is Dot3 ≡ dots
+      → low ≤ at → 32 * (length (sheet .kinds) - at) + 11 ≤ n
+      → Agree Sim Alike (λ end trees records. (at + 1 ≤ end) × (end ≤ length (sheet .kinds))) (ask (if dots then spread at else other)) (ask′ (if dots then spread at else other))
+  or-spread at other o true e l le = known (asked (spread at) (omega (arith, inside sheet at (λ k. k is Dot3) refl e))) (λ end trees records b. (omega arith, omega arith))
+  or-spread at other o false e l le = o
+
+  -- 15.3 and 15.9
+  parenthesized-head-rel : (at : ℕ) → low ≤ at + 1 → 32 * (length (sheet .kinds) - at) + 4 ≤ n + 1 → Agree Sim Alike Whatever (parenthesized-head-of sheet ask at) (parenthesized-head-of sheet ask′ at)
+  unfolding productions
+  parenthesized-head-rel at l le =
+      both-token sheet _ _ (λ t. both-follow (asked (parameters (at + 1) nil) (omega arith)) (λ list rs b. both-token sheet _ _ (λ t. both-yield _ _) (no _))) (no _)
+
+  pub step-rel : (job : Job) → Ready sheet low (suc n) job → Agree Sim Alike Whatever (step A sheet ask job) (step B sheet ask′ job)
+  unfolding productions is-assignment-operator is-unary-operator is-update-operator is-async-name
   -- 13.16
-  expression-rel : (at : ℕ) → Ready sheet low (suc n) (expression at) → Agree Sim Alike Whatever (expression-of sheet ask at) (expression-of sheet ask′ at)
-  unfolding expression-of
-  expression-rel at r =
+  step-rel (expression at) r =
       both-follow (asked (assignment at) (omega arith))
       (λ part rs b. both-token sheet _ _ (λ t. last (sequence at (part .end) (part .end) (part .trees)) (omega arith)) (both-yield _ _))
-
-  sequence-rel : (first comma at : ℕ) (so-far : Forest) → Ready sheet low (suc n) (sequence first comma at so-far)
-      → Agree Sim Alike Whatever (sequence-of sheet ask first comma at so-far) (sequence-of sheet ask′ first comma at so-far)
-  unfolding sequence-of
-  sequence-rel first comma at so-far r =
+  step-rel (sequence first comma at so-far) r =
       both-token sheet _ _
       (λ t. both-follow (asked (assignment (at + 1)) (omega arith)) (λ part rs b. last (sequence first comma (part .end) (join so-far (part .trees))) (omega arith)))
       (both-yield _ _)
-
+  step-rel (assignment at) r = assignment-rel at r
   -- 13.15 and 13.14
-  value-rel : (at : ℕ) → Ready sheet low (suc n) (value at) → Agree Sim Alike Whatever (value-of sheet ask at) (value-of sheet ask′ at)
-  unfolding value-of is-async-name after-binary is-assignment-operator
-  value-rel at r =
+  step-rel (value at) r =
       both-test (is-async-name sheet at)
       (λ t. last (body Row.AsyncArrow at (at + 2) (one (leaf Row.BindingName (at + 1))))
       (omega (arith, async-inside sheet at t)))
@@ -240,61 +253,35 @@ module _ {N N′ : Type 0} {Sim : N → N′ → Type 0} {Alike : Cause → Caus
       (λ _. both-test (is-assignment-operator (token sheet (left .end)))
       (λ t. last (assign at (left .end) (tree left)) (omega (arith, inside sheet (left .end) is-assignment-operator refl t)))
       (λ _. both-token sheet _ _ (λ t. last (conditional at (left .end) (tree left)) (omega arith)) (both-yield _ _)))))
-
-  assign-rel : (first at : ℕ) (left : Tree) → Ready sheet low (suc n) (assign first at left) → Agree Sim Alike Whatever (assign-of sheet ask first at left) (assign-of sheet ask′ first at left)
-  unfolding assign-of
-  assign-rel first at left r =
+  step-rel (assign first at left) r =
       both-follow (both-convert alike (if token sheet at is Eq then any else simple) at left)
       (λ target rs b. both-follow (asked (assignment (at + 1)) (omega arith)) (λ right more c. both-yield _ _))
-
-  conditional-rel : (first at : ℕ) (left : Tree) → Ready sheet low (suc n) (conditional first at left)
-      → Agree Sim Alike Whatever (conditional-of sheet ask first at left) (conditional-of sheet ask′ first at left)
-  unfolding conditional-of
-  conditional-rel first at left r =
+  step-rel (conditional first at left) r =
       both-follow (asked (assignment (at + 1)) (omega arith))
       (λ if-true rs b. both-token sheet _ _ (λ t. both-follow (asked (assignment (if-true .end + 1)) (omega arith)) (λ if-false more c. both-yield _ _)) (no _))
-
   -- 13.6 to 13.13
-  binary-rel : (floor at : ℕ) → Ready sheet low (suc n) (binary floor at) → Agree Sim Alike Whatever (binary-of sheet ask floor at) (binary-of sheet ask′ floor at)
-  unfolding binary-of
-  binary-rel floor at r = both-follow (asked (unary at) (omega arith)) (λ left rs b. last (operators floor at (left .end) (tree left)) (omega arith))
-
-  operators-rel : (floor first at : ℕ) (left : Tree) → Ready sheet low (suc n) (operators floor first at left)
-      → Agree Sim Alike Whatever (operators-of sheet ask floor first at left) (operators-of sheet ask′ floor first at left)
-  unfolding operators-of
-  operators-rel floor first at left r =
+  step-rel (binary floor at) r = both-follow (asked (unary at) (omega arith)) (λ left rs b. last (operators floor at (left .end) (tree left)) (omega arith))
+  step-rel (operators floor first at left) r =
       both-test (ltb floor (expression-level (token sheet at)))
       (λ t. let i = operator-inside sheet at floor t in both-follow (asked (binary (right-floor (token sheet at)) (at + 1)) (omega arith))
       (λ right rs b. both-say _ (last (operators floor first (right .end) (node (operation-kind (token sheet at)) at first (right .end) (cons left (right .trees)))) (omega arith))))
       (λ _. both-yield _ _)
-
   -- 13.5 and 13.4
-  unary-rel : (at : ℕ) → Ready sheet low (suc n) (unary at) → Agree Sim Alike Whatever (unary-of sheet ask at) (unary-of sheet ask′ at)
-  unfolding unary-of is-unary-operator is-update-operator
-  unary-rel at r =
+  step-rel (unary at) r =
       both-test (is-unary-operator (token sheet at))
       (λ t. let i = inside sheet at is-unary-operator refl t in both-follow (asked (unary (at + 1)) (omega arith)) (λ operand rs b. both-yield _ _))
       (λ _. both-test (is-update-operator (token sheet at))
       (λ t. let i = inside sheet at is-update-operator refl t in both-follow (asked (unary (at + 1)) (omega arith))
       (λ operand rs b. both-follow (both-convert alike simple (operand .end) (tree operand)) (λ target more c. both-yield _ _)))
       (λ _. last (postfix at) (omega arith)))
-
-  postfix-rel : (at : ℕ) → Ready sheet low (suc n) (postfix at) → Agree Sim Alike Whatever (postfix-of sheet ask at) (postfix-of sheet ask′ at)
-  unfolding postfix-of
-  postfix-rel at r =
+  step-rel (postfix at) r =
       both-follow (asked (left-hand-side at) (omega arith))
       (λ operand rs b. both-test (is-update-operator (token sheet (operand .end)) and not (break-before sheet (operand .end)))
       (λ t. both-follow (both-convert alike simple (operand .end) (tree operand)) (λ target more c. both-yield _ _))
       (λ _. both-yield _ _))
-
   -- 13.3
-  left-hand-side-rel : (at : ℕ) → Ready sheet low (suc n) (left-hand-side at) → Agree Sim Alike Whatever (left-hand-side-of sheet ask at) (left-hand-side-of sheet ask′ at)
-  unfolding left-hand-side-of
-  left-hand-side-rel at r = both-follow (asked (primary at) (omega arith)) (λ base rs b. last (links at (base .end) (tree base)) (omega arith))
-
-  links-rel : (first at : ℕ) (left : Tree) → Ready sheet low (suc n) (links first at left) → Agree Sim Alike Whatever (links-of sheet ask first at left) (links-of sheet ask′ first at left)
-  unfolding links-of
-  links-rel first at left r =
+  step-rel (left-hand-side at) r = both-follow (asked (primary at) (omega arith)) (λ base rs b. last (links at (base .end) (tree base)) (omega arith))
+  step-rel (links first at left) r =
       both-token sheet _ _
       (λ t. both-test (is-word (token sheet (at + 1))) (λ w. last (links first (at + 2) (node Row.Member (at + 1) first (at + 2) (one left))) (omega arith)) (λ _. no _))
       (both-token sheet _ _
@@ -303,25 +290,13 @@ module _ {N N′ : Type 0} {Sim : N → N′ → Type 0} {Alike : Cause → Caus
       (both-token sheet _ _
       (λ t. both-follow (asked (arguments first (at + 1) (one left)) (omega arith)) (λ call rs b. last (links first (call .end) (tree call)) (omega arith)))
       (both-yield _ _)))
-
-  argument-rel : (at : ℕ) (dots : Bool) → token sheet at is Dot3 ≡ dots → low ≤ at → 32 * (length (sheet .kinds) - at) + 11 ≤ n
-      → Agree Sim Alike (Bound (reads sheet at 0 0)) (ask (if dots then spread at else assignment at)) (ask′ (if dots then spread at else assignment at))
-  argument-rel at true e l le = asked (spread at) (omega (arith, inside sheet at (λ k. k is Dot3) refl e))
-  argument-rel at false e l le = asked (assignment at) (omega arith)
-
-  arguments-rel : (first at : ℕ) (so-far : Forest) → Ready sheet low (suc n) (arguments first at so-far)
-      → Agree Sim Alike Whatever (arguments-of sheet ask first at so-far) (arguments-of sheet ask′ first at so-far)
-  unfolding arguments-of
-  arguments-rel first at so-far r =
+  step-rel (arguments first at so-far) r =
       both-token sheet _ _ (λ t. both-yield _ _)
-      (both-follow (argument-rel at (token sheet at is Dot3) refl (omega arith) (omega arith))
+      (both-follow (or-spread at (assignment at) (known (asked (assignment at) (omega arith)) (λ end trees records b. (omega arith, omega arith))) (token sheet at is Dot3) refl (omega arith) (omega arith))
       (λ argument rs b. both-token sheet _ _ (λ t. last (arguments first (argument .end + 1) (join so-far (argument .trees))) (omega arith))
       (both-token sheet _ _ (λ t. both-yield _ _) (no _))))
-
   -- 13.2
-  primary-rel : (at : ℕ) → Ready sheet low (suc n) (primary at) → Agree Sim Alike Whatever (primary-of sheet ask at) (primary-of sheet ask′ at)
-  unfolding primary-of parenthesized-of
-  primary-rel at r =
+  step-rel (primary at) r =
       both-test (is-name (token sheet at)) (λ t. both-yield _ _)
       (λ _. both-token sheet _ _ (λ t. both-yield _ _)
       (both-test (is-literal (token sheet at)) (λ t. both-yield _ _)
@@ -329,75 +304,39 @@ module _ {N N′ : Type 0} {Sim : N → N′ → Type 0} {Alike : Cause → Caus
       (λ t. both-follow (asked (expression (at + 1)) (omega arith)) (λ inner rs b. both-token sheet _ _ (λ t. both-yield _ _) (no _)))
       (both-token sheet _ _ (λ t. last (elements at (at + 1) Row.Array nil) (omega arith))
       (both-token sheet _ _ (λ t. last (properties at (at + 1) Row.Object nil) (omega arith)) (no _))))))
-
-  spread-rel : (at : ℕ) → Ready sheet low (suc n) (spread at) → Agree Sim Alike Whatever (spread-of sheet ask at) (spread-of sheet ask′ at)
-  unfolding spread-of
-  spread-rel at r = both-follow (asked (assignment (at + 1)) (omega arith)) (λ argument rs b. both-yield _ _)
-
-  elements-rel : (first at kind : ℕ) (so-far : Forest) → Ready sheet low (suc n) (elements first at kind so-far)
-      → Agree Sim Alike Whatever (elements-of sheet ask first at kind so-far) (elements-of sheet ask′ first at kind so-far)
-  unfolding elements-of
-  elements-rel first at kind so-far r =
+  step-rel (elements first at kind so-far) r =
       both-token sheet _ _ (λ t. both-yield _ _)
       (both-token sheet _ _ (λ t. last (elements first (at + 1) Row.Array (join so-far (one (leaf Row.Hole at)))) (omega arith))
-      (both-follow (argument-rel at (token sheet at is Dot3) refl (omega arith) (omega arith))
+      (both-follow (or-spread at (assignment at) (known (asked (assignment at) (omega arith)) (λ end trees records b. (omega arith, omega arith))) (token sheet at is Dot3) refl (omega arith) (omega arith))
       (λ element rs b. both-token sheet _ _
       (λ t. last (elements first (element .end + 1) (if token sheet at is Dot3 then Row.ArrayRestComma else Row.Array) (join so-far (element .trees))) (omega arith))
       (both-token sheet _ _ (λ t. both-yield _ _) (no _)))))
-
-  property-or-spread-rel : (at : ℕ) (dots : Bool) → token sheet at is Dot3 ≡ dots → low ≤ at → 32 * (length (sheet .kinds) - at) + 11 ≤ n
-      → Agree Sim Alike (λ end trees records. (at + 1 ≤ end) × (end ≤ length (sheet .kinds))) (ask (if dots then spread at else property at)) (ask′ (if dots then spread at else property at))
-  property-or-spread-rel at true e l le = known (asked (spread at) (omega (arith, inside sheet at (λ k. k is Dot3) refl e))) (λ end trees records b. (omega arith, omega arith))
-  property-or-spread-rel at false e l le = known (asked (property at) (omega arith)) (λ end trees records b. (omega arith, omega arith))
-
-  properties-rel : (first at kind : ℕ) (so-far : Forest) → Ready sheet low (suc n) (properties first at kind so-far)
-      → Agree Sim Alike Whatever (properties-of sheet ask first at kind so-far) (properties-of sheet ask′ first at kind so-far)
-  unfolding properties-of
-  properties-rel first at kind so-far r =
+  step-rel (properties first at kind so-far) r =
       both-token sheet _ _ (λ t. both-yield _ _)
-      (both-follow (property-or-spread-rel at (token sheet at is Dot3) refl (omega arith) (omega arith))
+      (both-follow (or-spread at (property at) (known (asked (property at) (omega arith)) (λ end trees records b. (omega arith, omega arith))) (token sheet at is Dot3) refl (omega arith) (omega arith))
       (λ part rs b. both-token sheet _ _
       (λ t. last (properties first (part .end + 1) (if token sheet at is Dot3 then Row.ObjectRestComma else Row.Object) (join so-far (part .trees))) (omega arith))
       (both-token sheet _ _ (λ t. both-yield _ _) (no _))))
-
-  property-rel : (at : ℕ) → Ready sheet low (suc n) (property at) → Agree Sim Alike Whatever (property-of sheet ask at) (property-of sheet ask′ at)
-  unfolding property-of shorthand-of
-  property-rel at r =
+  step-rel (property at) r =
       both-test (is-name (token sheet at) and not (token sheet (at + 1) is Colon))
       (λ _. both-token sheet _ _ (λ t. both-follow (asked (assignment (at + 2)) (omega arith)) (λ initializer rs b. both-yield _ _)) (both-yield _ _))
       (λ _. both-follow (asked (key at) (omega arith))
       (λ name rs b. both-token sheet _ _ (λ t. both-follow (asked (assignment (name .end + 1)) (omega arith)) (λ content more c. both-yield _ _)) (no _)))
-
-  key-rel : (at : ℕ) → Ready sheet low (suc n) (key at) → Agree Sim Alike Whatever (key-of sheet ask at) (key-of sheet ask′ at)
-  unfolding key-of
-  key-rel at r =
+  step-rel (key at) r =
       both-test (is-word (token sheet at) or token sheet at is Str or token sheet at is Number) (λ t. both-yield _ _)
       (λ _. both-token sheet _ _
       (λ t. both-follow (asked (assignment (at + 1)) (omega arith)) (λ inner rs b. both-token sheet _ _ (λ t. both-yield _ _) (no _)))
       (no _))
-
+  step-rel (spread at) r = both-follow (asked (assignment (at + 1)) (omega arith)) (λ argument rs b. both-yield _ _)
   -- 14.3.3
-  binding-rel : (at : ℕ) → Ready sheet low (suc n) (binding at) → Agree Sim Alike Whatever (binding-of sheet ask at) (binding-of sheet ask′ at)
-  unfolding binding-of
-  binding-rel at r =
+  step-rel (binding at) r =
       both-test (is-name (token sheet at)) (λ t. both-yield _ _)
       (λ _. both-token sheet _ _ (λ t. last (binding-elements at (at + 1) nil) (omega arith))
       (both-token sheet _ _ (λ t. last (binding-properties at (at + 1) nil) (omega arith)) (no _)))
-
-  binding-element-rel : (at : ℕ) → Ready sheet low (suc n) (binding-element at) → Agree Sim Alike Whatever (binding-element-of sheet ask at) (binding-element-of sheet ask′ at)
-  unfolding binding-element-of
-  binding-element-rel at r =
+  step-rel (binding-element at) r =
       both-follow (asked (binding at) (omega arith))
       (λ target rs b. both-token sheet _ _ (λ t. both-follow (asked (assignment (target .end + 1)) (omega arith)) (λ initializer more c. both-yield _ _)) (both-yield _ _))
-
-  binding-rest-rel : (at : ℕ) → Ready sheet low (suc n) (binding-rest at) → Agree Sim Alike Whatever (binding-rest-of sheet ask at) (binding-rest-of sheet ask′ at)
-  unfolding binding-rest-of
-  binding-rest-rel at r = both-follow (asked (binding-element (at + 1)) (omega arith)) (λ argument rs b. both-say _ (both-yield _ _))
-
-  binding-elements-rel : (first at : ℕ) (so-far : Forest) → Ready sheet low (suc n) (binding-elements first at so-far)
-      → Agree Sim Alike Whatever (binding-elements-of sheet ask first at so-far) (binding-elements-of sheet ask′ first at so-far)
-  unfolding binding-elements-of
-  binding-elements-rel first at so-far r =
+  step-rel (binding-elements first at so-far) r =
       both-token sheet _ _ (λ t. both-yield _ _)
       (both-token sheet _ _ (λ t. last (binding-elements first (at + 1) (join so-far (one (leaf Row.Hole at)))) (omega arith))
       (both-token sheet _ _
@@ -405,11 +344,7 @@ module _ {N N′ : Type 0} {Sim : N → N′ → Type 0} {Alike : Cause → Caus
       (both-follow (asked (binding-element at) (omega arith))
       (λ element rs b. both-token sheet _ _ (λ t. last (binding-elements first (element .end + 1) (join so-far (element .trees))) (omega arith))
       (both-token sheet _ _ (λ t. both-yield _ _) (no _))))))
-
-  binding-properties-rel : (first at : ℕ) (so-far : Forest) → Ready sheet low (suc n) (binding-properties first at so-far)
-      → Agree Sim Alike Whatever (binding-properties-of sheet ask first at so-far) (binding-properties-of sheet ask′ first at so-far)
-  unfolding binding-properties-of
-  binding-properties-rel first at so-far r =
+  step-rel (binding-properties first at so-far) r =
       both-token sheet _ _ (λ t. both-yield _ _)
       (both-token sheet _ _
       (λ t. both-follow (asked (binding-rest at) (omega arith))
@@ -419,117 +354,27 @@ module _ {N N′ : Type 0} {Sim : N → N′ → Type 0} {Alike : Cause → Caus
       (both-follow (asked (binding-property at) (omega arith))
       (λ part rs b. both-token sheet _ _ (λ t. last (binding-properties first (part .end + 1) (join so-far (part .trees))) (omega arith))
       (both-token sheet _ _ (λ t. both-yield _ _) (no _)))))
-
-  binding-property-rel : (at : ℕ) → Ready sheet low (suc n) (binding-property at) → Agree Sim Alike Whatever (binding-property-of sheet ask at) (binding-property-of sheet ask′ at)
-  unfolding binding-property-of binding-shorthand-of
-  binding-property-rel at r =
+  step-rel (binding-property at) r =
       both-test (is-name (token sheet at) and not (token sheet (at + 1) is Colon))
       (λ _. both-token sheet _ _ (λ t. both-follow (asked (assignment (at + 2)) (omega arith)) (λ initializer rs b. both-yield _ _)) (both-yield _ _))
       (λ _. both-follow (asked (key at) (omega arith))
       (λ name rs b. both-token sheet _ _ (λ t. both-follow (asked (binding-element (name .end + 1)) (omega arith)) (λ content more c. both-yield _ _)) (no _)))
-
-  -- 15.3 and 15.9
-  parenthesized-head-rel : (at : ℕ) → low ≤ at + 1 → 32 * (length (sheet .kinds) - at) + 4 ≤ n + 1 → Agree Sim Alike Whatever (parenthesized-head-of sheet ask at) (parenthesized-head-of sheet ask′ at)
-  unfolding parenthesized-head-of
-  parenthesized-head-rel at l le =
-      both-token sheet _ _ (λ t. both-follow (asked (parameters (at + 1) nil) (omega arith)) (λ list rs b. both-token sheet _ _ (λ t. both-yield _ _) (no _))) (no _)
-
-  head-rel : (at : ℕ) → Ready sheet low (suc n) (head at) → Agree Sim Alike Whatever (head-of sheet ask at) (head-of sheet ask′ at)
-  unfolding head-of
-  head-rel at r =
+  step-rel (binding-rest at) r = both-follow (asked (binding-element (at + 1)) (omega arith)) (λ argument rs b. both-say _ (both-yield _ _))
+  step-rel (head at) r =
       both-token sheet _ _
       (λ t. both-test (not (break-before sheet (at + 1))) (λ _. parenthesized-head-rel (at + 1) (omega arith) (omega arith)) (λ _. no _))
       (parenthesized-head-rel at (omega arith) (omega arith))
-
-  parameters-rel : (at : ℕ) (so-far : Forest) → Ready sheet low (suc n) (parameters at so-far)
-      → Agree Sim Alike Whatever (parameters-of sheet ask at so-far) (parameters-of sheet ask′ at so-far)
-  unfolding parameters-of
-  parameters-rel at so-far r =
+  step-rel (parameters at so-far) r =
       both-token sheet _ _ (λ t. both-yield _ _)
       (both-token sheet _ _
       (λ t. both-follow (asked (binding-rest at) (omega arith)) (λ rest rs b. both-token sheet _ _ (λ t. both-yield _ _) (no _)))
       (both-follow (asked (binding-element at) (omega arith))
       (λ parameter rs b. both-token sheet _ _ (λ t. last (parameters (parameter .end + 1) (join so-far (parameter .trees))) (omega arith))
       (both-token sheet _ _ (λ t. both-yield _ _) (no _)))))
-
-  body-rel : (kind first at : ℕ) (so-far : Forest) → Ready sheet low (suc n) (body kind first at so-far)
-      → Agree Sim Alike Whatever (body-of sheet ask kind first at so-far) (body-of sheet ask′ kind first at so-far)
-  unfolding body-of
-  body-rel kind first at so-far r =
+  step-rel (body kind first at so-far) r =
       both-say _ (both-test (not (token sheet (at + 1) is LCurly))
       (λ _. both-follow (asked (assignment (at + 1)) (omega arith)) (λ inner rs b. both-yield _ _))
       (λ _. no _))
-
-  -- a head that both have read
-  pub arrow-rel : (A : Policy N) (B : Policy N′) (at : ℕ) → Ready sheet low (suc n) (assignment at) → (list : Part) (records : List Record)
-      → Bound (limits sheet (head at)) (list .end) (list .trees) records → Agree Sim Alike Whatever (arrow-of A sheet ask at list) (arrow-of B sheet ask′ at list)
-  unfolding arrow-of
-  arrow-rel A B at r list rs b = last (body (if token sheet at is Async then Row.AsyncArrow else Row.Arrow) at (list .end) (list .trees)) (omega arith)
-
-pub positive : (sheet : Sheet) (job : Job) → 1 ≤ μ sheet job
-positive sheet (expression at) = omega arith
-positive sheet (sequence first comma at so-far) = omega arith
-positive sheet (assignment at) = omega arith
-positive sheet (value at) = omega arith
-positive sheet (assign first at left) = omega arith
-positive sheet (conditional first at left) = omega arith
-positive sheet (binary floor at) = omega arith
-positive sheet (operators floor first at left) = omega arith
-positive sheet (unary at) = omega arith
-positive sheet (postfix at) = omega arith
-positive sheet (left-hand-side at) = omega arith
-positive sheet (links first at left) = omega arith
-positive sheet (arguments first at so-far) = omega arith
-positive sheet (primary at) = omega arith
-positive sheet (elements first at kind so-far) = omega arith
-positive sheet (properties first at kind so-far) = omega arith
-positive sheet (property at) = omega arith
-positive sheet (key at) = omega arith
-positive sheet (spread at) = omega arith
-positive sheet (binding at) = omega arith
-positive sheet (binding-element at) = omega arith
-positive sheet (binding-elements first at so-far) = omega arith
-positive sheet (binding-properties first at so-far) = omega arith
-positive sheet (binding-property at) = omega arith
-positive sheet (binding-rest at) = omega arith
-positive sheet (head at) = omega arith
-positive sheet (parameters at so-far) = omega arith
-positive sheet (body kind first at so-far) = omega arith
-
--- EVERY PRODUCTION, with any two policies and any two ways to answer what is asked, from what is special to the policies
-module _ {N N′ : Type 0} {Sim : N → N′ → Type 0} {Alike : Cause → Cause → Type 0} (alike : (cause : Cause) → Alike cause cause) (sheet : Sheet) (low : ℕ) (A : Policy N) (B : Policy N′) {n : ℕ}
-    {ask : Asks N} {ask′ : Asks N′} (h : Near Sim Alike sheet low n ask ask′)
-    (assignment-rel : (at : ℕ) → Ready sheet low (suc n) (assignment at) → Agree Sim Alike Whatever (assignment-of A sheet ask at) (assignment-of B sheet ask′ at)) where
-  pub step-rel : (job : Job) → Ready sheet low (suc n) job → Agree Sim Alike Whatever (step A sheet ask job) (step B sheet ask′ job)
-  unfolding step
-  step-rel (expression at) r = expression-rel alike sheet h at r
-  step-rel (sequence first comma at so-far) r = sequence-rel alike sheet h first comma at so-far r
-  step-rel (assignment at) r = assignment-rel at r
-  step-rel (value at) r = value-rel alike sheet h at r
-  step-rel (assign first at left) r = assign-rel alike sheet h first at left r
-  step-rel (conditional first at left) r = conditional-rel alike sheet h first at left r
-  step-rel (binary floor at) r = binary-rel alike sheet h floor at r
-  step-rel (operators floor first at left) r = operators-rel alike sheet h floor first at left r
-  step-rel (unary at) r = unary-rel alike sheet h at r
-  step-rel (postfix at) r = postfix-rel alike sheet h at r
-  step-rel (left-hand-side at) r = left-hand-side-rel alike sheet h at r
-  step-rel (links first at left) r = links-rel alike sheet h first at left r
-  step-rel (arguments first at so-far) r = arguments-rel alike sheet h first at so-far r
-  step-rel (primary at) r = primary-rel alike sheet h at r
-  step-rel (elements first at kind so-far) r = elements-rel alike sheet h first at kind so-far r
-  step-rel (properties first at kind so-far) r = properties-rel alike sheet h first at kind so-far r
-  step-rel (property at) r = property-rel alike sheet h at r
-  step-rel (key at) r = key-rel alike sheet h at r
-  step-rel (spread at) r = spread-rel alike sheet h at r
-  step-rel (binding at) r = binding-rel alike sheet h at r
-  step-rel (binding-element at) r = binding-element-rel alike sheet h at r
-  step-rel (binding-elements first at so-far) r = binding-elements-rel alike sheet h first at so-far r
-  step-rel (binding-properties first at so-far) r = binding-properties-rel alike sheet h first at so-far r
-  step-rel (binding-property at) r = binding-property-rel alike sheet h at r
-  step-rel (binding-rest at) r = binding-rest-rel alike sheet h at r
-  step-rel (head at) r = head-rel alike sheet h at r
-  step-rel (parameters at so-far) r = parameters-rel alike sheet h at so-far r
-  step-rel (body kind first at so-far) r = body-rel alike sheet h kind first at so-far r
 
 -- THE TWO READERS, from what is special to their policies
 module _ {N N′ : Type 0} {Sim : N → N′ → Type 0} {Alike : Cause → Cause → Type 0} (alike : (cause : Cause) → Alike cause cause) (sheet : Sheet) (low : ℕ) (A : Policy N) (B : Policy N′)

@@ -4,7 +4,7 @@ use Prim.Native.Nat.{ℕ}
 use mathlib.Core.Bool.{Bool}
 use mathlib.Core.List.{[]}
 use Rattle.rows.specs.Row as Row
-use Rattle.rows.specs.Shape.{is-assignment, is-parameter, is-target, only, nothing, _∪_, Shape, shape}
+use Rattle.rows.specs.Shape.{is-assignment, is-parameter, is-target, only, _∪_, Shape, shape}
 
 -- in an Array
 abbrev pub is-element : ℕ → Bool
@@ -43,8 +43,5 @@ abbrev pub is-target-value : ℕ → Bool
 is-target-value = is-target ∪ only Row.TargetDefault
 
 -- any number of kids of these kinds, and then at most one closing kid
-abbrev pub any-number : (ℕ → Bool) → Shape
-any-number many = shape [] many nothing []
-
 abbrev pub any-closed : (ℕ → Bool) → (ℕ → Bool) → Shape
 any-closed many closing = shape [] many closing []

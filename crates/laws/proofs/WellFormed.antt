@@ -1,7 +1,7 @@
 -- The trees of a reading are well-formed: every row has the kids that the table of shapes gives its kind. Each nonterminal gives trees of a class of
 -- its own, as the grammar has them; so the reading of a whole list is an Expression, and that of a pattern a Binding with or without an initializer.
 -- The statements, at the end: `whole-is-well-formed`, `pattern-is-well-formed`, `formed-at`. Assumes nothing.
-use Prim.Native.Nat.{ℕ, suc, _+_, _-_, _≤_, _<_}
+use Prim.Native.Nat.{ℕ, suc, _+_, _≤_, _<_}
 use mathlib.Core.Path.{_≡_, refl}
 use mathlib.Core.Bool.{Bool, true, false, not}
 use mathlib.Core.List.{List, [], _∷_}
@@ -11,31 +11,29 @@ use lib.Dec.{eqb, leb, ltb}
 use lib.ListN.{drop}
 use borrow.Author.Tests.{eqb-true, eqb-false, ne-eqb, ltb-true, ltb-false, leb-true, not-true}
 use Rattle.tokens.specs.Bool.{_or_, _and_, _is_, if_then_else_, between}
-use Rattle.tokens.specs.Kind.{Async, As, Satisfies, Str, Number, LParen, LCurly, Comma, Colon, Dot3, Arrow, Question2, Pipe2, Amp2, Star2, Eq}
+use Rattle.tokens.specs.Kind.{Async, As, Satisfies, Str, Number, LCurly, Comma, Colon, Dot3, Arrow, Question2, Pipe2, Amp2, Star2, Eq}
 use Rattle.tokens.specs.Token.{is-name, is-word, is-literal}
 use Rattle.operators.specs.Precedence.{tiers, among, level-from, level, expression-level}
 use Rattle.rows.specs.Row as Row
 use Rattle.rows.specs.Shape.{is-listed, is-left-hand-side, is-unary, is-binary, is-logical, is-assignment, is-expression, is-binding, is-parameter, is-simple-target, is-target, is-body, nothing, only, exactly, shape-of, may-end, last-kind}
-use Rattle.laws.proofs.RowKinds.{is-element, is-key, is-value, is-argument, is-binding-element, is-property, is-binding-property, any-closed, any-number}
+use Rattle.laws.proofs.RowKinds.{is-element, is-key, is-argument, is-binding-element, is-property, is-binding-property, any-closed}
 use Rattle.rows.specs.Tree.{Tree, Forest, node, nil, cons, one, join, count, kind-of, kids-of}
 use Rattle.rows.specs.Record.{Record}
 use Rattle.rows.proofs.Rows.{count-join}
 use Rattle.conversion.specs.Conversion.{Role, any, simple}
-use Rattle.grammar.specs.Sheet.{Sheet, token, break-before, done, Part, first-tree, tree, leaf}
+use Rattle.conversion.proofs.RuleHolds.{either-way}
+use Rattle.grammar.specs.Sheet.{Sheet, token, break-before, done, first-tree, tree, leaf}
 use Rattle.grammar.specs.Job.{Job, expression, sequence, assignment, value, assign, conditional, binary, operators, unary, postfix, left-hand-side, links, arguments, primary, elements, properties, property, key, spread, binding, binding-element, binding-elements, binding-properties, binding-property, binding-rest, head, parameters, body, Asks}
-use Rattle.grammar.specs.Comma.{expression-of, sequence-of}
-use Rattle.grammar.specs.Assignment.{is-assignment-operator, assign-of, conditional-of, after-binary, is-async-name, value-of}
-use Rattle.grammar.specs.Binary.{operation-kind, right-floor, binary-of, operators-of}
-use Rattle.grammar.specs.Update.{is-unary-operator, is-update-operator, converted, unary-of, postfix-of}
-use Rattle.grammar.specs.LeftHandSide.{left-hand-side-of, links-of, arguments-of}
-use Rattle.grammar.specs.Primary.{parenthesized-of, primary-of, spread-of, elements-of, properties-of, shorthand-of, property-of, key-of}
-use Rattle.grammar.specs.Binding.{binding-of, binding-element-of, binding-rest-of, binding-elements-of, argument-of, binding-properties-of, binding-shorthand-of, binding-property-of}
-use Rattle.grammar.specs.Arrow.{Policy, arrow-of, assignment-of, parenthesized-head-of, head-of, parameters-of, body-of}
+use Rattle.grammar.specs.Assignment.{is-assignment-operator, is-async-name}
+use Rattle.grammar.specs.Binary.{operation-kind, right-floor}
+use Rattle.grammar.specs.Update.{is-unary-operator, is-update-operator, converted}
+use Rattle.grammar.specs.Binding.{argument-of}
+use Rattle.grammar.specs.Arrow.{Policy, parenthesized-head-of}
 use Rattle.grammar.specs.Step.{step, read, plenty}
 use Rattle.grammar.specs.Reading.{whole, reading}
-use Rattle.laws.proofs.Good.{came, Meaning, Reads, Answers, Preserved, good, good-done, yields, refuses, says, follows, tries, test, token-test, chooses, notes, converts, so, and-left, and-right}
+use Rattle.laws.proofs.Good.{productions, wants, came, Meaning, Reads, Answers, Preserved, good, good-done, yields, refuses, says, follows, heads, test, token-test, converts, so, and-left, and-right}
 use Rattle.laws.proofs.Bounds.{Nothing, fee, fee-comma, fee-one}
-use Rattle.laws.proofs.Formed.{or-left, no-ending, one-ending, Middle, one-more, one-closing, no-more, Kids, KidsOf, in-front, then-rest, free, held, Formed, row-formed, AllFormed, all-nil, all-cons, is-well-formed, Converted, converted-formed}
+use Rattle.laws.proofs.Formed.{shapes, or-left, or-right, no-ending, one-ending, Middle, one-more, one-closing, no-more, Kids, KidsOf, in-front, then-rest, free, held, Formed, row-formed, AllFormed, all-nil, all-cons, is-well-formed, Converted, converted-formed}
 use Rattle.laws.specs.Promises.{Kinds, Ends, Class, of, within, in-class, In, OneTree}
 
 -- a tree that is Formed, and may stand where the class is asked
@@ -161,9 +159,6 @@ all-join (and-tree p a) u = and-tree p (all-join a u)
 all-sole : {P : Tree → Type 0} {ts : Forest} → Sole P ts → All P ts
 all-sole (sole p) = and-tree p no-tree
 
-all-one : {P : Tree → Type 0} {t : Tree} → P t → All P (one t)
-all-one p = and-tree p no-tree
-
 all-formed : {class : Class} {ts : Forest} → All (Well class) ts → AllFormed ts
 all-formed no-tree = all-nil
 all-formed (and-tree w a) = all-cons (w .formed) (all-formed a)
@@ -190,72 +185,31 @@ well-so w f = record { formed = w .formed; fits = f (w .fits) }
 term-so : {sheet : Sheet} {c d : Class} {at : ℕ} {t : Tree} → Term sheet c at t → (In c t → In d t) → Term sheet d at t
 term-so e f = record { well = well-so (e .well) f; braced = e .braced }
 
-unary-of-lhs : {t : Tree} → In (of is-left-hand-side) t → In (of is-unary) t
-unfolding in-class is-unary
-unary-of-lhs i = record { holds = or-left _ _ (i .holds) }
-
-binary-of-unary : {t : Tree} → In (of is-unary) t → In (of is-binary) t
-unfolding in-class is-binary
-binary-of-unary i = record { holds = or-left _ _ (i .holds) }
-
-logical-of-binary : {t : Tree} → In (of is-binary) t → In (of is-logical) t
-unfolding in-class is-logical
-logical-of-binary i = record { holds = or-left _ _ (i .holds) }
-
-assignment-of-logical : {t : Tree} → In (of is-logical) t → In (of is-assignment) t
-unfolding in-class is-assignment
-assignment-of-logical i = record { holds = or-left _ _ (i .holds) }
-
-expression-of-assignment : {t : Tree} → In (of is-assignment) t → In (of is-expression) t
-unfolding in-class is-expression
-expression-of-assignment i = record { holds = or-left _ _ (i .holds) }
-
-element-of-assignment : {t : Tree} → In (of is-assignment) t → In (of is-element) t
-unfolding in-class only
-element-of-assignment i = record { holds = or-left _ _ (i .holds) }
-
-argument-of-assignment : {t : Tree} → In (of is-assignment) t → In (of is-argument) t
-unfolding in-class only
-argument-of-assignment i = record { holds = or-left _ _ (i .holds) }
-
-value-of-assignment : {t : Tree} → In (of is-assignment) t → In (of is-value) t
-unfolding in-class only
-value-of-assignment i = record { holds = or-left _ _ (i .holds) }
-
-value-of-parameter : {t : Tree} → In (of is-parameter) t → In (of is-value) t
-unfolding in-class only
-value-of-parameter {t} i = record { holds = go (is-assignment (kind-of t)) (i .holds) }
-  where
-    go : (a : Bool) {b : Bool} → b ≡ true → a or b ≡ true
-    go true e = refl
-    go false e = e
-
-parameter-of-binding : {t : Tree} → In (of is-binding) t → In (of is-parameter) t
-unfolding in-class is-parameter
-parameter-of-binding i = record { holds = or-left _ _ (i .holds) }
-
-binding-element-of-parameter : {t : Tree} → In (of is-parameter) t → In (of is-binding-element) t
-unfolding in-class only
-binding-element-of-parameter i = record { holds = or-left _ _ (i .holds) }
+wider : {a b : Kinds} {t : Tree} → ((k : ℕ) → a k ≡ true → b k ≡ true) → In (of a) t → In (of b) t
+unfolding in-class
+wider {t = t} f i = record { holds = f (kind-of t) (i .holds) }
 
 -- of one kind
 spread-is : {t : Tree} → In (of (only Row.Spread)) t → kind-of t ≡ Row.Spread
 unfolding in-class only
 spread-is i = eqb-true _ _ (i .holds)
 
-element-of-spread : {t : Tree} → In (of (only Row.Spread)) t → In (of is-element) t
-unfolding in-class is-left-hand-side is-unary is-binary is-logical is-assignment only
-element-of-spread i = record { holds = rw (spread-is i) }
-
-argument-of-spread : {t : Tree} → In (of (only Row.Spread)) t → In (of is-argument) t
-unfolding in-class is-left-hand-side is-unary is-binary is-logical is-assignment only
-argument-of-spread i = record { holds = rw (spread-is i) }
-
-property-of-spread : {t : Tree} → In (of (only Row.Spread)) t → In (within (may-end Row.Object) is-property) t
-unfolding in-class may-end only
-property-of-spread i = record { holds = rw (spread-is i) }
+-- a Spread, where a class has it whatever its last kid
+spread-in : {class : Class} {t : Tree} → ((last : ℕ) → in-class class Row.Spread last ≡ true) → In (of (only Row.Spread)) t → In class t
+spread-in f i = record { holds = rw (spread-is i) (f _) }
 
 -- ROWS
+-- a row of a class, by its kind
+well-of : {class : Class} {kind mark first end : ℕ} {kids : Forest} → Formed (node kind mark first end kids) → in-class class kind (last-kind 0 kids) ≡ true → Well class (node kind mark first end kids)
+unfolding kind-of kids-of
+well-of f e = record { formed = f; fits = record { holds = e } }
+
+-- a row that is no object
+term-of : {sheet : Sheet} {class : Class} {at kind mark first end : ℕ} {kids : Forest} → Formed (node kind mark first end kids) → in-class class kind (last-kind 0 kids) ≡ true
+    → between Row.Object Row.ObjectRestComma kind ≡ false → Term sheet class at (node kind mark first end kids)
+unfolding kind-of
+term-of f e n = record { well = well-of f e; braced = λ q. let z : _≡_ {A = ℕ} 0 1 = cc in absurd (omega arith) }
+
 make : {kind mark first end : ℕ} {kids : Forest} → is-listed kind ≡ true → KidsOf kind kids → AllFormed kids → Formed (node kind mark first end kids)
 make l k a = row-formed l k a
 
@@ -302,10 +256,6 @@ row-of-three {a} {b} {c} {kind} e l w (sole v) (sole u) =
     (rw e (in-front (held kind (and-left _ _ f) (w .fits)) (in-front (held kind (and-left _ _ g) (v .fits)) (in-front (held kind (and-right (free kind b) _ g) (u .fits)) nothing-more))))
     (all-cons (w .formed) (all-cons (v .formed) (all-cons (u .formed) all-nil)))
 
-row-of-many : {a : Kinds} {kind mark first end : ℕ} {ts : Forest} → shape-of kind ≡ any-number a → is-listed kind ≡ true → All (Well (within (may-end kind) a)) ts
-    → Formed (node kind mark first end ts)
-row-of-many e l w = make l (rw e (then-rest (all-middle w))) (all-formed w)
-
 row-closed : {a b : Kinds} {kind mark first end : ℕ} {ts us : Forest} → shape-of kind ≡ any-closed a b → is-listed kind ≡ true → All (Well (within (may-end kind) a)) ts
     → Sole (Well (within (may-end kind) b)) us → Formed (node kind mark first end (join ts us))
 row-closed e l w (sole v) = make l (rw e (then-rest (all-many w (one-closing (v .fits) no-ending)))) (formed-join (all-formed w) (all-cons (v .formed) all-nil))
@@ -323,17 +273,14 @@ sequence-kids (and-tree w (and-tree v a)) l =
     in-front (held Row.Sequence refl (w .fits)) (in-front (held Row.Sequence refl (v .fits)) (then-rest (all-middle (all-held Row.Sequence refl a))))
 
 sequence-row : {mark first end : ℕ} {ts : Forest} → All (Well (of is-assignment)) ts → 2 ≤ count ts → Well (of is-expression) (node Row.Sequence mark first end ts)
-unfolding shape-of is-listed in-class free may-end only is-left-hand-side is-unary is-binary is-logical is-assignment is-expression is-binding is-parameter is-simple-target is-target is-body kind-of kids-of last-kind
-sequence-row a l = record { formed = make refl (sequence-kids a l) (all-formed a); fits = record { holds = refl } }
+unfolding shapes
+sequence-row a l = well-of (make refl (sequence-kids a l) (all-formed a)) refl
 
 -- a Call
 call-row : (sheet : Sheet) {mark at first end : ℕ} {ts : Forest} → Called ts → Term sheet (of is-left-hand-side) at (node Row.Call mark first end ts)
-unfolding shape-of is-listed in-class free may-end only is-left-hand-side is-unary is-binary is-logical is-assignment is-expression is-binding is-parameter is-simple-target is-target is-body kind-of kids-of last-kind
+unfolding shapes
 call-row sheet (called w a) =
-    record {
-      well = record { formed = make refl (in-front (held Row.Call refl (w .fits)) (then-rest (all-middle (all-held Row.Call refl a)))) (all-cons (w .formed) (all-formed a)); fits = record { holds = refl } };
-      braced = λ e. let z : _≡_ {A = ℕ} 0 1 = cc in absurd (omega arith);
-    }
+    term-of (make refl (in-front (held Row.Call refl (w .fits)) (then-rest (all-middle (all-held Row.Call refl a)))) (all-cons (w .formed) (all-formed a))) refl refl
 
 call-join : {ts us : Forest} → Called ts → Sole (Well (of is-argument)) us → Called (join ts us)
 unfolding join
@@ -349,37 +296,30 @@ spread-formed a (sole w) = formed-join (all-formed a) (all-cons (w .formed) all-
 
 -- arrays may be closed
 array-closes : (sheet : Sheet) (first : ℕ) {ts : Forest} → All (Well (of is-element)) ts → Closes sheet first Row.Array ts
-unfolding shape-of is-listed in-class free may-end only is-left-hand-side is-unary is-binary is-logical is-assignment is-expression is-binding is-parameter is-simple-target is-target is-body kind-of kids-of last-kind
-array-closes sheet first a end =
-    record { well = record { formed = row-of-many refl refl (all-held Row.Array refl a); fits = record { holds = refl } }; braced = λ e. let z : _≡_ {A = ℕ} 0 1 = cc in absurd (omega arith) }
+unfolding shapes
+array-closes sheet first a end = term-of (row-closable refl refl (all-held Row.Array refl a)) refl refl
 
 array-comma-closes : (sheet : Sheet) (first : ℕ) {ts us : Forest} → All (Well (of is-element)) ts → Sole (Well (of (only Row.Spread))) us → Closes sheet first Row.ArrayRestComma (join ts us)
-unfolding shape-of is-listed in-class free may-end only is-left-hand-side is-unary is-binary is-logical is-assignment is-expression is-binding is-parameter is-simple-target is-target is-body kind-of kids-of last-kind
+unfolding shapes
 array-comma-closes sheet first a s end =
-    record {
-      well = record { formed = make refl (then-rest (spread-last Row.ArrayRestComma refl (all-held Row.ArrayRestComma refl a) s)) (spread-formed a s); fits = record { holds = refl } };
-      braced = λ e. let z : _≡_ {A = ℕ} 0 1 = cc in absurd (omega arith);
-    }
+    term-of (make refl (then-rest (spread-last Row.ArrayRestComma refl (all-held Row.ArrayRestComma refl a) s)) (spread-formed a s)) refl refl
 
 -- and so may objects
 object-closes : (sheet : Sheet) (first : ℕ) {ts : Forest} → token sheet first ≡ LCurly → All (Well (within (may-end Row.Object) is-property)) ts → Closes sheet first Row.Object ts
-unfolding shape-of is-listed in-class free may-end only is-left-hand-side is-unary is-binary is-logical is-assignment is-expression is-binding is-parameter is-simple-target is-target is-body kind-of kids-of last-kind
-object-closes sheet first t a end = record { well = record { formed = row-of-many refl refl a; fits = record { holds = refl } }; braced = λ e. t }
+unfolding shapes
+object-closes sheet first t a end = record { well = well-of (row-closable refl refl a) refl; braced = λ e. t }
 
 object-comma-closes : (sheet : Sheet) (first : ℕ) {ts us : Forest} → token sheet first ≡ LCurly → All (Well (within (may-end Row.Object) is-property)) ts → Sole (Well (of (only Row.Spread))) us
     → Closes sheet first Row.ObjectRestComma (join ts us)
-unfolding shape-of is-listed in-class free may-end only is-left-hand-side is-unary is-binary is-logical is-assignment is-expression is-binding is-parameter is-simple-target is-target is-body kind-of kids-of last-kind
+unfolding shapes
 object-comma-closes sheet first t a s end =
-    record { well = record { formed = make refl (then-rest (spread-last Row.ObjectRestComma refl a s)) (spread-formed a s); fits = record { holds = refl } }; braced = λ e. t }
+    record { well = well-of (make refl (then-rest (spread-last Row.ObjectRestComma refl a s)) (spread-formed a s)) refl; braced = λ e. t }
 
 -- an arrow: its parameters, and a body that is no object
 body-fits : (sheet : Sheet) (at : ℕ) {t : Tree} → token sheet at is LCurly ≡ false → Term sheet (of is-assignment) at t → In (of is-body) t
 unfolding in-class is-body
-body-fits sheet at {t} n e = record { holds = go (between Row.Object Row.ObjectRestComma (kind-of t)) refl }
-  where
-    go : (b : Bool) → between Row.Object Row.ObjectRestComma (kind-of t) ≡ b → (if b then false else is-assignment (kind-of t)) ≡ true
-    go false q = e .well .fits .holds
-    go true q = absurd (eqb-false _ _ n (e .braced q))
+body-fits sheet at {t} n e =
+    record { holds = either-way (λ b. b ≡ true) (between Row.Object Row.ObjectRestComma (kind-of t)) (λ q. absurd (eqb-false _ _ n (e .braced q))) (λ _. e .well .fits .holds) }
 
 arrow-middle : {ts : Forest} {t : Tree} → Middle (may-end Row.Arrow) is-parameter (only Row.BindingRest) [] ts → In (of is-body) t
     → Middle (may-end Row.Arrow) is-parameter (only Row.BindingRest) (is-body ∷ []) (join ts (one t))
@@ -390,23 +330,15 @@ arrow-middle (no-more no-ending) b = no-more (one-ending (held Row.Arrow refl b)
 
 arrow-row : (sheet : Sheet) (at place : ℕ) {kind mark first end : ℕ} {ts us : Forest} → IsArrow kind → Parameters ts → token sheet place is LCurly ≡ false
     → Sole (Term sheet (of is-assignment) place) us → Term sheet (of is-assignment) at (node kind mark first end (join ts us))
-unfolding shape-of is-listed in-class free may-end only is-left-hand-side is-unary is-binary is-logical is-assignment is-expression is-binding is-parameter is-simple-target is-target is-body kind-of kids-of last-kind
+unfolding shapes
 arrow-row sheet at place {kind} {mark} {first} {end} {ts} k p n (sole {t} e) = go k
   where
     made : AllFormed (join ts (one t))
     made = formed-join (p .are-formed) (all-cons (e .well .formed) all-nil)
 
     go : IsArrow kind → Term sheet (of is-assignment) at (node kind mark first end (join ts (one t)))
-    go (is-plain q) =
-        rw q (record {
-          well = record { formed = make refl (then-rest (arrow-middle (p .are-parameters) (body-fits sheet place n e))) made; fits = record { holds = refl } };
-          braced = λ e. let z : _≡_ {A = ℕ} 0 1 = cc in absurd (omega arith);
-        })
-    go (is-async q) =
-        rw q (record {
-          well = record { formed = make refl (then-rest (arrow-middle (p .are-parameters) (body-fits sheet place n e))) made; fits = record { holds = refl } };
-          braced = λ e. let z : _≡_ {A = ℕ} 0 1 = cc in absurd (omega arith);
-        })
+    go (is-plain q) = rw q (term-of (make refl (then-rest (arrow-middle (p .are-parameters) (body-fits sheet place n e))) made) refl refl)
+    go (is-async q) = rw q (term-of (make refl (then-rest (arrow-middle (p .are-parameters) (body-fits sheet place n e))) made) refl refl)
 
 -- LEVELS
 -- `??`, `||` and `&&` have the levels 1 to 3, and all other operators levels above
@@ -447,68 +379,32 @@ binary-level k e h = go (k is As or k is Satisfies) h
 
 right-below : (k : ℕ) → right-floor k ≤ expression-level k
 unfolding right-floor
-right-below k = go (k is Star2)
-  where
-    go : (b : Bool) → (if b then expression-level k - 1 else expression-level k) ≤ expression-level k
-    go true = omega arith
-    go false = omega arith
+right-below k = either-way (λ n. n ≤ expression-level k) (k is Star2) (λ _. omega arith) (λ _. omega arith)
 
 right-above : (k : ℕ) → 4 ≤ expression-level k → 3 ≤ right-floor k
 unfolding right-floor
-right-above k h = go (k is Star2)
-  where
-    go : (b : Bool) → 3 ≤ (if b then expression-level k - 1 else expression-level k)
-    go true = omega arith
-    go false = omega arith
+right-above k h = either-way (λ n. 3 ≤ n) (k is Star2) (λ _. omega arith) (λ _. omega arith)
 
 -- the row of an operator, and that the operands after it may go on
 operation-row : (sheet : Sheet) (floor first at end : ℕ) (left : Tree) (right : Forest) → floor < expression-level (token sheet at)
     → Operand sheet floor first left → (3 < expression-level (token sheet at) → In (of is-binary) left)
     → Sole (Operand sheet (right-floor (token sheet at)) (at + 1)) right → expression-level (token sheet end) ≤ right-floor (token sheet at)
     → Fit sheet (operators floor first end (node (operation-kind (token sheet at)) at first end (cons left right)))
-unfolding shape-of is-listed in-class free may-end only is-left-hand-side is-unary is-binary is-logical is-assignment is-expression is-binding is-parameter is-simple-target is-target is-body kind-of kids-of last-kind operation-kind
+unfolding shapes operation-kind
 operation-row sheet floor first at end left right l o b r n = go (between Question2 Amp2 (token sheet at)) refl
   where
     go : (q : Bool) → between Question2 Amp2 (token sheet at) ≡ q → Fit sheet (operators floor first end (node (if q then Row.Logical else Row.Binary) at first end (cons left right)))
     go true q =
         let v = logical-level (token sheet at) q in
-        let w = right-below (token sheet at) in (
-          record {
-            term =
-                record {
-                  well = record { formed = row-of-tree-and refl refl (o .term .well) (sole-so r (λ t p. p .term .well)); fits = record { holds = refl } };
-                  braced = λ e. let z : _≡_ {A = ℕ} 0 1 = cc in absurd (omega arith);
-                };
-            bare = λ h. absurd (omega arith);
-          },
-          λ h. absurd (omega arith),
-        )
+        let w = right-below (token sheet at) in
+        let row = row-of-tree-and refl refl (o .term .well) (sole-so r (λ t p. p .term .well)) in
+        (record { term = term-of row refl refl; bare = λ h. absurd (omega arith) }, λ h. absurd (omega arith))
     go false q =
         let v = binary-level (token sheet at) q (omega arith) in
         let w = right-above (token sheet at) v in
         let left-is : Well (of is-binary) left = record { formed = o .term .well .formed; fits = b (omega arith) } in
-        let right-is : Sole (Well (of is-binary)) right = sole-so r (λ t p. record { formed = p .term .well .formed; fits = p .bare w }) in (
-          record {
-            term =
-                record {
-                  well = record { formed = row-of-tree-and refl refl left-is right-is; fits = record { holds = refl } };
-                  braced = λ e. let z : _≡_ {A = ℕ} 0 1 = cc in absurd (omega arith);
-                };
-            bare = λ h. record { holds = refl };
-          },
-          λ h. record { holds = refl },
-        )
-
--- a row of a class, by its kind
-well-of : {class : Class} {kind mark first end : ℕ} {kids : Forest} → Formed (node kind mark first end kids) → in-class class kind (last-kind 0 kids) ≡ true → Well class (node kind mark first end kids)
-unfolding kind-of kids-of
-well-of f e = record { formed = f; fits = record { holds = e } }
-
--- a row that is no object
-term-of : {sheet : Sheet} {class : Class} {at kind mark first end : ℕ} {kids : Forest} → Formed (node kind mark first end kids) → in-class class kind (last-kind 0 kids) ≡ true
-    → between Row.Object Row.ObjectRestComma kind ≡ false → Term sheet class at (node kind mark first end kids)
-unfolding kind-of
-term-of f e n = record { well = well-of f e; braced = λ q. let z : _≡_ {A = ℕ} 0 1 = cc in absurd (omega arith) }
+        let right-is : Sole (Well (of is-binary)) right = sole-so r (λ t p. record { formed = p .term .well .formed; fits = p .bare w }) in
+        (record { term = term-of (row-of-tree-and refl refl left-is right-is) refl refl; bare = λ h. record { holds = refl } }, λ h. record { holds = refl })
 
 sole-count : {P : Tree → Type 0} {ts : Forest} → Sole P ts → count ts ≡ 1
 unfolding count
@@ -518,49 +414,17 @@ sole-count (sole p) = refl
 abbrev Is : Sheet → Job → Meaning
 Is sheet job end trees records = Gives sheet job end trees
 
-module _ {N : Type 0} (sheet : Sheet) {ask : Asks N} (h : Answers (Fit sheet) (Is sheet) Nothing ask) where
+module _ {N : Type 0} (policy : Policy N) (sheet : Sheet) {ask : Asks N} (h : Answers (Fit sheet) (Is sheet) Nothing ask) where
   asked : (job : Job) → Fit sheet job → Reads (Is sheet job) Nothing (ask job)
   asked job fit = h .with job fit
 
   wells : {class : Class} {at : ℕ} {ts : Forest} → Sole (Term sheet class at) ts → Sole (Well class) ts
   wells s = sole-so s (λ t e. e .well)
 
-  -- 13.16
-  expression-well : (at : ℕ) → Reads (Is sheet (expression at)) Nothing (expression-of sheet ask at)
-  unfolding expression-of
-  expression-well at =
-      follows (asked (assignment at) tt)
-      (λ part rs b. token-test sheet _ _
-      (λ t. asked (sequence at (part .end) (part .end) (part .trees)) (all-sole (wells b), omega (arith, sole-count b, fee-comma (t .kind-is))))
-      (yields _ _ (sole-so b (λ t e. well-so (e .well) expression-of-assignment))))
-
-  sequence-well : (first comma at : ℕ) (so-far : Forest) → Fit sheet (sequence first comma at so-far) → Reads (Is sheet (sequence first comma at so-far)) Nothing (sequence-of sheet ask first comma at so-far)
-  unfolding sequence-of fee
-  sequence-well first comma at so-far fit =
-      test (token sheet at is Comma)
-      (λ t. follows (asked (assignment (at + 1)) tt)
-      (λ part rs b. asked (sequence first comma (part .end) (join so-far (part .trees)))
-      (all-join (fit .0) (all-sole (wells b)), omega (arith, count-join so-far (part .trees), sole-count b, fit .1, fee-one (token sheet (part .end))))))
-      (λ f. let l = rw f at (fit .1) in yields _ _ (sole (sequence-row (fit .0) (omega arith))))
-
   -- 13.15 and 13.14
   parameter-leaf : (at : ℕ) → Parameters (one (leaf Row.BindingName at))
-  unfolding shape-of is-listed in-class free may-end only is-left-hand-side is-unary is-binary is-logical is-assignment is-expression is-binding is-parameter is-simple-target is-target is-body kind-of kids-of last-kind
+  unfolding shapes
   parameter-leaf at = record { are-formed = all-cons (leaf-row refl refl) all-nil; are-parameters = one-more (record { holds = refl }) (no-more no-ending) }
-
-  value-well : (at : ℕ) → Reads (Is sheet (value at)) Nothing (value-of sheet ask at)
-  unfolding value-of after-binary
-  value-well at =
-      test (is-async-name sheet at)
-      (λ t. asked (body Row.AsyncArrow at (at + 2) (one (leaf Row.BindingName (at + 1)))) (is-async refl, parameter-leaf (at + 1)))
-      (λ _. follows (asked (binary 0 at) tt)
-      (λ left rs b. test (kind-of (tree left) is Row.Identifier and token sheet (left .end) is Arrow)
-      (λ t. asked (body Row.Arrow at (left .end) (one (leaf Row.BindingName at))) (is-plain refl, parameter-leaf at))
-      (λ _. test (is-assignment-operator (token sheet (left .end)))
-      (λ t. asked (assign at (left .end) (tree left)) (sole-first (b .0) .term .well .formed))
-      (λ _. token-test sheet _ _
-      (λ t. asked (conditional at (left .end) (tree left)) (sole-first (b .0) .term .well))
-      (yields _ _ (sole-so (b .0) (λ t o. term-so (o .term) assignment-of-logical)))))))
 
   turn-to : (role : Role) (class : Class) (at : ℕ) (left : Tree) → ((t : Tree) → Converted role left t → In class t) → Formed left
       → Reads {N = N} (λ end trees records. Sole (Well class) trees) Nothing (converted role at left)
@@ -576,270 +440,58 @@ module _ {N : Type 0} (sheet : Sheet) {ask : Asks N} (h : Answers (Fit sheet) (I
 
   assign-row : (plain : Bool) {first at mark end : ℕ} {ts us : Forest} → Sole (Well (if plain then (of is-target) else (of is-simple-target))) ts → Sole (Well (of is-assignment)) us
       → Term sheet (of is-assignment) first (node (if plain then Row.Assign else Row.CompoundAssign) at mark end (join ts us))
-  unfolding shape-of is-listed in-class free may-end only is-left-hand-side is-unary is-binary is-logical is-assignment is-expression is-binding is-parameter is-simple-target is-target is-body kind-of kids-of last-kind
+  unfolding shapes
   assign-row true w v = term-of (row-of-two refl refl w v) refl refl
   assign-row false w v = term-of (row-of-two refl refl w v) refl refl
 
-  assign-well : (first at : ℕ) (left : Tree) → Formed left → Reads (Is sheet (assign first at left)) Nothing (assign-of sheet ask first at left)
-  unfolding assign-of
-  assign-well first at left f =
-      follows (turn-left (token sheet at is Eq) at left f)
-      (λ target rs b. follows (asked (assignment (at + 1)) tt) (λ right more c. yields _ _ (sole (assign-row (token sheet at is Eq) b (wells c)))))
-
-  conditional-well : (first at : ℕ) (left : Tree) → Well (of is-logical) left → Reads (Is sheet (conditional first at left)) Nothing (conditional-of sheet ask first at left)
-  unfolding shape-of is-listed in-class free may-end only is-left-hand-side is-unary is-binary is-logical is-assignment is-expression is-binding is-parameter is-simple-target is-target is-body kind-of kids-of last-kind conditional-of
-  conditional-well first at left w =
-      follows (asked (assignment (at + 1)) tt)
-      (λ if-true rs b. token-test sheet _ _
-      (λ t. follows (asked (assignment (if-true .end + 1)) tt) (λ if-false more c. yields _ _ (sole (term-of (row-of-three refl refl w (wells b) (wells c)) refl refl))))
-      (refuses _ tt))
-
   -- 13.6 to 13.13
   operand : {floor at : ℕ} {t : Tree} → Term sheet (of is-unary) at t → Operand sheet floor at t
-  operand e = record { term = term-so e (λ i. logical-of-binary (binary-of-unary i)); bare = λ l. binary-of-unary (e .well .fits) }
+  unfolding shapes
+  operand e = record { term = term-so e (λ i. wider (λ k e. or-left _ _ (or-left _ _ e)) i); bare = λ l. wider (λ k. or-left _ _) (e .well .fits) }
 
-  binary-well : (floor at : ℕ) → Reads (Is sheet (binary floor at)) Nothing (binary-of sheet ask floor at)
-  unfolding binary-of
-  binary-well floor at =
-      follows (asked (unary at) tt)
-      (λ left rs b. asked (operators floor at (left .end) (tree left)) (operand (sole-first b), λ l. binary-of-unary (sole-first b .well .fits)))
+  -- another part, or a spread, and if it has dots a Spread
+  or-spread : (class : Class) (at : ℕ) (other : Job) → ((last : ℕ) → in-class class Row.Spread last ≡ true) → Reads (λ end trees records. Sole (Well class) trees) Nothing (ask other)
+      → (dots : Bool) → Reads (λ end trees records. Sole (Well class) trees × (dots ≡ true → Sole (Well (of (only Row.Spread))) trees)) Nothing (ask (if dots then spread at else other))
+  or-spread class at other s o true = so (asked (spread at) tt) (λ end trees records b. (sole-so b (λ t w. well-so w (spread-in s)), λ e. b))
+  or-spread class at other s o false = so o (λ end trees records b. (b, λ e. let z : _≡_ {A = ℕ} 0 1 = cc in absurd (omega arith)))
 
-  operators-well : (floor first at : ℕ) (left : Tree) → Fit sheet (operators floor first at left) → Reads (Is sheet (operators floor first at left)) Nothing (operators-of sheet ask floor first at left)
-  unfolding operators-of
-  operators-well floor first at left fit =
-      test (ltb floor (expression-level (token sheet at)))
-      (λ t. follows (asked (binary (right-floor (token sheet at)) (at + 1)) tt)
-      (λ right rs b. says _ (asked (operators floor first (right .end) (node (operation-kind (token sheet at)) at first (right .end) (cons left (right .trees))))
-      (operation-row sheet floor first at (right .end) left (right .trees) (ltb-true _ _ t) (fit .0) (fit .1) (b .0) (b .1)))))
-      (λ f. yields _ _ (sole (fit .0), ltb-false _ _ f))
-
-  -- 13.5 and 13.4
-  unary-well : (at : ℕ) → Reads (Is sheet (unary at)) Nothing (unary-of sheet ask at)
-  unfolding shape-of is-listed in-class free may-end only is-left-hand-side is-unary is-binary is-logical is-assignment is-expression is-binding is-parameter is-simple-target is-target is-body kind-of kids-of last-kind unary-of
-  unary-well at =
-      test (is-unary-operator (token sheet at))
-      (λ t. follows (asked (unary (at + 1)) tt) (λ operand rs b. yields _ _ (sole (term-of (row-of-one refl refl (wells b)) refl refl))))
-      (λ _. test (is-update-operator (token sheet at))
-      (λ t. follows (asked (unary (at + 1)) tt)
-      (λ operand rs b. follows (turn-to simple (of is-simple-target) (operand .end) (tree operand) (λ t c. c .is-after) (sole-first b .well .formed))
-      (λ target more c. yields _ _ (sole (term-of (row-of-one refl refl c) refl refl)))))
-      (λ _. asked (postfix at) tt))
-
-  postfix-well : (at : ℕ) → Reads (Is sheet (postfix at)) Nothing (postfix-of sheet ask at)
-  unfolding shape-of is-listed in-class free may-end only is-left-hand-side is-unary is-binary is-logical is-assignment is-expression is-binding is-parameter is-simple-target is-target is-body kind-of kids-of last-kind postfix-of
-  postfix-well at =
-      follows (asked (left-hand-side at) tt)
-      (λ operand rs b. test (is-update-operator (token sheet (operand .end)) and not (break-before sheet (operand .end)))
-      (λ t. follows (turn-to simple (of is-simple-target) (operand .end) (tree operand) (λ t c. c .is-after) (sole-first b .well .formed))
-      (λ target more c. yields _ _ (sole (term-of (row-of-one refl refl c) refl refl))))
-      (λ _. yields _ _ (sole-so b (λ t e. term-so e unary-of-lhs))))
-
-  -- 13.3
-  left-hand-side-well : (at : ℕ) → Reads (Is sheet (left-hand-side at)) Nothing (left-hand-side-of sheet ask at)
-  unfolding left-hand-side-of
-  left-hand-side-well at = follows (asked (primary at) tt) (λ base rs b. asked (links at (base .end) (tree base)) (sole-first b))
-
-  links-well : (first at : ℕ) (left : Tree) → Fit sheet (links first at left) → Reads (Is sheet (links first at left)) Nothing (links-of sheet ask first at left)
-  unfolding shape-of is-listed in-class free may-end only is-left-hand-side is-unary is-binary is-logical is-assignment is-expression is-binding is-parameter is-simple-target is-target is-body kind-of kids-of last-kind links-of
-  links-well first at left fit =
-      token-test sheet _ _
-      (λ t. test (is-word (token sheet (at + 1)))
-      (λ w. asked (links first (at + 2) (node Row.Member (at + 1) first (at + 2) (one left))) (term-of (row-of-one refl refl (sole (fit .well))) refl refl))
-      (λ _. refuses _ tt))
-      (token-test sheet _ _
-      (λ t. follows (asked (expression (at + 1)) tt)
-      (λ inner rs b. token-test sheet _ _
-      (λ t. asked (links first (inner .end + 1) (node Row.Index first first (inner .end + 1) (cons left (inner .trees)))) (term-of (row-of-tree-and refl refl (fit .well) b) refl refl))
-      (refuses _ tt)))
-      (token-test sheet _ _
-      (λ t. follows (asked (arguments first (at + 1) (one left)) (called (fit .well) no-tree)) (λ call rs b. asked (links first (call .end) (tree call)) (sole-first b)))
-      (yields _ _ (sole fit))))
-
-  argument-well : (at : ℕ) (dots : Bool) → Reads (λ end trees records. Sole (Well (of is-argument)) trees) Nothing (ask (if dots then spread at else assignment at))
-  argument-well at true = so (asked (spread at) tt) (λ end trees records b. sole-so b (λ t w. well-so w argument-of-spread))
-  argument-well at false = so (asked (assignment at) tt) (λ end trees records b. sole-so b (λ t e. well-so (e .well) argument-of-assignment))
-
-  arguments-well : (first at : ℕ) (so-far : Forest) → Called so-far → Reads (Is sheet (arguments first at so-far)) Nothing (arguments-of sheet ask first at so-far)
-  unfolding arguments-of
-  arguments-well first at so-far fit =
-      token-test sheet _ _ (λ t. yields _ _ (sole (call-row sheet fit)))
-      (follows (argument-well at (token sheet at is Dot3))
-      (λ argument rs b. token-test sheet _ _ (λ t. asked (arguments first (argument .end + 1) (join so-far (argument .trees))) (call-join fit b))
-      (token-test sheet _ _ (λ t. yields _ _ (sole (call-row sheet (call-join fit b)))) (refuses _ tt))))
-
-  -- 13.2
-  primary-well : (at : ℕ) → Reads (Is sheet (primary at)) Nothing (primary-of sheet ask at)
-  unfolding shape-of is-listed in-class free may-end only is-left-hand-side is-unary is-binary is-logical is-assignment is-expression is-binding is-parameter is-simple-target is-target is-body kind-of kids-of last-kind primary-of parenthesized-of
-  primary-well at =
-      test (is-name (token sheet at)) (λ t. yields _ _ (sole (term-of (leaf-row refl refl) refl refl)))
-      (λ _. token-test sheet _ _ (λ t. yields _ _ (sole (term-of (leaf-row refl refl) refl refl)))
-      (test (is-literal (token sheet at)) (λ t. yields _ _ (sole (term-of (leaf-row refl refl) refl refl)))
-      (λ _. token-test sheet _ _
-      (λ t. follows (asked (expression (at + 1)) tt)
-      (λ inner rs b. token-test sheet _ _ (λ t. yields _ _ (sole (term-of (row-of-one refl refl b) refl refl))) (refuses _ tt)))
-      (token-test sheet _ _ (λ t. asked (elements at (at + 1) Row.Array nil) (no-tree, array-closes sheet at no-tree))
-      (token-test sheet _ _ (λ t. asked (properties at (at + 1) Row.Object nil) (no-tree, object-closes sheet at (t .kind-is) no-tree, t .kind-is))
-      (refuses _ tt))))))
-
-  spread-well : (at : ℕ) → Reads (Is sheet (spread at)) Nothing (spread-of sheet ask at)
-  unfolding shape-of is-listed in-class free may-end only is-left-hand-side is-unary is-binary is-logical is-assignment is-expression is-binding is-parameter is-simple-target is-target is-body kind-of kids-of last-kind spread-of
-  spread-well at = follows (asked (assignment (at + 1)) tt) (λ argument rs b. yields _ _ (sole (well-of (row-of-one refl refl (wells b)) refl)))
-
-  -- an element, and if it has dots a Spread
-  element-well : (at : ℕ) (dots : Bool)
-      → Reads (λ end trees records. Sole (Well (of is-element)) trees × (dots ≡ true → Sole (Well (of (only Row.Spread))) trees)) Nothing (ask (if dots then spread at else assignment at))
-  element-well at true = so (asked (spread at) tt) (λ end trees records b. (sole-so b (λ t w. well-so w element-of-spread), λ e. b))
-  element-well at false =
-      so (asked (assignment at) tt)
-      (λ end trees records b. (sole-so b (λ t e. well-so (e .well) element-of-assignment), λ e. let z : _≡_ {A = ℕ} 0 1 = cc in absurd (omega arith)))
+  assigned : {kinds : Kinds} (at : ℕ) → ((k : ℕ) → is-assignment k ≡ true → kinds k ≡ true) → Reads (λ end trees records. Sole (Well (of kinds)) trees) Nothing (ask (assignment at))
+  assigned at f = so (asked (assignment at) tt) (λ end trees records b. sole-so b (λ t e. well-so (e .well) (wider f)))
 
   array-goes-on : (first : ℕ) (dots : Bool) {so-far trees : Forest} → All (Well (of is-element)) so-far → Sole (Well (of is-element)) trees → (dots ≡ true → Sole (Well (of (only Row.Spread))) trees)
       → Closes sheet first (if dots then Row.ArrayRestComma else Row.Array) (join so-far trees)
   array-goes-on first true a s d = array-comma-closes sheet first a (d refl)
   array-goes-on first false a s d = array-closes sheet first (all-join a (all-sole s))
 
-  elements-well : (first at kind : ℕ) (so-far : Forest) → Fit sheet (elements first at kind so-far) → Reads (Is sheet (elements first at kind so-far)) Nothing (elements-of sheet ask first at kind so-far)
-  unfolding shape-of is-listed in-class free may-end only is-left-hand-side is-unary is-binary is-logical is-assignment is-expression is-binding is-parameter is-simple-target is-target is-body kind-of kids-of last-kind elements-of
-  elements-well first at kind so-far fit =
-      token-test sheet _ _ (λ t. yields _ _ (sole (fit .1 (at + 1))))
-      (token-test sheet _ _
-      (λ t. let a = all-join (fit .0) (all-one (well-of (leaf-row refl refl) refl)) in asked (elements first (at + 1) Row.Array (join so-far (one (leaf Row.Hole at)))) (a, array-closes sheet first a))
-      (follows (element-well at (token sheet at is Dot3))
-      (λ element rs b. token-test sheet _ _
-      (λ t. asked (elements first (element .end + 1) (if token sheet at is Dot3 then Row.ArrayRestComma else Row.Array) (join so-far (element .trees)))
-      (all-join (fit .0) (all-sole (b .0)), array-goes-on first (token sheet at is Dot3) (fit .0) (b .0) (b .1)))
-      (token-test sheet _ _ (λ t. yields _ _ (sole (array-closes sheet first (all-join (fit .0) (all-sole (b .0))) (element .end + 1)))) (refuses _ tt)))))
-
-  part-well : (at : ℕ) (dots : Bool)
-      → Reads (λ end trees records. Sole (Well (within (may-end Row.Object) is-property)) trees × (dots ≡ true → Sole (Well (of (only Row.Spread))) trees)) Nothing (ask (if dots then spread at else property at))
-  part-well at true = so (asked (spread at) tt) (λ end trees records b. (sole-so b (λ t w. well-so w property-of-spread), λ e. b))
-  part-well at false = so (asked (property at) tt) (λ end trees records b. (b, λ e. let z : _≡_ {A = ℕ} 0 1 = cc in absurd (omega arith)))
-
   object-goes-on : (first : ℕ) (dots : Bool) {so-far trees : Forest} → token sheet first ≡ LCurly → All (Well (within (may-end Row.Object) is-property)) so-far → Sole (Well (within (may-end Row.Object) is-property)) trees
       → (dots ≡ true → Sole (Well (of (only Row.Spread))) trees) → Closes sheet first (if dots then Row.ObjectRestComma else Row.Object) (join so-far trees)
   object-goes-on first true t a s d = object-comma-closes sheet first t a (d refl)
   object-goes-on first false t a s d = object-closes sheet first t (all-join a (all-sole s))
 
-  properties-well : (first at kind : ℕ) (so-far : Forest) → Fit sheet (properties first at kind so-far)
-      → Reads (Is sheet (properties first at kind so-far)) Nothing (properties-of sheet ask first at kind so-far)
-  unfolding properties-of
-  properties-well first at kind so-far fit =
-      token-test sheet _ _ (λ t. yields _ _ (sole (fit .1 (at + 1))))
-      (follows (part-well at (token sheet at is Dot3))
-      (λ part rs b. token-test sheet _ _
-      (λ t. asked (properties first (part .end + 1) (if token sheet at is Dot3 then Row.ObjectRestComma else Row.Object) (join so-far (part .trees)))
-      (all-join (fit .0) (all-sole (b .0)), object-goes-on first (token sheet at is Dot3) (fit .2) (fit .0) (b .0) (b .1), fit .2))
-      (token-test sheet _ _ (λ t. yields _ _ (sole (object-closes sheet first (fit .2) (all-join (fit .0) (all-sole (b .0))) (part .end + 1)))) (refuses _ tt))))
-
   -- a Property, whose class depends on its value
   property-row : {mark first end : ℕ} {ts us : Forest} → Sole (Well (of is-key)) ts → Sole (Well (of is-assignment)) us → Well (within (may-end Row.Object) is-property) (node Row.Property mark first end (join ts us))
-  unfolding shape-of is-listed in-class free may-end only is-left-hand-side is-unary is-binary is-logical is-assignment is-expression is-binding is-parameter is-simple-target is-target is-body kind-of kids-of last-kind join
+  unfolding shapes join
   property-row (sole k) (sole w) =
-      well-of (row-of-two refl refl (sole k) (sole (well-so w value-of-assignment))) (w .fits .holds)
-
-  property-well : (at : ℕ) → Reads (Is sheet (property at)) Nothing (property-of sheet ask at)
-  unfolding shape-of is-listed in-class free may-end only is-left-hand-side is-unary is-binary is-logical is-assignment is-expression is-binding is-parameter is-simple-target is-target is-body kind-of kids-of last-kind property-of shorthand-of
-  property-well at =
-      test (is-name (token sheet at) and not (token sheet (at + 1) is Colon))
-      (λ n. token-test sheet _ _
-      (λ t. follows (asked (assignment (at + 2)) tt)
-      (λ initializer rs b. yields _ _ (sole (well-of (row-of-tree-and refl refl (well-of (leaf-row refl refl) refl) (wells b)) refl))))
-      (yields _ _ (sole (well-of (row-of-one refl refl (sole (well-of (leaf-row refl refl) refl))) refl))))
-      (λ _. follows (asked (key at) tt)
-      (λ name rs b. token-test sheet _ _
-      (λ t. follows (asked (assignment (name .end + 1)) tt) (λ content more c. yields _ _ (sole (property-row b (wells c)))))
-      (refuses _ tt)))
-
-  key-well : (at : ℕ) → Reads (Is sheet (key at)) Nothing (key-of sheet ask at)
-  unfolding shape-of is-listed in-class free may-end only is-left-hand-side is-unary is-binary is-logical is-assignment is-expression is-binding is-parameter is-simple-target is-target is-body kind-of kids-of last-kind key-of
-  key-well at =
-      test (is-word (token sheet at) or token sheet at is Str or token sheet at is Number) (λ t. yields _ _ (sole (well-of (leaf-row refl refl) refl)))
-      (λ _. token-test sheet _ _
-      (λ t. follows (asked (assignment (at + 1)) tt)
-      (λ inner rs b. token-test sheet _ _ (λ t. yields _ _ (sole (well-of (row-of-one refl refl (wells b)) refl))) (refuses _ tt)))
-      (refuses _ tt))
-
-  -- 14.3.3
-  binding-well : (at : ℕ) → Reads (Is sheet (binding at)) Nothing (binding-of sheet ask at)
-  unfolding shape-of is-listed in-class free may-end only is-left-hand-side is-unary is-binary is-logical is-assignment is-expression is-binding is-parameter is-simple-target is-target is-body kind-of kids-of last-kind binding-of
-  binding-well at =
-      test (is-name (token sheet at)) (λ t. yields _ _ (sole (well-of (leaf-row refl refl) refl)))
-      (λ _. token-test sheet _ _ (λ t. asked (binding-elements at (at + 1) nil) no-tree)
-      (token-test sheet _ _ (λ t. asked (binding-properties at (at + 1) nil) no-tree) (refuses _ tt)))
-
-  binding-element-well : (at : ℕ) → Reads (Is sheet (binding-element at)) Nothing (binding-element-of sheet ask at)
-  unfolding shape-of is-listed in-class free may-end only is-left-hand-side is-unary is-binary is-logical is-assignment is-expression is-binding is-parameter is-simple-target is-target is-body kind-of kids-of last-kind binding-element-of
-  binding-element-well at =
-      follows (asked (binding at) tt)
-      (λ target rs b. token-test sheet _ _
-      (λ t. follows (asked (assignment (target .end + 1)) tt) (λ initializer more c. yields _ _ (sole (well-of (row-of-two refl refl b (wells c)) refl))))
-      (yields _ _ (sole-so b (λ t w. well-so w parameter-of-binding))))
+      well-of (row-of-two refl refl (sole k) (sole (well-so w (wider (λ k. or-left _ _))))) (w .fits .holds)
 
   rest-over-sole : {mark first end : ℕ} {ts : Forest} → Sole (Well (of is-parameter)) ts → Rest (node Row.BindingRest mark first end ts)
   rest-over-sole (sole w) = rest-over w
 
   rest-well : {ts : Forest} → Sole Rest ts → Sole (Well (of (only Row.BindingRest))) ts
-  unfolding shape-of is-listed in-class free may-end only is-left-hand-side is-unary is-binary is-logical is-assignment is-expression is-binding is-parameter is-simple-target is-target is-body kind-of kids-of last-kind
+  unfolding shapes
   rest-well (sole (rest-over w)) = sole (well-of (row-of-one refl refl (sole w)) refl)
 
   name-rest-well : {ts : Forest} → Sole Rest ts → kind-of (argument-of (first-tree ts)) is Row.BindingName ≡ true → Sole (Well (within (may-end Row.BindingObject) (only Row.BindingRest))) ts
-  unfolding shape-of is-listed in-class free may-end only is-left-hand-side is-unary is-binary is-logical is-assignment is-expression is-binding is-parameter is-simple-target is-target is-body kind-of kids-of last-kind first-tree
+  unfolding shapes first-tree
   name-rest-well (sole (rest-over w)) e = sole (well-of (row-of-one refl refl (sole w)) e)
 
-  binding-rest-well : (at : ℕ) → Reads (Is sheet (binding-rest at)) Nothing (binding-rest-of sheet ask at)
-  unfolding binding-rest-of
-  binding-rest-well at = follows (asked (binding-element (at + 1)) tt) (λ argument rs b. says _ (yields _ _ (sole (rest-over-sole b))))
-
   array-element : {so-far trees : Forest} → All (Well (of is-binding-element)) so-far → Sole (Well (of is-parameter)) trees → All (Well (of is-binding-element)) (join so-far trees)
-  array-element a s = all-join a (all-sole (sole-so s (λ t w. well-so w binding-element-of-parameter)))
-
-  binding-elements-well : (first at : ℕ) (so-far : Forest) → All (Well (of is-binding-element)) so-far
-      → Reads (Is sheet (binding-elements first at so-far)) Nothing (binding-elements-of sheet ask first at so-far)
-  unfolding shape-of is-listed in-class free may-end only is-left-hand-side is-unary is-binary is-logical is-assignment is-expression is-binding is-parameter is-simple-target is-target is-body kind-of kids-of last-kind binding-elements-of
-  binding-elements-well first at so-far a =
-      token-test sheet _ _ (λ t. yields _ _ (sole (well-of (row-closable refl refl (all-held Row.BindingArray refl a)) refl)))
-      (token-test sheet _ _
-      (λ t. asked (binding-elements first (at + 1) (join so-far (one (leaf Row.Hole at)))) (all-join a (all-one (well-of (leaf-row refl refl) refl))))
-      (token-test sheet _ _
-      (λ t. follows (asked (binding-rest at) tt)
-      (λ rest rs b. token-test sheet _ _ (λ t. yields _ _ (sole (well-of (row-closed refl refl (all-held Row.BindingArray refl a) (sole-so (rest-well b) (λ t w. well-held Row.BindingArray refl w))) refl))) (refuses _ tt)))
-      (follows (asked (binding-element at) tt)
-      (λ element rs b. token-test sheet _ _ (λ t. asked (binding-elements first (element .end + 1) (join so-far (element .trees))) (array-element a b))
-      (token-test sheet _ _ (λ t. yields _ _ (sole (well-of (row-closable refl refl (all-held Row.BindingArray refl (array-element a b))) refl))) (refuses _ tt))))))
-
-  binding-properties-well : (first at : ℕ) (so-far : Forest) → All (Well (within (may-end Row.BindingObject) is-binding-property)) so-far
-      → Reads (Is sheet (binding-properties first at so-far)) Nothing (binding-properties-of sheet ask first at so-far)
-  unfolding shape-of is-listed in-class free may-end only is-left-hand-side is-unary is-binary is-logical is-assignment is-expression is-binding is-parameter is-simple-target is-target is-body kind-of kids-of last-kind binding-properties-of
-  binding-properties-well first at so-far a =
-      token-test sheet _ _ (λ t. yields _ _ (sole (well-of (row-closable refl refl a) refl)))
-      (token-test sheet _ _
-      (λ t. follows (asked (binding-rest at) tt)
-      (λ rest rs b. token-test sheet _ _
-      (λ t. test (kind-of (argument-of (tree rest)) is Row.BindingName)
-      (λ e. yields _ _ (sole (well-of (row-closed refl refl a (name-rest-well b e)) refl)))
-      (λ _. refuses _ tt))
-      (refuses _ tt)))
-      (follows (asked (binding-property at) tt)
-      (λ part rs b. token-test sheet _ _ (λ t. asked (binding-properties first (part .end + 1) (join so-far (part .trees))) (all-join a (all-sole b)))
-      (token-test sheet _ _ (λ t. yields _ _ (sole (well-of (row-closable refl refl (all-join a (all-sole b))) refl))) (refuses _ tt)))))
+  array-element a s = all-join a (all-sole (sole-so s (λ t w. well-so w (wider (λ k. or-left _ _)))))
 
   binding-property-row : {mark first end : ℕ} {ts us : Forest} → Sole (Well (of is-key)) ts → Sole (Well (of is-parameter)) us
       → Well (within (may-end Row.BindingObject) is-binding-property) (node Row.Property mark first end (join ts us))
-  unfolding shape-of is-listed in-class free may-end only is-left-hand-side is-unary is-binary is-logical is-assignment is-expression is-binding is-parameter is-simple-target is-target is-body kind-of kids-of last-kind join
-  binding-property-row (sole k) (sole w) = well-of (row-of-two refl refl (sole k) (sole (well-so w value-of-parameter))) (w .fits .holds)
-
-  binding-property-well : (at : ℕ) → Reads (Is sheet (binding-property at)) Nothing (binding-property-of sheet ask at)
-  unfolding shape-of is-listed in-class free may-end only is-left-hand-side is-unary is-binary is-logical is-assignment is-expression is-binding is-parameter is-simple-target is-target is-body kind-of kids-of last-kind binding-property-of binding-shorthand-of
-  binding-property-well at =
-      test (is-name (token sheet at) and not (token sheet (at + 1) is Colon))
-      (λ n. token-test sheet _ _
-      (λ t. follows (asked (assignment (at + 2)) tt)
-      (λ initializer rs b. yields _ _ (sole (well-of (row-of-tree-and refl refl (well-of (leaf-row refl refl) refl) (wells b)) refl))))
-      (yields _ _ (sole (well-of (row-of-one refl refl (sole (well-of (leaf-row refl refl) refl))) refl))))
-      (λ _. follows (asked (key at) tt)
-      (λ name rs b. token-test sheet _ _
-      (λ t. follows (asked (binding-element (name .end + 1)) tt) (λ content more c. yields _ _ (sole (binding-property-row b c))))
-      (refuses _ tt)))
+  unfolding shapes join
+  binding-property-row (sole k) (sole w) = well-of (row-of-two refl refl (sole k) (sole (well-so w (wider (λ k e. rw e (or-right (is-assignment k))))))) (w .fits .holds)
 
   -- 15.3 and 15.9
   parameters-are : {ts : Forest} → All (Well (of is-parameter)) ts → Parameters ts
@@ -855,89 +507,185 @@ module _ {N : Type 0} (sheet : Sheet) {ask : Asks N} (h : Answers (Fit sheet) (I
       }
 
   parenthesized-head-well : (at : ℕ) → Reads (Is sheet (head at)) Nothing (parenthesized-head-of sheet ask at)
-  unfolding parenthesized-head-of
+  unfolding productions
   parenthesized-head-well at =
-      token-test sheet _ _
-      (λ t. follows (asked (parameters (at + 1) nil) no-tree) (λ list rs b. token-test sheet _ _ (λ t. yields _ _ b) (refuses _ tt)))
-      (refuses _ tt)
+      wants sheet _ _ _ tt (λ t. follows (asked (parameters (at + 1) nil) no-tree) (λ list rs b. wants sheet _ _ _ tt (λ t. yields _ _ b)))
 
-  head-well : (at : ℕ) → Reads (Is sheet (head at)) Nothing (head-of sheet ask at)
-  unfolding head-of
-  head-well at =
+  arrow-kind : (async : Bool) → IsArrow (if async then Row.AsyncArrow else Row.Arrow)
+  arrow-kind async = either-way IsArrow async (λ _. is-async refl) (λ _. is-plain refl)
+
+  -- every production
+  step-well : (job : Job) → Fit sheet job → Reads (Is sheet job) Nothing (step policy sheet ask job)
+  unfolding productions shapes fee
+  -- 13.16
+  step-well (expression at) fit =
+      follows (asked (assignment at) tt)
+      (λ part rs b. token-test sheet _ _
+      (λ t. asked (sequence at (part .end) (part .end) (part .trees)) (all-sole (wells b), omega (arith, sole-count b, fee-comma (t .kind-is))))
+      (yields _ _ (sole-so b (λ t e. well-so (e .well) (wider (λ k. or-left _ _))))))
+  step-well (sequence first comma at so-far) fit =
+      test (token sheet at is Comma)
+      (λ t. follows (asked (assignment (at + 1)) tt)
+      (λ part rs b. asked (sequence first comma (part .end) (join so-far (part .trees)))
+      (all-join (fit .0) (all-sole (wells b)), omega (arith, count-join so-far (part .trees), sole-count b, fit .1, fee-one (token sheet (part .end))))))
+      (λ f. let l = rw f at (fit .1) in yields _ _ (sole (sequence-row (fit .0) (omega arith))))
+  step-well (assignment at) fit =
+      heads policy sheet ask at (asked (value at) tt) (asked (head at) tt) (λ list rs b. asked (body _ at (list .end) (list .trees)) (arrow-kind (token sheet at is Async), b))
+  step-well (value at) fit =
+      test (is-async-name sheet at)
+      (λ t. asked (body Row.AsyncArrow at (at + 2) (one (leaf Row.BindingName (at + 1)))) (is-async refl, parameter-leaf (at + 1)))
+      (λ _. follows (asked (binary 0 at) tt)
+      (λ left rs b. test (kind-of (tree left) is Row.Identifier and token sheet (left .end) is Arrow)
+      (λ t. asked (body Row.Arrow at (left .end) (one (leaf Row.BindingName at))) (is-plain refl, parameter-leaf at))
+      (λ _. test (is-assignment-operator (token sheet (left .end)))
+      (λ t. asked (assign at (left .end) (tree left)) (sole-first (b .0) .term .well .formed))
+      (λ _. token-test sheet _ _ (λ t. asked (conditional at (left .end) (tree left)) (sole-first (b .0) .term .well))
+      (yields _ _ (sole-so (b .0) (λ t o. term-so (o .term) (wider (λ k. or-left _ _)))))))))
+  step-well (assign first at left) f =
+      follows (turn-left (token sheet at is Eq) at left f)
+      (λ target rs b. follows (asked (assignment (at + 1)) tt) (λ right more c. yields _ _ (sole (assign-row (token sheet at is Eq) b (wells c)))))
+  step-well (conditional first at left) w =
+      follows (asked (assignment (at + 1)) tt)
+      (λ if-true rs b. wants sheet _ _ _ tt
+      (λ t. follows (asked (assignment (if-true .end + 1)) tt) (λ if-false more c. yields _ _ (sole (term-of (row-of-three refl refl w (wells b) (wells c)) refl refl)))))
+  step-well (binary floor at) fit =
+      follows (asked (unary at) tt)
+      (λ left rs b. asked (operators floor at (left .end) (tree left)) (operand (sole-first b), λ l. wider (λ k. or-left _ _) (sole-first b .well .fits)))
+  step-well (operators floor first at left) fit =
+      test (ltb floor (expression-level (token sheet at)))
+      (λ t. follows (asked (binary (right-floor (token sheet at)) (at + 1)) tt)
+      (λ right rs b. says _ (asked (operators floor first (right .end) (node (operation-kind (token sheet at)) at first (right .end) (cons left (right .trees))))
+      (operation-row sheet floor first at (right .end) left (right .trees) (ltb-true _ _ t) (fit .0) (fit .1) (b .0) (b .1)))))
+      (λ f. yields _ _ (sole (fit .0), ltb-false _ _ f))
+  -- 13.5 and 13.4
+  step-well (unary at) fit =
+      test (is-unary-operator (token sheet at))
+      (λ t. follows (asked (unary (at + 1)) tt) (λ operand rs b. yields _ _ (sole (term-of (row-of-one refl refl (wells b)) refl refl))))
+      (λ _. test (is-update-operator (token sheet at))
+      (λ t. follows (asked (unary (at + 1)) tt)
+      (λ operand rs b. follows (turn-to simple (of is-simple-target) (operand .end) (tree operand) (λ t c. c .is-after) (sole-first b .well .formed))
+      (λ target more c. yields _ _ (sole (term-of (row-of-one refl refl c) refl refl)))))
+      (λ _. asked (postfix at) tt))
+  step-well (postfix at) fit =
+      follows (asked (left-hand-side at) tt)
+      (λ operand rs b. test (is-update-operator (token sheet (operand .end)) and not (break-before sheet (operand .end)))
+      (λ t. follows (turn-to simple (of is-simple-target) (operand .end) (tree operand) (λ t c. c .is-after) (sole-first b .well .formed))
+      (λ target more c. yields _ _ (sole (term-of (row-of-one refl refl c) refl refl))))
+      (λ _. yields _ _ (sole-so b (λ t e. term-so e (wider (λ k. or-left _ _))))))
+  -- 13.3
+  step-well (left-hand-side at) fit = follows (asked (primary at) tt) (λ base rs b. asked (links at (base .end) (tree base)) (sole-first b))
+  step-well (links first at left) fit =
       token-test sheet _ _
-      (λ t. test (not (break-before sheet (at + 1))) (λ _. parenthesized-head-well (at + 1)) (λ _. refuses _ tt))
+      (λ t. test (is-word (token sheet (at + 1)))
+      (λ w. asked (links first (at + 2) (node Row.Member (at + 1) first (at + 2) (one left))) (term-of (row-of-one refl refl (sole (fit .well))) refl refl))
+      (λ _. refuses _ tt))
+      (token-test sheet _ _
+      (λ t. follows (asked (expression (at + 1)) tt)
+      (λ inner rs b. wants sheet _ _ _ tt
+      (λ t. asked (links first (inner .end + 1) (node Row.Index first first (inner .end + 1) (cons left (inner .trees)))) (term-of (row-of-tree-and refl refl (fit .well) b) refl refl))))
+      (token-test sheet _ _
+      (λ t. follows (asked (arguments first (at + 1) (one left)) (called (fit .well) no-tree)) (λ call rs b. asked (links first (call .end) (tree call)) (sole-first b)))
+      (yields _ _ (sole fit))))
+  step-well (arguments first at so-far) fit =
+      token-test sheet _ _ (λ t. yields _ _ (sole (call-row sheet fit)))
+      (follows (or-spread (of is-argument) at (assignment at) (λ _. refl) (assigned at (λ k. or-left _ _)) (token sheet at is Dot3))
+      (λ argument rs b. token-test sheet _ _ (λ t. asked (arguments first (argument .end + 1) (join so-far (argument .trees))) (call-join fit (b .0)))
+      (wants sheet _ _ _ tt (λ t. yields _ _ (sole (call-row sheet (call-join fit (b .0))))))))
+  -- 13.2
+  step-well (primary at) fit =
+      test (is-name (token sheet at)) (λ t. yields _ _ (sole (term-of (leaf-row refl refl) refl refl)))
+      (λ _. token-test sheet _ _ (λ t. yields _ _ (sole (term-of (leaf-row refl refl) refl refl)))
+      (test (is-literal (token sheet at)) (λ t. yields _ _ (sole (term-of (leaf-row refl refl) refl refl)))
+      (λ _. token-test sheet _ _
+      (λ t. follows (asked (expression (at + 1)) tt)
+      (λ inner rs b. wants sheet _ _ _ tt (λ t. yields _ _ (sole (term-of (row-of-one refl refl b) refl refl)))))
+      (token-test sheet _ _ (λ t. asked (elements at (at + 1) Row.Array nil) (no-tree, array-closes sheet at no-tree))
+      (wants sheet _ _ _ tt (λ t. asked (properties at (at + 1) Row.Object nil) (no-tree, object-closes sheet at (t .kind-is) no-tree, t .kind-is)))))))
+  step-well (elements first at kind so-far) fit =
+      token-test sheet _ _ (λ t. yields _ _ (sole (fit .1 (at + 1))))
+      (token-test sheet _ _
+      (λ t. let a = all-join (fit .0) (all-sole (sole (well-of (leaf-row refl refl) refl))) in asked (elements first (at + 1) Row.Array (join so-far (one (leaf Row.Hole at)))) (a, array-closes sheet first a))
+      (follows (or-spread (of is-element) at (assignment at) (λ _. refl) (assigned at (λ k. or-left _ _)) (token sheet at is Dot3))
+      (λ element rs b. token-test sheet _ _
+      (λ t. asked (elements first (element .end + 1) (if token sheet at is Dot3 then Row.ArrayRestComma else Row.Array) (join so-far (element .trees)))
+      (all-join (fit .0) (all-sole (b .0)), array-goes-on first (token sheet at is Dot3) (fit .0) (b .0) (b .1)))
+      (wants sheet _ _ _ tt (λ t. yields _ _ (sole (array-closes sheet first (all-join (fit .0) (all-sole (b .0))) (element .end + 1))))))))
+  step-well (properties first at kind so-far) fit =
+      token-test sheet _ _ (λ t. yields _ _ (sole (fit .1 (at + 1))))
+      (follows (or-spread (within (may-end Row.Object) is-property) at (property at) (λ _. refl) (asked (property at) tt) (token sheet at is Dot3))
+      (λ part rs b. token-test sheet _ _
+      (λ t. asked (properties first (part .end + 1) (if token sheet at is Dot3 then Row.ObjectRestComma else Row.Object) (join so-far (part .trees)))
+      (all-join (fit .0) (all-sole (b .0)), object-goes-on first (token sheet at is Dot3) (fit .2) (fit .0) (b .0) (b .1), fit .2))
+      (wants sheet _ _ _ tt (λ t. yields _ _ (sole (object-closes sheet first (fit .2) (all-join (fit .0) (all-sole (b .0))) (part .end + 1)))))))
+  step-well (property at) fit =
+      test (is-name (token sheet at) and not (token sheet (at + 1) is Colon))
+      (λ n. token-test sheet _ _
+      (λ t. follows (asked (assignment (at + 2)) tt)
+      (λ initializer rs b. yields _ _ (sole (well-of (row-of-tree-and refl refl (well-of (leaf-row refl refl) refl) (wells b)) refl))))
+      (yields _ _ (sole (well-of (row-of-one refl refl (sole (well-of (leaf-row refl refl) refl))) refl))))
+      (λ _. follows (asked (key at) tt)
+      (λ name rs b. wants sheet _ _ _ tt
+      (λ t. follows (asked (assignment (name .end + 1)) tt) (λ content more c. yields _ _ (sole (property-row b (wells c)))))))
+  step-well (key at) fit =
+      test (is-word (token sheet at) or token sheet at is Str or token sheet at is Number) (λ t. yields _ _ (sole (well-of (leaf-row refl refl) refl)))
+      (λ _. wants sheet _ _ _ tt (λ t. follows (asked (assignment (at + 1)) tt)
+      (λ inner rs b. wants sheet _ _ _ tt (λ t. yields _ _ (sole (well-of (row-of-one refl refl (wells b)) refl))))))
+  step-well (spread at) fit = follows (asked (assignment (at + 1)) tt) (λ argument rs b. yields _ _ (sole (well-of (row-of-one refl refl (wells b)) refl)))
+  -- 14.3.3
+  step-well (binding at) fit =
+      test (is-name (token sheet at)) (λ t. yields _ _ (sole (well-of (leaf-row refl refl) refl)))
+      (λ _. token-test sheet _ _ (λ t. asked (binding-elements at (at + 1) nil) no-tree)
+      (wants sheet _ _ _ tt (λ t. asked (binding-properties at (at + 1) nil) no-tree)))
+  step-well (binding-element at) fit =
+      follows (asked (binding at) tt)
+      (λ target rs b. token-test sheet _ _
+      (λ t. follows (asked (assignment (target .end + 1)) tt) (λ initializer more c. yields _ _ (sole (well-of (row-of-two refl refl b (wells c)) refl))))
+      (yields _ _ (sole-so b (λ t w. well-so w (wider (λ k. or-left _ _))))))
+  step-well (binding-elements first at so-far) a =
+      token-test sheet _ _ (λ t. yields _ _ (sole (well-of (row-closable refl refl (all-held Row.BindingArray refl a)) refl)))
+      (token-test sheet _ _
+      (λ t. asked (binding-elements first (at + 1) (join so-far (one (leaf Row.Hole at)))) (all-join a (all-sole (sole (well-of (leaf-row refl refl) refl)))))
+      (token-test sheet _ _
+      (λ t. follows (asked (binding-rest at) tt)
+      (λ rest rs b. wants sheet _ _ _ tt (λ t. yields _ _ (sole (well-of (row-closed refl refl (all-held Row.BindingArray refl a) (sole-so (rest-well b) (λ t w. well-held Row.BindingArray refl w))) refl)))))
+      (follows (asked (binding-element at) tt)
+      (λ element rs b. token-test sheet _ _ (λ t. asked (binding-elements first (element .end + 1) (join so-far (element .trees))) (array-element a b))
+      (wants sheet _ _ _ tt (λ t. yields _ _ (sole (well-of (row-closable refl refl (all-held Row.BindingArray refl (array-element a b))) refl))))))))
+  step-well (binding-properties first at so-far) a =
+      token-test sheet _ _ (λ t. yields _ _ (sole (well-of (row-closable refl refl a) refl)))
+      (token-test sheet _ _
+      (λ t. follows (asked (binding-rest at) tt)
+      (λ rest rs b. wants sheet _ _ _ tt (λ t. test (kind-of (argument-of (tree rest)) is Row.BindingName)
+      (λ e. yields _ _ (sole (well-of (row-closed refl refl a (name-rest-well b e)) refl)))
+      (λ _. refuses _ tt))))
+      (follows (asked (binding-property at) tt)
+      (λ part rs b. token-test sheet _ _ (λ t. asked (binding-properties first (part .end + 1) (join so-far (part .trees))) (all-join a (all-sole b)))
+      (wants sheet _ _ _ tt (λ t. yields _ _ (sole (well-of (row-closable refl refl (all-join a (all-sole b))) refl)))))))
+  step-well (binding-property at) fit =
+      test (is-name (token sheet at) and not (token sheet (at + 1) is Colon))
+      (λ n. token-test sheet _ _
+      (λ t. follows (asked (assignment (at + 2)) tt)
+      (λ initializer rs b. yields _ _ (sole (well-of (row-of-tree-and refl refl (well-of (leaf-row refl refl) refl) (wells b)) refl))))
+      (yields _ _ (sole (well-of (row-of-one refl refl (sole (well-of (leaf-row refl refl) refl))) refl))))
+      (λ _. follows (asked (key at) tt)
+      (λ name rs b. wants sheet _ _ _ tt
+      (λ t. follows (asked (binding-element (name .end + 1)) tt) (λ content more c. yields _ _ (sole (binding-property-row b c))))))
+  step-well (binding-rest at) fit = follows (asked (binding-element (at + 1)) tt) (λ argument rs b. says _ (yields _ _ (sole (rest-over-sole b))))
+  step-well (head at) fit =
+      token-test sheet _ _ (λ t. test (not (break-before sheet (at + 1))) (λ _. parenthesized-head-well (at + 1)) (λ _. refuses _ tt))
       (parenthesized-head-well at)
-
-  parameters-well : (at : ℕ) (so-far : Forest) → All (Well (of is-parameter)) so-far → Reads (Is sheet (parameters at so-far)) Nothing (parameters-of sheet ask at so-far)
-  unfolding parameters-of
-  parameters-well at so-far a =
+  step-well (parameters at so-far) a =
       token-test sheet _ _ (λ t. yields _ _ (parameters-are a))
       (token-test sheet _ _
-      (λ t. follows (asked (binding-rest at) tt) (λ rest rs b. token-test sheet _ _ (λ t. yields _ _ (parameters-and-rest a (rest-well b))) (refuses _ tt)))
+      (λ t. follows (asked (binding-rest at) tt) (λ rest rs b. wants sheet _ _ _ tt (λ t. yields _ _ (parameters-and-rest a (rest-well b)))))
       (follows (asked (binding-element at) tt)
       (λ parameter rs b. token-test sheet _ _ (λ t. asked (parameters (parameter .end + 1) (join so-far (parameter .trees))) (all-join a (all-sole b)))
-      (token-test sheet _ _ (λ t. yields _ _ (parameters-are (all-join a (all-sole b)))) (refuses _ tt)))))
-
-  body-well : (kind first at : ℕ) (so-far : Forest) → IsArrow kind × Parameters so-far → Reads (Is sheet (body kind first at so-far)) Nothing (body-of sheet ask kind first at so-far)
-  unfolding body-of
-  body-well kind first at so-far fit =
+      (wants sheet _ _ _ tt (λ t. yields _ _ (parameters-are (all-join a (all-sole b))))))))
+  step-well (body kind first at so-far) fit =
       says _ (test (not (token sheet (at + 1) is LCurly))
       (λ n. follows (asked (assignment (at + 1)) tt)
       (λ inner rs b. yields _ _ (sole (arrow-row sheet first (at + 1) (fit .0) (fit .1) (not-true _ n) b))))
       (λ _. refuses _ tt))
-
-  -- 13.15, where a head is tried
-  arrow-kind : (async : Bool) → IsArrow (if async then Row.AsyncArrow else Row.Arrow)
-  arrow-kind true = is-async refl
-  arrow-kind false = is-plain refl
-
-  arrow-well : (policy : Policy N) (at : ℕ) (list : Part) (rs : List Record) → Parameters (list .trees) → Reads (Is sheet (assignment at)) Nothing (arrow-of policy sheet ask at list)
-  unfolding arrow-of
-  arrow-well policy at list rs b =
-      asked (body (if token sheet at is Async then Row.AsyncArrow else Row.Arrow) at (list .end) (list .trees)) (arrow-kind (token sheet at is Async), b)
-
-  assignment-well : (policy : Policy N) (at : ℕ) → Reads (Is sheet (assignment at)) Nothing (assignment-of policy sheet ask at)
-  unfolding assignment-of
-  assignment-well policy at =
-      test (token sheet at is LParen or token sheet at is Async)
-      (λ _. chooses (policy .way at)
-      (asked (value at) tt)
-      (tries (asked (head at) tt) (arrow-well policy at) (notes (policy .mark at) (asked (value at) tt)))
-      (follows (asked (head at) tt) (arrow-well policy at)))
-      (λ _. asked (value at) tt)
-
--- every production
-step-well : {N : Type 0} (policy : Policy N) (sheet : Sheet) {ask : Asks N} → Answers (Fit sheet) (Is sheet) Nothing ask → (job : Job) → Fit sheet job
-    → Reads (Is sheet job) Nothing (step policy sheet ask job)
-unfolding step
-step-well policy sheet h (expression at) fit = expression-well sheet h at
-step-well policy sheet h (sequence first comma at so-far) fit = sequence-well sheet h first comma at so-far fit
-step-well policy sheet h (assignment at) fit = assignment-well sheet h policy at
-step-well policy sheet h (value at) fit = value-well sheet h at
-step-well policy sheet h (assign first at left) fit = assign-well sheet h first at left fit
-step-well policy sheet h (conditional first at left) fit = conditional-well sheet h first at left fit
-step-well policy sheet h (binary floor at) fit = binary-well sheet h floor at
-step-well policy sheet h (operators floor first at left) fit = operators-well sheet h floor first at left fit
-step-well policy sheet h (unary at) fit = unary-well sheet h at
-step-well policy sheet h (postfix at) fit = postfix-well sheet h at
-step-well policy sheet h (left-hand-side at) fit = left-hand-side-well sheet h at
-step-well policy sheet h (links first at left) fit = links-well sheet h first at left fit
-step-well policy sheet h (arguments first at so-far) fit = arguments-well sheet h first at so-far fit
-step-well policy sheet h (primary at) fit = primary-well sheet h at
-step-well policy sheet h (elements first at kind so-far) fit = elements-well sheet h first at kind so-far fit
-step-well policy sheet h (properties first at kind so-far) fit = properties-well sheet h first at kind so-far fit
-step-well policy sheet h (property at) fit = property-well sheet h at
-step-well policy sheet h (key at) fit = key-well sheet h at
-step-well policy sheet h (spread at) fit = spread-well sheet h at
-step-well policy sheet h (binding at) fit = binding-well sheet h at
-step-well policy sheet h (binding-element at) fit = binding-element-well sheet h at
-step-well policy sheet h (binding-elements first at so-far) fit = binding-elements-well sheet h first at so-far fit
-step-well policy sheet h (binding-properties first at so-far) fit = binding-properties-well sheet h first at so-far fit
-step-well policy sheet h (binding-property at) fit = binding-property-well sheet h at
-step-well policy sheet h (binding-rest at) fit = binding-rest-well sheet h at
-step-well policy sheet h (head at) fit = head-well sheet h at
-step-well policy sheet h (parameters at so-far) fit = parameters-well sheet h at so-far fit
-step-well policy sheet h (body kind first at so-far) fit = body-well sheet h kind first at so-far fit
 
 one-tree : {class : Class} {trees : Forest} → Sole (Well class) trees → OneTree class trees
 one-tree (sole {t} w) = record { root = t; is-root = refl; root-well-formed = is-well-formed (w .formed); root-in-class = w .fits }
