@@ -22,7 +22,6 @@ use Rattle.grammar.specs.Binary.{is-or-and}
 use Rattle.grammar.specs.Step.{plenty}
 use Rattle.laws.proofs.Settles.{in-plenty}
 use Rattle.grammar.specs.Reading.{plain, unconverteds, whole, reading}
-use Rattle.laws.proofs.Bounds.{bounded}
 use Rattle.laws.proofs.Good.{inside, whole-from, and-left, and-right}
 use Rattle.ecma262.specs.Derives as D
 use Rattle.exact.specs.Terminals.{tier-row, is-update, Line}
@@ -34,7 +33,7 @@ use Rattle.exact.proofs.Clean.{says-nothing}
 use Rattle.exact.proofs.Bracketed.{Opening, Ends, kind-ends, test-ends, short-circuit-opening, simple-opening, target-opening}
 use Rattle.exact.proofs.Follow.{is-closer, Closed, test-not, closed-ends, Operand, as-start, operand-chain, operand-simple, operand-target, start-of-assignment, second-short-circuit, second-target, second-simple}
 use Rattle.exact.proofs.Rules as R
-use Rattle.exact.proofs.Rules.{Reads}
+use Rattle.exact.proofs.Rules.{Reads, plainly}
 use Rattle.exact.proofs.Parts.{ItemDone, PartDone, closed-paren, closed-bracket, array-empty-reads, array-list-reads, array-comma-reads, object-empty-reads, object-list-reads, object-comma-reads, ArgumentsDone, no-arguments-done, arguments-done, arguments-comma-done, ElementBound, RestBound, PropertyBound, RestPropertyBound, bound-array-empty, bound-array-rest, bound-array-list, bound-array-comma, bound-array-list-rest, bound-object-empty, bound-object-rest, bound-object-list, bound-object-comma, bound-object-list-rest, ParametersDone, no-parameters-done, rest-parameter-done, parameters-done, parameters-comma-done, parameters-rest-done, operand-small, not-prefix, not-update, update-unlinked, ChainDone, LeftDone, UnaryDone, primary-chain, member-chain, index-chain, call-chain, chain-left, left-unary, prefix-unary, TierDone, CoalesceDone, ShortDone, unary-tier, tier-down, operation-tier, power-tier, tier-head, coalesce-done, tier-short, coalesce-short, ValueDone, AssignmentDone, BodyDone, ExpressionDone, CommasDone, ParametersRead, FormalDone, closed-eq, short-value, conditional-value, past-value, arrow-done, name-read, parameters-read, async-parameters-read, async-name-read, first-commas, next-commas, sequence-done, no-comma-done, KeyDone, literal-key, computed-key, shorthand-part, cover-part, pair-part, spread-part, bound-shorthand, bound-shorthand-default, bound-pair}
 use Rattle.exact.proofs.Sources.{holes-array, SimpleDone, name-source, index-source, member-source, paren-source, TargetDone, PatternDone, simple-target, pattern-target, assign-source, compound-source, ElementDone, RestDone, assignment-item, spread-item, target-element-done, default-element-done, rest-done, array-empty-source, array-rest-source, array-list-source, array-comma-source, array-list-rest-source, PropertyDone, RestPropertyDone, shorthand-source, shorthand-default-source, pair-source, rest-property-source, object-empty-source, object-rest-source, object-list-source, object-comma-source, object-list-rest-source}
 
@@ -138,7 +137,7 @@ module _ {s : Sheet} where
 
   literal-reads : {i : ℕ} → Of is-literal s i → Reads s (J.primary i) (i + 1) (one (leaf Row.Literal i))
   unfolding is-literal is-name
-  literal-reads {i} n = R.primary-literal (nameless (is-name (token s i)) refl) (test-not (token s i) is-literal This refl (n .holds)) n
+  literal-reads {i} n = plainly .primary-literal (nameless (is-name (token s i)) refl) (test-not (token s i) is-literal This refl (n .holds)) (n .holds)
     where
       nameless : (b : Bool) → is-name (token s i) ≡ b → b ≡ false
       nameless false e = refl
@@ -150,16 +149,13 @@ module _ {s : Sheet} where
   empty-array-reads : {i p : ℕ} {ts : Forest} → Tok s i LBrack → Derives s Elision (i + 1) p ts → Tok s p RBrack → Reads s (J.primary i) (p + 1) (one (node Row.Array i i (p + 1) ts))
   empty-array-reads {i} {p} {ts} o d c = subst (λ (k : ℕ). Reads s (J.primary i) (p + 1) (one (node k i i (p + 1) ts))) (holes-array d) (array-empty-reads o d c)
 
-  call-done : {i p j : ℕ} {ts us : Forest} → ChainDone s i p ts → ArgumentsDone s p j us → ChainDone s i j (one (node Row.Call i i j (join ts us)))
-  call-done {ts = ts} x a = let w = bounded (a .reads 0 ts .settles) in call-chain x (omega arith) a
-
   postfix-done : {i p : ℕ} {ts : Forest} → Operand s i → SimpleDone s i p ts → Of is-update s p → SameLine s p → UnaryDone s i (p + 1) (one (node Row.PostfixUpdate p i (p + 1) ts))
   unfolding is-update is-update-operator
   postfix-done {i} {p} o x t l =
       let k = operand-small (token s i) (o .begins) in
       record {
         reads = λ _. rw (x .is-one)
-            (R.unary-postfix (not-prefix (token s i) k) (not-update (token s i) k) (R.postfix-update (x .left .reads (update-unlinked t)) (rw (t .holds, l .unbroken)) (x .turns as-simple-target)));
+            (plainly .unary-none (not-prefix (token s i) k) (not-update (token s i) k) (plainly .postfix-done (x .left .reads (update-unlinked t)) (rw (t .holds, l .unbroken)) (x .turns as-simple-target)));
       }
 
   prefix-done : {i j : ℕ} {ts : Forest} → Of is-update s i → SimpleDone s (i + 1) j ts → UnaryDone s i j (one (node Row.PrefixUpdate i i j ts))
@@ -167,7 +163,7 @@ module _ {s : Sheet} where
   prefix-done {i} t x =
       record {
         reads = λ e. rw (x .is-one)
-            (R.unary-update (inside s i is-update refl (t .holds)) (update-no-prefix (token s i) (t .holds)) (t .holds) (left-unary (x .left) .reads e) (x .turns as-simple-target));
+            (plainly .update-done (inside s i is-update refl (t .holds)) (update-no-prefix (token s i) (t .holds)) (t .holds) (left-unary (x .left) .reads e) (x .turns as-simple-target));
       }
 
   -- a token of one kind is of no other
@@ -208,14 +204,14 @@ module _ {s : Sheet} where
       record { reads = r; no-bracket = binding-start d RBrack refl refl refl; no-paren = binding-start d RParen refl refl refl; no-comma = binding-start d Comma refl refl refl; no-dots = binding-start d Dot3 refl refl refl }
 
   plain-bound : {i j : ℕ} {ts : Forest} → Derives s Binding i j ts → Reads s (J.binding i) j ts → ElementBound s i j ts
-  plain-bound d x = bound-start d (λ c. R.element-plain x (closed-eq c))
+  plain-bound d x = bound-start d (λ c. plainly .element-bare x (closed-eq c))
 
   default-bound : {i p j : ℕ} {ts us : Forest} → Derives s Binding i p ts → Reads s (J.binding i) p ts → Tok s p Eq → AssignmentDone s (p + 1) j us
       → ElementBound s i j (one (node Row.BindingDefault p i j (join ts us)))
-  default-bound d x t y = bound-start d (λ c. R.element-default x t (y .reads c))
+  default-bound d x t y = bound-start d (λ c. plainly .element-init x (t .kind-is) (y .reads c))
 
   rest-bound : {i j : ℕ} {ts : Forest} → Tok s i Dot3 → Derives s Binding (i + 1) j ts → Reads s (J.binding (i + 1)) j ts → RestBound s i j (one (node Row.BindingRest i i j ts))
-  rest-bound t d x = record { dots = t; reads = λ c. R.rest-done t (R.element-plain x (closed-eq c)) (binding-plain d) }
+  rest-bound t d x = record { dots = t; reads = λ c. R.rest-done t (plainly .element-bare x (closed-eq c)) (binding-plain d) }
 
   rest-name-bound : {i : ℕ} → Tok s i Dot3 → Of is-name s (i + 1) → RestPropertyBound s i (i + 2) (one (node Row.BindingRest i i (i + 2) (one (leaf Row.BindingName (i + 1)))))
   unfolding kind-of kids-of first-tree
@@ -223,7 +219,7 @@ module _ {s : Sheet} where
       let e : i + 1 + 1 ≡ i + 2 = omega arith in
       record {
         dots = t;
-        reads = λ c. R.rest-done t (R.element-plain (subst (λ (m : ℕ). Reads s (J.binding (i + 1)) m (one (leaf Row.BindingName (i + 1)))) e (R.binding-name n)) (closed-eq c)) refl;
+        reads = λ c. R.rest-done t (plainly .element-bare (subst (λ (m : ℕ). Reads s (J.binding (i + 1)) m (one (leaf Row.BindingName (i + 1)))) e (plainly .binding-name (n .holds))) (closed-eq c)) refl;
         is-name-only = refl;
       }
 
@@ -275,12 +271,12 @@ pub complete : {s : Sheet} {x : Nonterminal} {i j : ℕ} {ts : Forest} → Deriv
 complete (D.first-of-list d) = each-one (complete d)
 complete (D.next-of-list l t d) = each-more (complete l) t (complete d)
 complete (D.elided h d) = past h (complete d)
-complete (D.this t) = R.primary-this t
-complete (D.identifier n) = R.primary-name (name n)
+complete (D.this t) = plainly .primary-this (t .kind-is)
+complete (D.identifier n) = plainly .primary-name (name n .holds)
 complete (D.literal n) = literal-reads (literal n)
 complete (D.array d) = complete d
 complete (D.object d) = complete d
-complete (D.parenthesized o d c) = R.primary-paren o (complete d .reads (closed-paren c) (ap (λ (k : ℕ). k is Comma) (c .kind-is))) c
+complete (D.parenthesized o d c) = plainly .primary-paren (o .kind-is) (complete d .reads (closed-paren c) (ap (λ (k : ℕ). k is Comma) (c .kind-is))) (c .kind-is)
 complete (D.array-empty o d c) = empty-array-reads o d c
 complete (D.array-list o d c) = array-list-reads o (complete d) c
 complete (D.array-comma o d t e c) = array-comma-reads o (complete d) t e c
@@ -301,7 +297,7 @@ complete (D.computed-name o d c) = computed-key o (complete d) c
 complete (D.primary d) = primary-chain (root-primary d .lone) (operand-chain (D.primary d)) (complete d)
 complete (D.index d o e c) = index-chain (complete d) o (complete e .reads (closed-bracket c) (ap (λ (k : ℕ). k is Comma) (c .kind-is))) c
 complete (D.member d o e) = member-chain (complete d) o (word e)
-complete (D.call d e) = call-done (complete d) (complete e)
+complete (D.call d e) = call-chain (complete d) (complete e)
 complete (D.linked d) = chain-left (complete d)
 complete (D.no-arguments o c) = no-arguments-done o c
 complete (D.arguments o d c) = arguments-done o (complete d) c
@@ -354,7 +350,7 @@ complete (D.no-comma d) = no-comma-done (complete d)
 complete (D.sequence d) = sequence-done (complete d)
 complete (D.first-comma d t e) = first-commas (complete d) t (complete e)
 complete (D.next-comma d t e) = next-commas (complete d) t (complete e)
-complete (D.binding-name n) = R.binding-name (name n)
+complete (D.binding-name n) = plainly .binding-name (name n .holds)
 complete (D.binding-pattern d) = complete d
 complete (D.binding-object-empty o c) = bound-object-empty o c
 complete (D.binding-object-rest o d c) = bound-object-rest o (complete d) c
@@ -403,11 +399,11 @@ module _ {s : Sheet} {t : Tree} where
   unfolding unconverteds
   complete-expression d =
       let r = complete (d .derivation) .reads (at-the-end s) (not-comma s) in
-      whole-from plain s (J.expression 0) tt (r .settles .with (plenty s) (in-plenty s (J.expression 0))) ∙ ap (λ (l : List Record). whole (one t) (l ++ []) tt) (says-nothing t (d .no-cover))
+      whole-from plain s (J.expression 0) tt (r .with (plenty s) (in-plenty s (J.expression 0))) ∙ ap (λ (l : List Record). whole (one t) (l ++ []) tt) (says-nothing t (d .no-cover))
 
   -- 14.3.3: the same of a BindingElement and the pattern entry
   pub complete-binding : Derived s BindingElement 0 (length (s .kinds)) t → reading plain s (J.binding-element 0) tt ≡ whole (one t) [] tt
   unfolding unconverteds
   complete-binding d =
       let r = complete (d .derivation) .reads (at-the-end s) in
-      whole-from plain s (J.binding-element 0) tt (r .settles .with (plenty s) (in-plenty s (J.binding-element 0))) ∙ ap (λ (l : List Record). whole (one t) (l ++ []) tt) (says-nothing t (d .no-cover))
+      whole-from plain s (J.binding-element 0) tt (r .with (plenty s) (in-plenty s (J.binding-element 0))) ∙ ap (λ (l : List Record). whole (one t) (l ++ []) tt) (says-nothing t (d .no-cover))

@@ -31,7 +31,7 @@ use Rattle.exact.proofs.Convert.{Expected, as-target, as-simple-target,
 use Rattle.exact.proofs.Bracketed.{Opening}
 use Rattle.exact.proofs.Follow.{Closed, test-not, tail-by, tail-kind, is-operand, is-start, Operand, Start, operand-name, Second, no-async-name}
 use Rattle.exact.proofs.Rules as R
-use Rattle.exact.proofs.Rules.{Reads}
+use Rattle.exact.proofs.Rules.{Reads, plainly, quiet, here, and-false}
 use Rattle.exact.proofs.Parts.{past-head, ItemDone, PartDone, closed-paren, array-empty-reads, array-list-reads, array-comma-reads, object-empty-reads, object-list-reads, object-comma-reads, ChainDone, LeftDone, primary-chain, member-chain, index-chain, chain-left, left-unary, unary-short, short-value, AssignmentDone, past-value, no-comma-done, KeyDone, shorthand-part, cover-part, pair-part, spread-part}
 
 -- CONVERSION, WHERE NOTHING IS SAID
@@ -140,7 +140,7 @@ simple-done kind mark first end ts into k l c r =
 module _ {s : Sheet} where
   pub name-source : {i : ℕ} → Of is-name s i → SimpleDone s i (i + 1) (one (leaf Row.TargetName i))
   unfolding simple-kind convert-as change as-simple seen over inner-kind first-tree
-  name-source {i} n = simple-done Row.Identifier i i (i + 1) nil (leaf Row.TargetName i) refl (chain-left (primary-chain refl (operand-name n) (R.primary-name n))) refl refl
+  name-source {i} n = simple-done Row.Identifier i i (i + 1) nil (leaf Row.TargetName i) refl (chain-left (primary-chain refl (operand-name n) (plainly .primary-name (n .holds)))) refl refl
 
   pub index-source : {i p q : ℕ} {ts us : Forest} → ChainDone s i p ts → Tok s p LBrack → Reads s (J.expression (p + 1)) q us → Tok s q RBrack
       → SimpleDone s i (q + 1) (one (node Row.TargetIndex i i (q + 1) (join ts us)))
@@ -163,7 +163,7 @@ module _ {s : Sheet} where
       subst (λ (v : Forest). SimpleDone s i (p + 1) (one (node Row.TargetParen i i (p + 1) v))) (sym (x .is-one))
       (simple-done Row.Paren i i (p + 1) (one (x .tree)) (node Row.TargetParen i i (p + 1) (one (x .into))) refl
       (chain-left (primary-chain refl (record { begins = ap is-operand (o .kind-is) ∙ paren-operand })
-      (R.primary-paren o (no-comma-done (left-assignment n op (x .left)) .reads (closed-paren c) (ap (λ (k : ℕ). k is Comma) (c .kind-is))) c)))
+      (plainly .primary-paren (o .kind-is) (no-comma-done (left-assignment n op (x .left)) .reads (closed-paren c) (ap (λ (k : ℕ). k is Comma) (c .kind-is))) (c .kind-is))))
       (rw (x .no-literal, x .turns as-simple-target)) (x .refers))
 
 -- ANY TARGETS
@@ -267,9 +267,9 @@ module _ {s : Sheet} where
   assign-source {i} {p} {j} {ts} {us} n op x t y =
       record {
         reads = λ c. subst (λ (v : Forest). Reads s (J.assignment i) j (one (node Row.Assign p i j (join v us)))) (sym (x .is-one))
-            (past-head op (R.value-assign (no-async-name n (ap is-name (t .kind-is)))
+            (past-head op (quiet (plainly .value-assigns (no-async-name n (ap is-name (t .kind-is)))
             (unary-short refl (left-unary (x .left)) .reads (tail-kind _ refl refl refl refl refl t) (past-levels (token s p) (omega (arith, t .kind-is))))
-            (ap (λ (k : ℕ). k is Arrow) (t .kind-is)) (ap is-assignment-operator (t .kind-is)) (R.assign-equals t (x .as-any-target) (y .reads c))));
+            (and-false (kind-of (x .tree) is Row.Identifier) (ap (λ (k : ℕ). k is Arrow) (t .kind-is))) (ap is-assignment-operator (t .kind-is)) (R.assign-equals t (x .as-any-target) (y .reads c)))));
       }
 
   pub compound-source : {i p j : ℕ} {ts us : Forest} → Second s i p → Opening s i → SimpleDone s i p ts → Of is-compound s p → AssignmentDone s (p + 1) j us
@@ -280,10 +280,10 @@ module _ {s : Sheet} where
       let u : leb (token s p) 78 ≡ true = and-right (leb 64 (token s p)) (leb (token s p) 78) (t .holds) in
       record {
         reads = λ c. subst (λ (v : Forest). Reads s (J.assignment i) j (one (node Row.CompoundAssign p i j (join v us)))) (sym (x .is-one))
-            (past-head op (R.value-assign (no-async-name n (name-small (token s p) l))
+            (past-head op (quiet (plainly .value-assigns (no-async-name n (name-small (token s p) l))
             (unary-short refl (left-unary (x .left)) .reads (tail-by is-compound refl refl refl refl refl (t .holds)) (past-levels (token s p) (omega arith)))
-            (test-not (token s p) is-compound Arrow refl (t .holds)) (rw (le-leb 63 (token s p) (omega arith)) u)
-            (R.assign-compound (test-not (token s p) is-compound Eq refl (t .holds)) (inside s p is-compound refl (t .holds)) (x .turns as-simple-target) (y .reads c))));
+            (and-false (kind-of (x .tree) is Row.Identifier) (test-not (token s p) is-compound Arrow refl (t .holds))) (rw (le-leb 63 (token s p) (omega arith)) u)
+            (R.assign-compound (test-not (token s p) is-compound Eq refl (t .holds)) (inside s p is-compound refl (t .holds)) (x .turns as-simple-target) (y .reads c)))));
       }
     where
       name-small : (k : ℕ) → 64 ≤ k → is-name k ≡ false
@@ -330,7 +330,7 @@ module _ {s : Sheet} where
   unfolding kind-of
   spread-item {i} {j} {ts} t x =
       record {
-        reads = λ c. rw (t .kind-is) (R.spread-done t (x .reads c));
+        reads = λ c. rw (t .kind-is) (plainly .spread-done (here t) (x .reads c));
         no-bracket = rw (t .kind-is);
         no-paren = rw (t .kind-is);
         no-comma = rw (t .kind-is);

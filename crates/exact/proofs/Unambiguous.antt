@@ -18,7 +18,7 @@ use Rattle.exact.proofs.Complete.{complete, at-the-end, not-comma, comp
 
 -- a nonterminal is read with one tree at most
 one-reading : {s : Sheet} {job : Job} {j : ℕ} {ts us : Forest} → Reads s job j ts → Reads s job j us → ts ≡ us
-one-reading a b = let e = one-outcome (a .settles) (b .settles) in cc
+one-reading a b = let e = one-outcome a b in cc
 
 module _ {s : Sheet} {ts us : Forest} where
   -- two derivations of an Expression over the same list have the same tree
