@@ -27,14 +27,11 @@ use Rattle.ecma262.specs.Derives as D
 use Rattle.exact.specs.Terminals.{tier-row, is-update, Line}
 use Rattle.exact.proofs.Terminals.{Of, Operator, name, word, literal, key, prefix, update, compound, line, operator}
 use Rattle.ecma262.specs.Derives.{Tok, one-of, OneOf, SameLine, assignment-operators, Links, Nonterminal, ListOf, Elided, Elision, PrimaryExpression, LinkedExpression, UpdateExpression, UnaryExpression, TierExpression, ConditionalExpression, Expression, Binding, BindingElement, array-row, object-row, Derives, Derived}
-use Rattle.exact.proofs.Roots.{not-both, root-primary, root-update, root-unary, root-short-circuit, root-assignment, Each, each-one, each-more, Past, past}
+use Rattle.exact.proofs.Roots.{not-both, root-primary, root-update, root-unary, root-short-circuit, root-assignment, Each, each-one, each-more, Past, past, Shaped, in-brackets, in-braces, binding-shape}
 use Rattle.exact.proofs.Convert.{as-simple-target}
-use Rattle.exact.proofs.Clean.{says-nothing}
-use Rattle.exact.proofs.Bracketed.{Opening, Ends, kind-ends, test-ends, short-circuit-opening, simple-opening, target-opening}
-use Rattle.exact.proofs.Follow.{is-closer, Closed, test-not, closed-ends, Operand, as-start, operand-chain, operand-simple, operand-target, start-of-assignment, second-short-circuit, second-target, second-simple}
-use Rattle.exact.proofs.Rules as R
-use Rattle.exact.proofs.Rules.{Reads, plainly}
-use Rattle.exact.proofs.Parts.{ItemDone, PartDone, closed-paren, closed-bracket, array-empty-reads, array-list-reads, array-comma-reads, object-empty-reads, object-list-reads, object-comma-reads, ArgumentsDone, no-arguments-done, arguments-done, arguments-comma-done, ElementBound, RestBound, PropertyBound, RestPropertyBound, bound-array-empty, bound-array-rest, bound-array-list, bound-array-comma, bound-array-list-rest, bound-object-empty, bound-object-rest, bound-object-list, bound-object-comma, bound-object-list-rest, ParametersDone, no-parameters-done, rest-parameter-done, parameters-done, parameters-comma-done, parameters-rest-done, operand-small, not-prefix, not-update, update-unlinked, ChainDone, LeftDone, UnaryDone, primary-chain, member-chain, index-chain, call-chain, chain-left, left-unary, prefix-unary, TierDone, CoalesceDone, ShortDone, unary-tier, tier-down, operation-tier, power-tier, tier-head, coalesce-done, tier-short, coalesce-short, ValueDone, AssignmentDone, BodyDone, ExpressionDone, CommasDone, ParametersRead, FormalDone, closed-eq, short-value, conditional-value, past-value, arrow-done, name-read, parameters-read, async-parameters-read, async-name-read, first-commas, next-commas, sequence-done, no-comma-done, KeyDone, literal-key, computed-key, shorthand-part, cover-part, pair-part, spread-part, bound-shorthand, bound-shorthand-default, bound-pair}
+use Rattle.exact.proofs.Sound.{says-nothing}
+use Rattle.exact.proofs.Follow.{Opening, Ends, kind-ends, test-ends, short-circuit-opening, simple-opening, target-opening, is-closer, Closed, test-not, closed-ends, Operand, as-start, operand-chain, operand-simple, operand-target, start-of-assignment, second-short-circuit, second-target, second-simple, closed-by}
+use Rattle.exact.proofs.Parts.{Reads, plainly, binding-rest-done, ItemDone, PartDone, array-empty-reads, array-list-reads, array-comma-reads, object-empty-reads, object-list-reads, object-comma-reads, ArgumentsDone, no-arguments-done, arguments-done, arguments-comma-done, ElementBound, RestBound, PropertyBound, RestPropertyBound, bound-array-empty, bound-array-rest, bound-array-list, bound-array-comma, bound-array-list-rest, bound-object-empty, bound-object-rest, bound-object-list, bound-object-comma, bound-object-list-rest, ParametersDone, no-parameters-done, rest-parameter-done, parameters-done, parameters-comma-done, parameters-rest-done, operand-small, not-prefix, not-update, update-unlinked, ChainDone, LeftDone, UnaryDone, primary-chain, member-chain, index-chain, call-chain, chain-left, left-unary, prefix-unary, TierDone, CoalesceDone, ShortDone, unary-tier, tier-down, operation-tier, power-tier, tier-head, coalesce-done, tier-short, coalesce-short, ValueDone, AssignmentDone, BodyDone, ExpressionDone, CommasDone, ParametersRead, FormalDone, closed-eq, short-value, conditional-value, past-value, arrow-done, name-read, parameters-read, async-parameters-read, async-name-read, first-commas, next-commas, sequence-done, no-comma-done, KeyDone, literal-key, computed-key, shorthand-part, cover-part, pair-part, spread-part, bound-shorthand, bound-shorthand-default, bound-pair}
 use Rattle.exact.proofs.Sources.{holes-array, SimpleDone, name-source, index-source, member-source, paren-source, TargetDone, PatternDone, simple-target, pattern-target, assign-source, compound-source, ElementDone, RestDone, assignment-item, spread-item, target-element-done, default-element-done, rest-done, array-empty-source, array-rest-source, array-list-source, array-comma-source, array-list-rest-source, PropertyDone, RestPropertyDone, shorthand-source, shorthand-default-source, pair-source, rest-property-source, object-empty-source, object-rest-source, object-list-source, object-comma-source, object-list-rest-source}
 
 -- KINDS OF ROWS
@@ -173,30 +170,20 @@ module _ {s : Sheet} where
   -- bindings
   binding-start : {i j : ℕ} {ts : Forest} → Derives s Binding i j ts → (k : ℕ) → is-name k ≡ false → k is LBrack ≡ false → k is LCurly ≡ false → token s i is k ≡ false
   binding-start {i} (D.binding-name n) k a b c = test-not (token s i) is-name k a (name n .holds)
-  binding-start (D.binding-pattern (D.binding-object-empty o _)) k a b c = kind-not k LCurly c o
-  binding-start (D.binding-pattern (D.binding-object-rest o _ _)) k a b c = kind-not k LCurly c o
-  binding-start (D.binding-pattern (D.binding-object-list o _ _)) k a b c = kind-not k LCurly c o
-  binding-start (D.binding-pattern (D.binding-object-comma o _ _ _)) k a b c = kind-not k LCurly c o
-  binding-start (D.binding-pattern (D.binding-object-list-rest o _ _ _ _)) k a b c = kind-not k LCurly c o
-  binding-start (D.binding-pattern (D.binding-array-empty o _ _)) k a b c = kind-not k LBrack b o
-  binding-start (D.binding-pattern (D.binding-array-rest o _ _)) k a b c = kind-not k LBrack b o
-  binding-start (D.binding-pattern (D.binding-array-list o _ _)) k a b c = kind-not k LBrack b o
-  binding-start (D.binding-pattern (D.binding-array-comma o _ _ _ _)) k a b c = kind-not k LBrack b o
-  binding-start (D.binding-pattern (D.binding-array-list-rest o _ _ _ _)) k a b c = kind-not k LBrack b o
+  binding-start {i} (D.binding-pattern d) k a b c = by (binding-shape d)
+    where
+      by : {j : ℕ} {ts : Forest} → Shaped s Row.BindingArray Row.BindingObject i j ts → token s i is k ≡ false
+      by (in-brackets o) = kind-not k LBrack b o
+      by (in-braces o) = kind-not k LCurly c o
 
   binding-plain : {i j : ℕ} {ts : Forest} → Derives s Binding i j ts → kind-of (first-tree ts) is Row.BindingDefault ≡ false
   unfolding kind-of first-tree
   binding-plain (D.binding-name n) = refl
-  binding-plain (D.binding-pattern (D.binding-object-empty o c)) = refl
-  binding-plain (D.binding-pattern (D.binding-object-rest o d c)) = refl
-  binding-plain (D.binding-pattern (D.binding-object-list o d c)) = refl
-  binding-plain (D.binding-pattern (D.binding-object-comma o d t c)) = refl
-  binding-plain (D.binding-pattern (D.binding-object-list-rest o d t e c)) = refl
-  binding-plain (D.binding-pattern (D.binding-array-empty o d c)) = refl
-  binding-plain (D.binding-pattern (D.binding-array-rest o d c)) = refl
-  binding-plain (D.binding-pattern (D.binding-array-list o d c)) = refl
-  binding-plain (D.binding-pattern (D.binding-array-comma o d t e c)) = refl
-  binding-plain (D.binding-pattern (D.binding-array-list-rest o d t e c)) = refl
+  binding-plain (D.binding-pattern d) = by (binding-shape d)
+    where
+      by : {i j : ℕ} {ts : Forest} → Shaped s Row.BindingArray Row.BindingObject i j ts → kind-of (first-tree ts) is Row.BindingDefault ≡ false
+      by (in-brackets _) = refl
+      by (in-braces _) = refl
 
   bound-start : {i j k : ℕ} {ts us : Forest} → Derives s Binding i j ts → (Closed s k → Reads s (J.binding-element i) k us) → ElementBound s i k us
   unfolding is-name
@@ -211,7 +198,7 @@ module _ {s : Sheet} where
   default-bound d x t y = bound-start d (λ c. plainly .element-init x (t .kind-is) (y .reads c))
 
   rest-bound : {i j : ℕ} {ts : Forest} → Tok s i Dot3 → Derives s Binding (i + 1) j ts → Reads s (J.binding (i + 1)) j ts → RestBound s i j (one (node Row.BindingRest i i j ts))
-  rest-bound t d x = record { dots = t; reads = λ c. R.rest-done t (plainly .element-bare x (closed-eq c)) (binding-plain d) }
+  rest-bound t d x = record { dots = t; reads = λ c. binding-rest-done t (plainly .element-bare x (closed-eq c)) (binding-plain d) }
 
   rest-name-bound : {i : ℕ} → Tok s i Dot3 → Of is-name s (i + 1) → RestPropertyBound s i (i + 2) (one (node Row.BindingRest i i (i + 2) (one (leaf Row.BindingName (i + 1)))))
   unfolding kind-of kids-of first-tree
@@ -219,7 +206,7 @@ module _ {s : Sheet} where
       let e : i + 1 + 1 ≡ i + 2 = omega arith in
       record {
         dots = t;
-        reads = λ c. R.rest-done t (plainly .element-bare (subst (λ (m : ℕ). Reads s (J.binding (i + 1)) m (one (leaf Row.BindingName (i + 1)))) e (plainly .binding-name (n .holds))) (closed-eq c)) refl;
+        reads = λ c. binding-rest-done t (plainly .element-bare (subst (λ (m : ℕ). Reads s (J.binding (i + 1)) m (one (leaf Row.BindingName (i + 1)))) e (plainly .binding-name (n .holds))) (closed-eq c)) refl;
         is-name-only = refl;
       }
 
@@ -276,7 +263,7 @@ complete (D.identifier n) = plainly .primary-name (name n .holds)
 complete (D.literal n) = literal-reads (literal n)
 complete (D.array d) = complete d
 complete (D.object d) = complete d
-complete (D.parenthesized o d c) = plainly .primary-paren (o .kind-is) (complete d .reads (closed-paren c) (ap (λ (k : ℕ). k is Comma) (c .kind-is))) (c .kind-is)
+complete (D.parenthesized o d c) = plainly .primary-paren (o .kind-is) (complete d .reads (closed-by _ refl c) (ap (λ (k : ℕ). k is Comma) (c .kind-is))) (c .kind-is)
 complete (D.array-empty o d c) = empty-array-reads o d c
 complete (D.array-list o d c) = array-list-reads o (complete d) c
 complete (D.array-comma o d t e c) = array-comma-reads o (complete d) t e c
@@ -295,7 +282,7 @@ complete (D.spread-property d) = complete d .1
 complete (D.literal-name n) = literal-key (key n)
 complete (D.computed-name o d c) = computed-key o (complete d) c
 complete (D.primary d) = primary-chain (root-primary d .lone) (operand-chain (D.primary d)) (complete d)
-complete (D.index d o e c) = index-chain (complete d) o (complete e .reads (closed-bracket c) (ap (λ (k : ℕ). k is Comma) (c .kind-is))) c
+complete (D.index d o e c) = index-chain (complete d) o (complete e .reads (closed-by _ refl c) (ap (λ (k : ℕ). k is Comma) (c .kind-is))) c
 complete (D.member d o e) = member-chain (complete d) o (word e)
 complete (D.call d e) = call-chain (complete d) (complete e)
 complete (D.linked d) = chain-left (complete d)
@@ -324,7 +311,7 @@ complete (D.async-arrow d t l e) = arrow-done (complete d) t l (complete e)
 complete (D.assign d t e) = assign-source (second-target d) (target-opening d (kind-ends _ refl refl t)) (complete d) t (complete e)
 complete (D.compound-assign d t e) = compound-source (second-simple d) (simple-opening d (compound-ends t)) (complete d) (compound t) (complete e)
 complete (D.target-name n) = name-source (name n)
-complete (D.target-index d o e c) = index-source (complete d) o (complete e .reads (closed-bracket c) (ap (λ (k : ℕ). k is Comma) (c .kind-is))) c
+complete (D.target-index d o e c) = index-source (complete d) o (complete e .reads (closed-by _ refl c) (ap (λ (k : ℕ). k is Comma) (c .kind-is))) c
 complete (D.target-member d o e) = member-source (complete d) o (word e)
 complete (D.target-parenthesized o d c) = paren-source o (second-simple d) (λ e. simple-opening d (closed-ends e)) (complete d) c
 complete (D.target-simple d) = simple-target (complete d)
@@ -387,7 +374,6 @@ past-the-end : (s : Sheet) → token s (length (s .kinds)) ≡ 0
 past-the-end s = List·getD-eq-default (s .kinds) 0 {n = length (s .kinds)} (omega arith)
 
 pub at-the-end : (s : Sheet) → Closed s (length (s .kinds))
-unfolding is-closer
 at-the-end s = record { closes = ap is-closer (past-the-end s) }
 
 pub not-comma : (s : Sheet) → token s (length (s .kinds)) is Comma ≡ false

@@ -3,7 +3,7 @@
 use Prim.Native.Nat.{ℕ, zero, suc, _+_}
 use mathlib.Core.Path.{_≡_, refl, sym, ap, _∙_, subst}
 use mathlib.Core.Bool.{Bool, true, false, not}
-use mathlib.Core.List.{List, [], _∷_, _++_}
+use mathlib.Core.List.{List, [], _∷_, _++_, append-assoc, append-nil}
 use native.Mathlib.Omega.{arith}
 use lib.Dec.{eqb, leb}
 use borrow.Author.Tests.{ne-eqb}
@@ -22,8 +22,7 @@ use Rattle.ecma262.specs.Derives as D
 use Rattle.exact.specs.Terminals.{tier-row}
 use Rattle.exact.proofs.Terminals.{line}
 use Rattle.ecma262.specs.Derives.{Tok, OneOf, identifiers, identifier-names, assignment-operators, Links, Nonterminal, ListOf, Elided, Elision, PropertyName, LinkedExpression, LeftHandSideExpression, UnaryExpression, ShortCircuitExpression, AssignmentExpression, SimpleTarget, AssignmentPattern, DestructuringAssignmentTarget, AssignmentElement, AssignmentRestElement, AssignmentProperty, AssignmentRestProperty, AssignmentElementList, AssignmentPropertyList, Expression, ends-in-spread, array-row, object-row, Derives}
-use Rattle.exact.proofs.Roots.{Root, not-both, root-assignment, root-expression, spread-last, Each, each-one, each-more, Past, past}
-use Rattle.exact.proofs.Means.{Silent, said, silent-left, silent-right}
+use Rattle.exact.proofs.Roots.{Root, not-both, root-assignment, root-expression, spread-last, Each, each-one, each-more, Past, past, Silent, said, silent-left, silent-right}
 
 -- OUTCOMES
 -- a row that is turned over its kids
@@ -84,14 +83,6 @@ record Split (ts us : Forest) (f g : ℕ → Role) (vs : Forest) (records : List
   right-turns : convert-kids us f ≡ turned right right-said
   is-forest : vs ≡ join left right
   are : records ≡ left-said ++ right-said
-
-append-assoc : (a b c : List Record) → (a ++ b) ++ c ≡ a ++ (b ++ c)
-append-assoc [] b c = refl
-append-assoc (x ∷ a) b c = ap (λ (l : List Record). x ∷ l) (append-assoc a b c)
-
-append-nil : (a : List Record) → a ++ [] ≡ a
-append-nil [] = refl
-append-nil (x ∷ a) = ap (λ (l : List Record). x ∷ l) (append-nil a)
 
 split : (ts us : Forest) (f g : ℕ → Role) → ((n : ℕ) → f (n + count us) ≡ g n) → (vs : Forest) (records : List Record) → convert-kids (join ts us) f ≡ turned vs records → Split ts us f g vs records
 unfolding convert-kids join both

@@ -2,42 +2,113 @@
 -- a nonterminal, one lemma for each of its productions. Targets have a file of their own.
 -- Assumes nothing.
 use mathlib.Core.List.{[]}
-use Prim.Native.Nat.{ℕ, suc, _+_, _≤_, _<_}
+use Prim.Native.Nat.{ℕ, suc, _+_, _<_, _≤_}
 use mathlib.Core.Path.{_≡_, refl, sym, ap, _∙_, subst}
 use mathlib.Core.Bool.{Bool, true, false, not}
 use native.Mathlib.Omega.{arith}
-use native.Mathlib.Decide.{ℕ-discrete}
-use lib.Dec.{leb}
+use lib.Dec.{ltb, leb}
 use lib.ListN.{length}
+use native.Mathlib.Decide.{ℕ-discrete}
 use borrow.Author.Tests.{ne-eqb, lt-ltb, le-ltb, leb-true, leb-false, le-leb, lt-leb}
-use Rattle.tokens.specs.Bool.{_is_, _or_, _and_, if_then_else_}
-use Rattle.tokens.specs.Kind.{Async, This, LParen, RParen, LBrack, RBrack, LCurly, RCurly, Comma, Colon, Question, Dot, Dot3, Arrow, Question2, Star2, Eq}
+use Rattle.tokens.specs.Bool.{_or_, _and_, _is_, if_then_else_}
+use Rattle.tokens.specs.Kind.{Async, LParen, Colon, Dot3, Eq, This, RParen, LBrack, RBrack, LCurly, RCurly, Comma, Question, Dot, Arrow, Question2, Star2}
 use Rattle.tokens.specs.Token.{is-name, is-word, is-literal}
-use Rattle.operators.specs.Precedence.{level, expression-level}
-use Rattle.rows.specs.Tree.{Tree, Forest, node, nil, cons, one, join, kind-of, mark-of, kids-of}
+use Rattle.tokens.specs.declared.cause.Cause.{Cause}
+use Rattle.tokens.proofs.Stands.{stands}
+use Rattle.operators.specs.Precedence.{expression-level, level}
+use Rattle.rows.specs.Tree.{Tree, Forest, node, cons, one, join, kind-of, nil, mark-of, kids-of}
 use Rattle.rows.specs.Row as Row
-use Rattle.rows.proofs.Rows.{join-nil, join-assoc}
-use Rattle.grammar.specs.Sheet.{Sheet, token, first-tree, leaf}
-use Rattle.grammar.specs.Job as J
-use Rattle.grammar.specs.Job.{Job}
-use Rattle.grammar.specs.Update.{is-unary-operator, is-update-operator}
-use Rattle.grammar.specs.Binary.{operation-kind, right-floor, is-or-and, operation-records}
-use Rattle.grammar.specs.Assignment.{is-assignment-operator, is-async-name}
-use Rattle.laws.specs.Settles.{μ, Comes, comes-done, comes-fail}
+use Rattle.conversion.specs.Conversion.{any, simple, turned, convert-as}
+use Rattle.grammar.specs.Sheet.{Sheet, token, done, fail, first-tree, after-records, or-else, try, leaf}
+use Rattle.grammar.specs.Job.{Job, assignment, value, assign, binary, operators, binding-element, binding-rest, head, body}
+use Rattle.grammar.specs.Binary.{operation-kind, right-floor, operation-records, is-or-and}
+use Rattle.grammar.specs.Arrow.{by-way, choose, noting, arrow-of, assignment-of}
+use Rattle.grammar.specs.Step.{step}
 use Rattle.grammar.specs.Reading.{plain}
+use Rattle.laws.specs.Settles.{Settles, μ, Comes, comes-done, comes-fail}
+use Rattle.laws.proofs.Bounds.{bounded}
+use Rattle.laws.proofs.Rules.{Word, Rules, rules, settles-by}
+use Rattle.ecma262.specs.Derives.{Tok, SameLine, Elision, ends-in-spread, array-row, object-row, Derives}
+use Rattle.rows.proofs.Rows.{join-nil, join-assoc}
+use Rattle.grammar.specs.Job as J
+use Rattle.grammar.specs.Update.{is-unary-operator, is-update-operator}
+use Rattle.grammar.specs.Assignment.{is-assignment-operator, is-async-name}
 use Rattle.laws.proofs.Steady.{settles}
 use Rattle.laws.proofs.Good.{inside}
 use Rattle.ecma262.specs.Derives as D
-use Rattle.exact.proofs.Terminals.{Of, Operator}
-use Rattle.exact.specs.Terminals.{is-key, is-prefix, is-update, tier-row}
-use Rattle.ecma262.specs.Derives.{Tok, SameLine, Elision, ends-in-spread, array-row, object-row, Derives}
-use Rattle.exact.proofs.Levels.{power-floor, other-floor, row-of-tier}
-use Rattle.exact.proofs.Roots.{not-both, spread-last, Each, each-one, each-more, Past, past}
 use Rattle.laws.proofs.Readings as Readings
-use Rattle.exact.proofs.Bracketed.{Opening, async-opening, other-opening, no-head}
-use Rattle.exact.proofs.Follow.{is-closer, Closed, closed-by, test-not, closed-test, Tail, tail-kind, closed-tail, closed-level, operator-tail, is-operand, Operand, operand-name, Second, no-async-name, closed-no-name, positive-level}
-use Rattle.exact.proofs.Rules as R
-use Rattle.exact.proofs.Rules.{Reads, plainly, quiet, here, and-false, unpaired}
+use Rattle.exact.proofs.Terminals.{Of, Operator, power-floor, other-floor, row-of-tier}
+use Rattle.exact.specs.Terminals.{is-key, is-prefix, is-update, tier-row}
+use Rattle.exact.proofs.Roots.{not-both, spread-last, Each, each-one, each-more, Past, past}
+use Rattle.exact.proofs.Follow.{Opening, async-opening, other-opening, no-head, is-closer, Closed, closed-by, test-not, closed-test, Tail, tail-kind, closed-tail, closed-level, operator-tail, is-operand, Operand, operand-name, Second, no-async-name, closed-no-name, positive-level}
+
+-- the plain reader reads the nonterminal so, without a record
+abbrev pub Reads : Sheet → Job → ℕ → Forest → Type 0
+Reads s job j ts = Settles plain s job tt (done j ts [] tt)
+
+-- no records before none
+pub quiet : {s : Sheet} {job : Job} {j : ℕ} {ts : Forest} → Settles plain s job tt (after-records [] (done j ts [] tt)) → Reads s job j ts
+unfolding after-records
+quiet h = h
+
+-- a token that stands somewhere stands inside
+pub here : {s : Sheet} {at k : ℕ} → Tok s at (suc k) → at < length (s .kinds)
+here {s} t = stands (s .kinds) (t .kind-is)
+
+-- both must hold
+pub and-false : (a : Bool) {b : Bool} → b ≡ false → a and b ≡ false
+and-false true e = e
+and-false false e = refl
+
+module _ {s : Sheet} where
+  itself : Word plain s (Settles plain s)
+  itself = record { settled = λ h. h; given = λ h. h }
+
+  pub plainly : Rules s (Settles plain s)
+  plainly = rules itself
+
+  -- 13.15, by whether a head is read
+  pub assignment-other : {at q : ℕ} {us : Forest} → token s at is LParen or token s at is Async ≡ false → Reads s (value at) q us → Reads s (assignment at) q us
+  unfolding step assignment-of
+  assignment-other n b = settles-by (λ f le. rw (n, b .with f (omega arith)))
+
+  pub assignment-past : {at q : ℕ} {us : Forest} {cause : Cause} → token s at is LParen or token s at is Async ≡ true → Settles plain s (head at) tt (fail cause tt) → Reads s (value at) q us
+      → Reads s (assignment at) q us
+  unfolding step assignment-of choose by-way try or-else noting
+  assignment-past o r b = settles-by (λ f le. rw (o, r .with f (omega arith), b .with f (omega arith)))
+
+  pub assignment-head : {at p q : ℕ} {ts us : Forest} → Tok s at LParen → Reads s (head at) p ts → Reads s (body Row.Arrow at p ts) q us → Reads s (assignment at) q us
+  unfolding step assignment-of choose by-way try or-else arrow-of after-records
+  assignment-head o a b = let i = here o in let w = bounded a in settles-by (λ f le. rw (o .kind-is, a .with f (omega arith), o .kind-is, b .with f (omega arith)))
+
+  pub assignment-async : {at p q : ℕ} {ts us : Forest} → Tok s at Async → Reads s (head at) p ts → Reads s (body Row.AsyncArrow at p ts) q us → Reads s (assignment at) q us
+  unfolding step assignment-of choose by-way try or-else arrow-of after-records
+  assignment-async o a b = let i = here o in let w = bounded a in settles-by (λ f le. rw (o .kind-is, a .with f (omega arith), o .kind-is, b .with f (omega arith)))
+
+  -- rules of which one side is known
+  pub assign-equals : {at p first : ℕ} {left u : Tree} {ts : Forest} → Tok s at Eq → convert-as left any ≡ turned u [] → Reads s (assignment (at + 1)) p ts
+      → Reads s (assign first at left) p (one (node Row.Assign at first p (cons u ts)))
+  unfolding join
+  assign-equals {p = p} {first} {left} {u} {ts} t c a = rw (t .kind-is) at (plainly .assign-done {p = p} {first = first} {ts = ts} {left = left} {t = u} {rs = []} (here t) (rw (t .kind-is) c) a)
+
+  pub assign-compound : {at p first : ℕ} {left u : Tree} {ts : Forest} → token s at is Eq ≡ false → at < length (s .kinds) → convert-as left simple ≡ turned u [] → Reads s (assignment (at + 1)) p ts
+      → Reads s (assign first at left) p (one (node Row.CompoundAssign at first p (cons u ts)))
+  unfolding join
+  assign-compound {p = p} {first} {left} {u} {ts} t i c a = rw t at (plainly .assign-done {p = p} {first = first} {ts = ts} {left = left} {t = u} {rs = []} i (rw t c) a)
+
+  pub operators-more : {floor first at p q : ℕ} {left t : Tree} {us : Forest} → at < length (s .kinds) → ltb floor (expression-level (token s at)) ≡ true
+      → Reads s (binary (right-floor (token s at)) (at + 1)) p (one t) → operation-records s at left t ≡ []
+      → Reads s (operators floor first p (node (operation-kind (token s at)) at first p (cons left (one t)))) q us → Reads s (operators floor first at left) q us
+  unfolding after-records
+  operators-more i l a r b = rw r at (plainly .operators-more i l a b)
+
+  pub binding-rest-done : {at p : ℕ} {ts : Forest} → Tok s at Dot3 → Reads s (binding-element (at + 1)) p ts → kind-of (first-tree ts) is Row.BindingDefault ≡ false
+      → Reads s (binding-rest at) p (one (node Row.BindingRest at at p ts))
+  binding-rest-done t a n = rw n at (plainly .rest-done (here t) a)
+
+  -- a name that is no key
+  pub unpaired : {at : ℕ} → Of is-name s at → token s (at + 1) is Colon ≡ false → (is-name (token s at) and not (token s (at + 1) is Colon)) ≡ true
+  unpaired n c = rw (n .holds, c)
 
 -- WHERE NO HEAD BEGINS
 -- what opens nothing is no head for the plain reader either
@@ -45,9 +116,9 @@ pub past-head : {s : Sheet} {i j : ℕ} {ts : Forest} → Opening s i → Reads 
 past-head {s} {i} {j} {ts} o r = go (token s i is LParen or token s i is Async) refl (settles plain s (J.head i) (omega arith) tt)
   where
     go : (b : Bool) → token s i is LParen or token s i is Async ≡ b → Comes plain s (J.head i) tt → Reads s (J.assignment i) j ts
-    go false e h = R.assignment-other e r
+    go false e h = assignment-other e r
     go true e (comes-done end trees records after h) = absurd (no-head o (Readings.balanced plain s (μ s (J.head i)) (J.head i) tt (h .with (μ s (J.head i)) (omega arith))))
-    go true e (comes-fail cause after h) = R.assignment-past e h r
+    go true e (comes-fail cause after h) = assignment-past e h r
 
 -- LISTS
 -- after an item: a comma, and the list goes on, or it closes
@@ -76,27 +147,6 @@ pub record PartDone (s : Sheet) (i j : ℕ) (ts : Forest) : Type 0 where
   pub reads : Closed s j → token s j is Colon ≡ false → Reads s (if token s i is Dot3 then J.spread i else J.property i) j ts
   pub no-curly : token s i is RCurly ≡ false
   pub spreads : (us : Forest) → ends-in-spread (join us ts) ≡ token s i is Dot3
-
--- the tokens that close
-pub closed-comma : {s : Sheet} {j : ℕ} → Tok s j Comma → Closed s j
-unfolding is-closer
-closed-comma t = closed-by _ refl t
-
-pub closed-bracket : {s : Sheet} {j : ℕ} → Tok s j RBrack → Closed s j
-unfolding is-closer
-closed-bracket t = closed-by _ refl t
-
-pub closed-paren : {s : Sheet} {j : ℕ} → Tok s j RParen → Closed s j
-unfolding is-closer
-closed-paren t = closed-by _ refl t
-
-pub closed-curly : {s : Sheet} {j : ℕ} → Tok s j RCurly → Closed s j
-unfolding is-closer
-closed-curly t = closed-by _ refl t
-
-pub closed-colon : {s : Sheet} {j : ℕ} → Tok s j Colon → Closed s j
-unfolding is-closer
-closed-colon t = closed-by _ refl t
 
 -- ARRAYS
 -- the list closes with its bracket
@@ -130,9 +180,9 @@ element-item {s} first at p so-far _ e out (past {p = q} {hs = hs} {ts = ts} h x
   where
     go : {e : ℕ} {out : Forest} → After s (elements-from first) (Closing s RBrack Row.Array first) p (join (join so-far hs) ts) e out → Reads s (elements-from first q (join so-far hs)) e out
     go {e} {out} (and-comma t r) =
-        quiet (plainly .elements-more (x .no-bracket) (x .no-comma) (x .reads (closed-comma t)) (t .kind-is)
+        quiet (plainly .elements-more (x .no-bracket) (x .no-comma) (x .reads (closed-by _ refl t)) (t .kind-is)
         (subst (λ (n : ℕ). Reads s (J.elements first (p + 1) n (join (join so-far hs) ts)) e out) (ap (λ (b : Bool). if b then Row.ArrayRestComma else Row.Array) (x .spreads (join so-far hs))) r))
-    go (and-close (closing t)) = plainly .elements-last (x .no-bracket) (x .no-comma) (x .reads (closed-bracket t)) (t .kind-is)
+    go (and-close (closing t)) = plainly .elements-last (x .no-bracket) (x .no-comma) (x .reads (closed-by _ refl t)) (t .kind-is)
 
 module _ {s : Sheet} where
   -- [ Elision opt ]
@@ -160,9 +210,9 @@ pub part-item : {s : Sheet} (first at p : ℕ) (so-far us : Forest) (e : ℕ) (o
     → Reads s (properties-from first at so-far) e out
 unfolding object-row
 part-item {s} first at p so-far us e out x (and-comma t r) =
-    quiet (plainly .properties-more (x .no-curly) (x .reads (closed-comma t) (ap (λ (k : ℕ). k is Colon) (t .kind-is))) (t .kind-is)
+    quiet (plainly .properties-more (x .no-curly) (x .reads (closed-by _ refl t) (ap (λ (k : ℕ). k is Colon) (t .kind-is))) (t .kind-is)
     (subst (λ (n : ℕ). Reads s (J.properties first (p + 1) n (join so-far us)) e out) (ap (λ (b : Bool). if b then Row.ObjectRestComma else Row.Object) (x .spreads so-far)) r))
-part-item first at p so-far us _ _ x (and-close (closing t)) = plainly .properties-last (x .no-curly) (x .reads (closed-curly t) (ap (λ (k : ℕ). k is Colon) (t .kind-is))) (t .kind-is)
+part-item first at p so-far us _ _ x (and-close (closing t)) = plainly .properties-last (x .no-curly) (x .reads (closed-by _ refl t) (ap (λ (k : ℕ). k is Colon) (t .kind-is))) (t .kind-is)
 
 module _ {s : Sheet} where
   pub object-empty-reads : {i : ℕ} → Tok s i LCurly → Tok s (i + 1) RCurly → Reads s (J.primary i) (i + 2) (one (node Row.Object i i (i + 2) nil))
@@ -185,8 +235,8 @@ module _ {s : Sheet} where
 -- ARGUMENTS
 pub argument-item : {s : Sheet} (first at p : ℕ) (so-far us : Forest) (e : ℕ) (out : Forest) → ItemDone s at p us → After s (J.arguments first) (Closing s RParen Row.Call first) p (join so-far us) e out
     → Reads s (J.arguments first at so-far) e out
-argument-item first at p so-far us e out x (and-comma t r) = quiet (plainly .arguments-more (x .no-paren) (x .reads (closed-comma t)) (t .kind-is) r)
-argument-item first at p so-far us _ _ x (and-close (closing t)) = plainly .arguments-last (x .no-paren) (x .reads (closed-paren t)) (t .kind-is)
+argument-item first at p so-far us e out x (and-comma t r) = quiet (plainly .arguments-more (x .no-paren) (x .reads (closed-by _ refl t)) (t .kind-is) r)
+argument-item first at p so-far us _ _ x (and-close (closing t)) = plainly .arguments-last (x .no-paren) (x .reads (closed-by _ refl t)) (t .kind-is)
 
 -- a call's arguments, after any callee
 pub record ArgumentsDone (s : Sheet) (i j : ℕ) (ts : Forest) : Type 0 where
@@ -254,14 +304,14 @@ bound-item {s} first at p so-far _ e out (past {p = q} {hs = hs} {ts = ts} h x) 
     binding-holes-then h so-far (go (subst (λ (v : Forest). After s (J.binding-elements first) (Closing s RBrack Row.BindingArray first) p v e out) (sym (join-assoc so-far hs ts)) a))
   where
     go : {e : ℕ} {out : Forest} → After s (J.binding-elements first) (Closing s RBrack Row.BindingArray first) p (join (join so-far hs) ts) e out → Reads s (J.binding-elements first q (join so-far hs)) e out
-    go (and-comma t r) = quiet (plainly .binding-elements-more (x .no-bracket) (x .no-comma) (x .no-dots) (x .reads (closed-comma t)) (t .kind-is) r)
-    go (and-close (closing t)) = plainly .binding-elements-last (x .no-bracket) (x .no-comma) (x .no-dots) (x .reads (closed-bracket t)) (t .kind-is)
+    go (and-comma t r) = quiet (plainly .binding-elements-more (x .no-bracket) (x .no-comma) (x .no-dots) (x .reads (closed-by _ refl t)) (t .kind-is) r)
+    go (and-close (closing t)) = plainly .binding-elements-last (x .no-bracket) (x .no-comma) (x .no-dots) (x .reads (closed-by _ refl t)) (t .kind-is)
 
 -- one more property of an object pattern, and what comes after it
 pub bound-property : {s : Sheet} (first at p : ℕ) (so-far us : Forest) (e : ℕ) (out : Forest) → PropertyBound s at p us
     → After s (J.binding-properties first) (Closing s RCurly Row.BindingObject first) p (join so-far us) e out → Reads s (J.binding-properties first at so-far) e out
-bound-property first at p so-far us e out x (and-comma t r) = quiet (plainly .binding-properties-more (x .no-curly) (x .no-dots) (x .reads (closed-comma t) (ap (λ (k : ℕ). k is Colon) (t .kind-is))) (t .kind-is) r)
-bound-property first at p so-far us _ _ x (and-close (closing t)) = plainly .binding-properties-last (x .no-curly) (x .no-dots) (x .reads (closed-curly t) (ap (λ (k : ℕ). k is Colon) (t .kind-is))) (t .kind-is)
+bound-property first at p so-far us e out x (and-comma t r) = quiet (plainly .binding-properties-more (x .no-curly) (x .no-dots) (x .reads (closed-by _ refl t) (ap (λ (k : ℕ). k is Colon) (t .kind-is))) (t .kind-is) r)
+bound-property first at p so-far us _ _ x (and-close (closing t)) = plainly .binding-properties-last (x .no-curly) (x .no-dots) (x .reads (closed-by _ refl t) (ap (λ (k : ℕ). k is Colon) (t .kind-is))) (t .kind-is)
 
 module _ {s : Sheet} where
   -- the rest of an array pattern, after holes
@@ -269,7 +319,7 @@ module _ {s : Sheet} where
       → Reads s (J.binding-elements first i so-far) (p + 1) (one (node Row.BindingArray first first (p + 1) (join so-far us)))
   rest-reads {first} {i} {p} so-far (past {hs = hs} {ts = ts} h x) c =
       subst (λ (v : Forest). Reads s (J.binding-elements first i so-far) (p + 1) (one (node Row.BindingArray first first (p + 1) v))) (join-assoc so-far hs ts)
-      (binding-holes-then h so-far (plainly .binding-elements-rest (x .dots .kind-is) (x .reads (closed-bracket c)) (c .kind-is)))
+      (binding-holes-then h so-far (plainly .binding-elements-rest (x .dots .kind-is) (x .reads (closed-by _ refl c)) (c .kind-is)))
 
   pub bound-array-empty : {i p : ℕ} {ts : Forest} → Tok s i LBrack → Derives s Elision (i + 1) p ts → Tok s p RBrack → Reads s (J.binding i) (p + 1) (one (node Row.BindingArray i i (p + 1) ts))
   unfolding join
@@ -304,7 +354,7 @@ module _ {s : Sheet} where
 
   pub bound-object-rest : {i p : ℕ} {ts : Forest} → Tok s i LCurly → RestPropertyBound s (i + 1) p ts → Tok s p RCurly → Reads s (J.binding i) (p + 1) (one (node Row.BindingObject i i (p + 1) ts))
   unfolding join
-  bound-object-rest o x c = plainly .binding-object (o .kind-is) (plainly .binding-properties-rest (x .dots .kind-is) (x .reads (closed-curly c)) (c .kind-is) (x .is-name-only))
+  bound-object-rest o x c = plainly .binding-object (o .kind-is) (plainly .binding-properties-rest (x .dots .kind-is) (x .reads (closed-by _ refl c)) (c .kind-is) (x .is-name-only))
 
   pub bound-object-list : {i p : ℕ} {ts : Forest} → Tok s i LCurly → Each s (PropertyBound s) (i + 1) p ts → Tok s p RCurly → Reads s (J.binding i) (p + 1) (one (node Row.BindingObject i i (p + 1) ts))
   unfolding join
@@ -325,7 +375,7 @@ module _ {s : Sheet} where
   bound-object-list-rest {i} {q = q} {ts} {us} o l t x c =
       plainly .binding-object (o .kind-is)
       (loop (J.binding-properties i) (Closing s RCurly Row.BindingObject i) (bound-property i) l nil (q + 1) (one (node Row.BindingObject i i (q + 1) (join ts us)))
-      (and-comma t (plainly .binding-properties-rest (x .dots .kind-is) (x .reads (closed-curly c)) (c .kind-is) (x .is-name-only))))
+      (and-comma t (plainly .binding-properties-rest (x .dots .kind-is) (x .reads (closed-by _ refl c)) (c .kind-is) (x .is-name-only))))
 
 -- PARAMETERS
 pub data ClosingParameters (s : Sheet) (p : ℕ) (so-far : Forest) : ℕ → Forest → Type 0 where
@@ -333,8 +383,8 @@ pub data ClosingParameters (s : Sheet) (p : ℕ) (so-far : Forest) : ℕ → For
 
 -- one more parameter, and what comes after it
 pub bound-parameter : {s : Sheet} (at p : ℕ) (so-far us : Forest) (e : ℕ) (out : Forest) → ElementBound s at p us → After s J.parameters (ClosingParameters s) p (join so-far us) e out → Reads s (J.parameters at so-far) e out
-bound-parameter at p so-far us e out x (and-comma t r) = quiet (plainly .parameters-more (x .no-paren) (x .no-dots) (x .reads (closed-comma t)) (t .kind-is) r)
-bound-parameter at p so-far us _ _ x (and-close (closing-parameters t)) = plainly .parameters-last (x .no-paren) (x .no-dots) (x .reads (closed-paren t)) (t .kind-is)
+bound-parameter at p so-far us e out x (and-comma t r) = quiet (plainly .parameters-more (x .no-paren) (x .no-dots) (x .reads (closed-by _ refl t)) (t .kind-is) r)
+bound-parameter at p so-far us _ _ x (and-close (closing-parameters t)) = plainly .parameters-last (x .no-paren) (x .no-dots) (x .reads (closed-by _ refl t)) (t .kind-is)
 
 -- the parameters of a head, up to past their `)`
 pub record ParametersDone (s : Sheet) (i j : ℕ) (ts : Forest) : Type 0 where
@@ -346,7 +396,7 @@ module _ {s : Sheet} where
 
   pub rest-parameter-done : {i j : ℕ} {ts : Forest} → RestBound s i j ts → ParametersDone s i j ts
   unfolding join
-  rest-parameter-done x = record { reads = λ t. plainly .parameters-rest (x .dots .kind-is) (x .reads (closed-paren t)) (t .kind-is) }
+  rest-parameter-done x = record { reads = λ t. plainly .parameters-rest (x .dots .kind-is) (x .reads (closed-by _ refl t)) (t .kind-is) }
 
   pub parameters-done : {i j : ℕ} {ts : Forest} → Each s (ElementBound s) i j ts → ParametersDone s i j ts
   unfolding join
@@ -359,7 +409,7 @@ module _ {s : Sheet} where
   pub parameters-rest-done : {i p j : ℕ} {ts us : Forest} → Each s (ElementBound s) i p ts → Tok s p Comma → RestBound s (p + 1) j us → ParametersDone s i j (join ts us)
   unfolding join
   parameters-rest-done {i} {p} {j} {ts} {us} l t x =
-      record { reads = λ u. loop J.parameters (ClosingParameters s) bound-parameter l nil (j + 1) (join ts us) (and-comma t (plainly .parameters-rest (x .dots .kind-is) (x .reads (closed-paren u)) (u .kind-is))) }
+      record { reads = λ u. loop J.parameters (ClosingParameters s) bound-parameter l nil (j + 1) (join ts us) (and-comma t (plainly .parameters-rest (x .dots .kind-is) (x .reads (closed-by _ refl u)) (u .kind-is))) }
 
 -- OPERANDS
 -- what begins an operand is no prefix operator
@@ -494,33 +544,18 @@ pub no-coalesce-record : (s : Sheet) (p : ℕ) (left right : Tree) → Tok s p Q
 unfolding operation-records
 no-coalesce-record s p left right t a b = rw (t .kind-is, a, b)
 
-pub star-level : expression-level Star2 ≡ 12
-unfolding expression-level level
-star-level = refl
+record Known : Type 0 where
+  star-level : expression-level Star2 ≡ 12
+  coalesce-level : expression-level Question2 ≡ 1
+  question-level : expression-level Question ≡ 0
+  arrow-level : expression-level Arrow ≡ 0
+  star-row : operation-kind Star2 ≡ Row.Binary
+  coalesce-row : operation-kind Question2 ≡ Row.Logical
+  coalesce-floor : right-floor Question2 ≡ 1
 
-pub coalesce-level : expression-level Question2 ≡ 1
-unfolding expression-level level
-coalesce-level = refl
-
-pub question-level : expression-level Question ≡ 0
-unfolding expression-level level
-question-level = refl
-
-pub arrow-level : expression-level Arrow ≡ 0
-unfolding expression-level level
-arrow-level = refl
-
-pub star-row : operation-kind Star2 ≡ Row.Binary
-unfolding operation-kind
-star-row = refl
-
-pub coalesce-row : operation-kind Question2 ≡ Row.Logical
-unfolding operation-kind
-coalesce-row = refl
-
-pub coalesce-floor : right-floor Question2 ≡ 1
-unfolding right-floor expression-level level
-coalesce-floor = refl
+known : Known
+unfolding operation-kind right-floor expression-level level
+known = record { star-level = refl; coalesce-level = refl; question-level = refl; arrow-level = refl; star-row = refl; coalesce-row = refl; coalesce-floor = refl }
 
 -- an operator stands inside
 pub operator-here : {s : Sheet} {p l : ℕ} → 2 ≤ l → Operator s p l → p < length (s .kinds)
@@ -564,7 +599,7 @@ module _ {s : Sheet} where
           let k = y .low in
           let fl : right-floor (token s p) ≡ l = other-floor (token s p) (omega (arith, o .level-is)) ∙ o .level-is in
           let right : Reads s (J.binary l (p + 1)) j (one (y .tree)) = y .goes l (omega arith) t (omega arith) b j (one (y .tree)) (plainly .operators-end (le-ltb _ _ a)) in
-          R.operators-more (operator-here h o) (rw (o .level-is) (lt-ltb _ _ lt)) (rw fl right) (no-records s p l (x .tree) (y .tree) h at-most (o .level-is)) (subst (λ (v : Tree). Reads s (J.operators floor i j v) e out) same-row c)
+          operators-more (operator-here h o) (rw (o .level-is) (lt-ltb _ _ lt)) (rw fl right) (no-records s p l (x .tree) (y .tree) h at-most (o .level-is)) (subst (λ (v : Tree). Reads s (J.operators floor i j v) e out) same-row c)
 
   -- `**` after an UpdateExpression
   pub power-tier : {i p j : ℕ} {ts us : Forest} → ts ≡ one (first-tree ts) → UnaryDone s i p ts → kind-of (first-tree ts) is Row.Unary ≡ false → Tok s p Star2 → TierDone s 12 (p + 1) j us
@@ -579,16 +614,16 @@ module _ {s : Sheet} where
     where
       same-row : node Row.Binary p i j (join ts us) ≡ node (operation-kind (token s p)) p i j (cons (first-tree ts) (one (y .tree)))
       same-row =
-          let k : Row.Binary ≡ operation-kind (token s p) = sym (ap operation-kind (o .kind-is) ∙ star-row) in
+          let k : Row.Binary ≡ operation-kind (token s p) = sym (ap operation-kind (o .kind-is) ∙ known .star-row) in
           ap (λ (n : ℕ). node n p i j (join ts us)) k ∙ ap (node (operation-kind (token s p)) p i j) (two-kids (r) (y .is-one))
 
       step : (floor : ℕ) → floor < 12 → Tail s j → expression-level (token s j) ≤ 11 → (e : ℕ) (out : Forest) → Reads s (J.operators floor i j (node Row.Binary p i j (join ts us))) e out
           → Reads s (J.operators floor i p (first-tree ts)) e out
       step floor lt t b e out c =
-          let v : expression-level (token s p) ≡ 12 = ap expression-level (o .kind-is) ∙ star-level in
+          let v : expression-level (token s p) ≡ 12 = ap expression-level (o .kind-is) ∙ known .star-level in
           let fl : right-floor (token s p) ≡ 11 = ap right-floor (o .kind-is) ∙ power-floor in
           let right : Reads s (J.binary 11 (p + 1)) j (one (y .tree)) = y .goes 11 (omega arith) t (omega arith) b j (one (y .tree)) (plainly .operators-end (le-ltb _ _ b)) in
-          R.operators-more (here o) (rw v (lt-ltb _ _ lt)) (rw fl right) (no-power-record s p (first-tree ts) (y .tree) o n) (subst (λ (z : Tree). Reads s (J.operators floor i j z) e out) same-row c)
+          operators-more (here o) (rw v (lt-ltb _ _ lt)) (rw fl right) (no-power-record s p (first-tree ts) (y .tree) o n) (subst (λ (z : Tree). Reads s (J.operators floor i j z) e out) same-row c)
 
   -- `??` between a head and a BitwiseORExpression
   pub tier-head : {i j : ℕ} {ts : Forest} → TierDone s 4 i j ts → is-or-and s (first-tree ts) ≡ false → CoalesceDone s i j ts
@@ -609,20 +644,20 @@ module _ {s : Sheet} where
         tree = node Row.Logical p i j (join ts us);
         is-one = refl;
         bare = rw (o .kind-is);
-        goes = λ t a e out c. x .goes (tail-kind _ refl refl refl refl refl o) (let v : expression-level (token s p) ≡ 1 = ap expression-level (o .kind-is) ∙ coalesce-level in omega arith) e out (step t a e out c);
+        goes = λ t a e out c. x .goes (tail-kind _ refl refl refl refl refl o) (let v : expression-level (token s p) ≡ 1 = ap expression-level (o .kind-is) ∙ known .coalesce-level in omega arith) e out (step t a e out c);
       }
     where
       same-row : node Row.Logical p i j (join ts us) ≡ node (operation-kind (token s p)) p i j (cons (x .tree) (one (y .tree)))
       same-row =
-          let k : Row.Logical ≡ operation-kind (token s p) = sym (ap operation-kind (o .kind-is) ∙ coalesce-row) in
+          let k : Row.Logical ≡ operation-kind (token s p) = sym (ap operation-kind (o .kind-is) ∙ known .coalesce-row) in
           ap (λ (m : ℕ). node m p i j (join ts us)) k ∙ ap (node (operation-kind (token s p)) p i j) (two-kids (x .is-one) (y .is-one))
 
       step : Tail s j → expression-level (token s j) ≤ 1 → (e : ℕ) (out : Forest) → Reads s (J.operators 0 i j (node Row.Logical p i j (join ts us))) e out → Reads s (J.operators 0 i p (x .tree)) e out
       step t a e out c =
-          let v : expression-level (token s p) ≡ 1 = ap expression-level (o .kind-is) ∙ coalesce-level in
-          let fl : right-floor (token s p) ≡ 1 = ap right-floor (o .kind-is) ∙ coalesce-floor in
+          let v : expression-level (token s p) ≡ 1 = ap expression-level (o .kind-is) ∙ known .coalesce-level in
+          let fl : right-floor (token s p) ≡ 1 = ap right-floor (o .kind-is) ∙ known .coalesce-floor in
           let right : Reads s (J.binary 1 (p + 1)) j (one (y .tree)) = y .goes 1 (omega arith) t (omega arith) (omega arith) j (one (y .tree)) (plainly .operators-end (le-ltb _ _ a)) in
-          R.operators-more (here o) (rw v (lt-ltb 0 1 (omega arith))) (rw fl right)
+          operators-more (here o) (rw v (lt-ltb 0 1 (omega arith))) (rw fl right)
           (no-coalesce-record s p (x .tree) (y .tree) o (x .bare) (ap (λ (z : Forest). is-or-and s (first-tree z)) (sym (y .is-one)) ∙ n))
           (subst (λ (z : Tree). Reads s (J.operators 0 i j z) e out) same-row c)
 
@@ -671,15 +706,12 @@ unfolding is-assignment-operator
 closed-assignment x = closed-test is-assignment-operator refl refl refl refl refl refl x
 
 pub closed-arrow : {s : Sheet} {j : ℕ} → Closed s j → token s j is Arrow ≡ false
-unfolding is-closer
 closed-arrow {s} {j} x = test-not (token s j) is-closer Arrow refl (x .closes)
 
 pub closed-question : {s : Sheet} {j : ℕ} → Closed s j → token s j is Question ≡ false
-unfolding is-closer
 closed-question {s} {j} x = test-not (token s j) is-closer Question refl (x .closes)
 
 pub closed-eq : {s : Sheet} {j : ℕ} → Closed s j → token s j is Eq ≡ false
-unfolding is-closer
 closed-eq {s} {j} x = test-not (token s j) is-closer Eq refl (x .closes)
 
 module _ {s : Sheet} where
@@ -696,9 +728,9 @@ module _ {s : Sheet} where
   conditional-value {i} {p} {q} {j} {ts} {us} {vs} r n x o y c z =
       record {
         reads = λ d. subst (λ (v : Forest). Reads s (J.value i) j (one (node Row.Conditional p i j (join v (join us vs))))) (sym (r))
-            (quiet (plainly .value-chooses (no-async-name n (ap is-name (o .kind-is))) (rw (r) at (x .reads (tail-kind _ refl refl refl refl refl o) (ap expression-level (o .kind-is) ∙ question-level)))
+            (quiet (plainly .value-chooses (no-async-name n (ap is-name (o .kind-is))) (rw (r) at (x .reads (tail-kind _ refl refl refl refl refl o) (ap expression-level (o .kind-is) ∙ known .question-level)))
             (and-false (kind-of (first-tree ts) is Row.Identifier) (ap (λ (k : ℕ). k is Arrow) (o .kind-is))) (ap is-assignment-operator (o .kind-is)) (ap (λ (k : ℕ). k is Question) (o .kind-is))
-            (plainly .conditional-done (here o) (y .reads (closed-colon c)) (c .kind-is) (z .reads d))));
+            (plainly .conditional-done (here o) (y .reads (closed-by _ refl c)) (c .kind-is) (z .reads d))));
       }
 
   pub past-value : {i j : ℕ} {ts : Forest} → (Closed s j → Opening s i) → ValueDone s i j ts → AssignmentDone s i j ts
@@ -725,14 +757,14 @@ module _ {s : Sheet} where
       async t = no-async-name (record { alone = λ a b. refl }) (ap is-name (t .kind-is))
 
       reads : Tok s (i + 1) Arrow → Reads s (J.binary 0 i) (i + 1) (one (leaf Row.Identifier i))
-      reads t = unary-short refl (left-unary (chain-left (primary-chain refl (operand-name n) (plainly .primary-name (n .holds))))) .reads (tail-kind _ refl refl refl refl refl t) (ap expression-level (t .kind-is) ∙ arrow-level)
+      reads t = unary-short refl (left-unary (chain-left (primary-chain refl (operand-name n) (plainly .primary-name (n .holds))))) .reads (tail-kind _ refl refl refl refl refl t) (ap expression-level (t .kind-is) ∙ known .arrow-level)
 
   -- parameters in parentheses
   pub parameters-read : {i p : ℕ} {ts : Forest} → FormalDone s i p ts → ParametersRead s Row.Arrow i p ts
-  parameters-read x = record { goes = λ t e out b. R.assignment-head (x .opens) (plainly .head-done (ap (λ (k : ℕ). k is Async) (x .opens .kind-is)) (x .opens .kind-is) (x .reads) (t .kind-is)) b }
+  parameters-read x = record { goes = λ t e out b. assignment-head (x .opens) (plainly .head-done (ap (λ (k : ℕ). k is Async) (x .opens .kind-is)) (x .opens .kind-is) (x .reads) (t .kind-is)) b }
 
   pub async-parameters-read : {i p : ℕ} {ts : Forest} → Tok s i Async → SameLine s (i + 1) → FormalDone s (i + 1) p ts → ParametersRead s Row.AsyncArrow i p ts
-  async-parameters-read o l x = record { goes = λ t e out b. let h = plainly .head-async-done (o .kind-is) (l .unbroken) (x .opens .kind-is) (x .reads) (t .kind-is) in R.assignment-async o h b }
+  async-parameters-read o l x = record { goes = λ t e out b. let h = plainly .head-async-done (o .kind-is) (l .unbroken) (x .opens .kind-is) (x .reads) (t .kind-is) in assignment-async o h b }
 
   pub async-name-read : {i : ℕ} → Tok s i Async → Of is-name s (i + 1) → SameLine s (i + 1) → ParametersRead s Row.AsyncArrow i (i + 2) (one (leaf Row.BindingName (i + 1)))
   unfolding is-async-name is-name
@@ -744,10 +776,10 @@ module _ {s : Sheet} where
 
   -- 13.16
   pub first-commas : {comma i j : ℕ} {ts us : Forest} → AssignmentDone s i comma ts → Tok s comma Comma → AssignmentDone s (comma + 1) j us → CommasDone s comma i j (join ts us)
-  first-commas x t y = record { goes = λ c e out b. quiet (plainly .expression-more (x .reads (closed-comma t)) (t .kind-is) (quiet (plainly .sequence-more (t .kind-is) (y .reads c) b))) }
+  first-commas x t y = record { goes = λ c e out b. quiet (plainly .expression-more (x .reads (closed-by _ refl t)) (t .kind-is) (quiet (plainly .sequence-more (t .kind-is) (y .reads c) b))) }
 
   pub next-commas : {comma i p j : ℕ} {ts us : Forest} → CommasDone s comma i p ts → Tok s p Comma → AssignmentDone s (p + 1) j us → CommasDone s comma i j (join ts us)
-  next-commas x t y = record { goes = λ c e out b. x .goes (closed-comma t) e out (quiet (plainly .sequence-more (t .kind-is) (y .reads c) b)) }
+  next-commas x t y = record { goes = λ c e out b. x .goes (closed-by _ refl t) e out (quiet (plainly .sequence-more (t .kind-is) (y .reads c) b)) }
 
   pub sequence-done : {comma i j : ℕ} {ts : Forest} → CommasDone s comma i j ts → ExpressionDone s i j (one (node Row.Sequence comma i j ts))
   sequence-done x = record { reads = λ c n. x .goes c _ _ (plainly .sequence-ends n) }
@@ -778,7 +810,7 @@ module _ {s : Sheet} where
   pub computed-key : {i p : ℕ} {ts : Forest} → Tok s i LBrack → AssignmentDone s (i + 1) p ts → Tok s p RBrack → KeyDone s i (p + 1) (one (node Row.ComputedKey i i (p + 1) ts))
   unfolding is-name first-tree
   computed-key {i} o x c =
-      record { lone = refl; reads = plainly .key-done (o .kind-is) (x .reads (closed-bracket c)) (c .kind-is); paired = λ t. rw (o .kind-is); no-curly = rw (o .kind-is); no-dots = rw (o .kind-is) }
+      record { lone = refl; reads = plainly .key-done (o .kind-is) (x .reads (closed-by _ refl c)) (c .kind-is); paired = λ t. rw (o .kind-is); no-curly = rw (o .kind-is); no-dots = rw (o .kind-is) }
 
 -- a part of an object literal that begins with a name or a key
 pub plain-part : {s : Sheet} {i j : ℕ} (kind mark first end : ℕ) (kids : Forest) → kind is Row.Spread ≡ false → token s i is RCurly ≡ false → token s i is Dot3 ≡ false

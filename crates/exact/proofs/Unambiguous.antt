@@ -12,8 +12,8 @@ use Rattle.grammar.specs.Job.{Job}
 use Rattle.grammar.specs.Reading.{whole, plain, plain-reading, plain-pattern}
 use Rattle.laws.proofs.Steady.{one-outcome}
 use Rattle.ecma262.specs.Derives.{Nonterminal, Expression, BindingElement, Derives, Derived}
-use Rattle.exact.proofs.Clean.{Standard, clean-expression, clean-binding}
-use Rattle.exact.proofs.Rules.{Reads}
+use Rattle.exact.proofs.Sound.{Standard, clean-expression, clean-binding}
+use Rattle.exact.proofs.Parts.{Reads}
 use Rattle.exact.proofs.Complete.{complete, at-the-end, not-comma, complete-expression, complete-binding}
 
 -- a nonterminal is read with one tree at most
