@@ -23,7 +23,7 @@ use Rattle.ecma262.specs.Derives.{Tok, one-of, OneOf, identifiers, identifier-n
 use Rattle.grammar.specs.Update.{is-update-operator}
 use Rattle.grammar.specs.Assignment.{is-async-name}
 use Rattle.laws.proofs.Good.{and-left, and-right}
-use Rattle.exact.proofs.Terminals.{name, word, literal, Operator, line, operator, Of, prefix, update}
+use Rattle.exact.proofs.Terminals.{Operator, line, operator, Of, as-read, literal-tokens, names, unary, updates, words}
 use Rattle.exact.proofs.Roots.{not-both, Shaped, in-brackets, in-braces, array-opens, object-opens, target-shape}
 use Rattle.exact.specs.Terminals.{is-prefix, is-update}
 
@@ -32,13 +32,13 @@ side t = Balance.side (t .kind-is)
 
 module _ {s : Sheet} {at : ℕ} where
   name-side : OneOf identifiers s at → Side s at 0
-  name-side t = name-flat (name t .holds)
+  name-side t = name-flat (as-read names t .holds)
 
   word-side : OneOf identifier-names s at → Side s at 0
-  word-side t = word-flat (word t .holds)
+  word-side t = word-flat (as-read words t .holds)
 
   literal-side : OneOf literals s at → Side s at 0
-  literal-side t = literal-flat (literal t .holds)
+  literal-side t = literal-flat (as-read literal-tokens t .holds)
 
   key-side : OneOf literal-property-names s at → Side s at 0
   key-side t = flat (one-of literal-property-names) refl refl refl refl refl refl (t .holds)
@@ -289,7 +289,7 @@ name-prefix {s} {i} n = by (ℕ-discrete (token s i) Async)
   where
     by : Dec (token s i ≡ Async) → Prefix s i (i + 1)
     by (yes e) = at-async (record { kind-is = e }) refl
-    by (no e) = settled (other-opening (of-kind is-name LParen refl (name n .holds)) (λ t. e (t .kind-is)))
+    by (no e) = settled (other-opening (of-kind is-name LParen refl (as-read names n .holds)) (λ t. e (t .kind-is)))
 
 module _ {s : Sheet} where
   primary-prefix : {i j : ℕ} {ts : Forest} → Derives s PrimaryExpression i j ts → Prefix s i j
@@ -461,8 +461,8 @@ module _ {s : Sheet} where
   operand-primary : {i j : ℕ} {ts : Forest} → Derives s PrimaryExpression i j ts → Operand s i
   unfolding is-operand is-name is-literal
   operand-primary (D.this t) = operand-kind _ refl t
-  operand-primary (D.identifier n) = operand-name (name n)
-  operand-primary (D.literal t) = operand-literal (literal t)
+  operand-primary (D.identifier n) = operand-name (as-read names n)
+  operand-primary (D.literal t) = operand-literal (as-read literal-tokens t)
   operand-primary (D.array d) = operand-kind _ refl (array-opens d)
   operand-primary (D.object d) = operand-kind _ refl (object-opens d)
   operand-primary (D.parenthesized o d c) = operand-kind _ refl o
@@ -475,7 +475,7 @@ module _ {s : Sheet} where
 
   pub operand-simple : {i j : ℕ} {ts : Forest} → Derives s SimpleTarget i j ts → Operand s i
   unfolding is-operand is-name is-literal
-  operand-simple (D.target-name n) = operand-name (name n)
+  operand-simple (D.target-name n) = operand-name (as-read names n)
   operand-simple (D.target-index d o e c) = operand-chain d
   operand-simple (D.target-member d o e) = operand-chain d
   operand-simple (D.target-parenthesized o d c) = operand-kind _ refl o
@@ -492,11 +492,11 @@ module _ {s : Sheet} where
   start-of-update : {i j : ℕ} {ts : Forest} → Derives s UpdateExpression i j ts → Start s i
   start-of-update (D.left-hand-side (D.linked d)) = as-start (operand-chain d)
   start-of-update (D.postfix d t l) = as-start (operand-simple d)
-  start-of-update (D.prefix t d) = start-update (update t)
+  start-of-update (D.prefix t d) = start-update (as-read updates t)
 
   start-of-unary : {i j : ℕ} {ts : Forest} → Derives s UnaryExpression i j ts → Start s i
   start-of-unary (D.update d) = start-of-update d
-  start-of-unary (D.unary t d) = start-prefix (prefix t)
+  start-of-unary (D.unary t d) = start-prefix (as-read unary t)
 
   start-of-tier : {tier i j : ℕ} {ts : Forest} → Derives s (TierExpression tier) i j ts → Start s i
   start-of-tier (D.no-power d) = start-of-unary d
@@ -514,7 +514,7 @@ module _ {s : Sheet} where
 
   start-of-parameters : {i j : ℕ} {ts : Forest} → Derives s D.ArrowParameters i j ts → Start s i
   unfolding is-operand is-name is-literal
-  start-of-parameters (D.arrow-name n) = as-start (operand-name (name n))
+  start-of-parameters (D.arrow-name n) = as-start (operand-name (as-read names n))
   start-of-parameters (D.arrow-parameters (D.arrow-formal-parameters o d c)) = as-start (operand-kind _ refl o)
 
   start-of-async : {i j : ℕ} {ts : Forest} → Derives s D.AsyncArrowHead i j ts → Start s i

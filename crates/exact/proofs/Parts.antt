@@ -468,33 +468,22 @@ module _ {s : Sheet} where
   pub primary-chain : {i j : ℕ} {ts : Forest} → ts ≡ one (first-tree ts) → Operand s i → Reads s (J.primary i) j ts → ChainDone s i j ts
   primary-chain {ts = ts} r o a = record { tree = first-tree ts; is-one = r; goes = λ e out b. quiet (plainly .left-more (rw (r) at a) b); operand = o }
 
+  -- a chain and one more link
+  linked : {i p j : ℕ} {ts : Forest} → (x : ChainDone s i p ts) (t : Tree) → ((e : ℕ) (out : Forest) → Reads s (J.links i j t) e out → Reads s (J.links i p (x .tree)) e out) → ChainDone s i j (one t)
+  linked x t f = record { tree = t; is-one = refl; goes = λ e out b. x .goes e out (f e out b); operand = x .operand }
+
   pub member-chain : {i p : ℕ} {ts : Forest} → ChainDone s i p ts → Tok s p Dot → Of is-word s (p + 1) → ChainDone s i (p + 2) (one (node Row.Member (p + 1) i (p + 2) ts))
-  member-chain {i} {p} {ts} x t o =
-      record {
-        tree = node Row.Member (p + 1) i (p + 2) ts;
-        is-one = refl;
-        goes = λ e out b. x .goes e out (plainly .links-member (t .kind-is) (o .holds) (rw (x .is-one) at b));
-        operand = x .operand;
-      }
+  member-chain {i} {p} {ts} x t o = linked x (node Row.Member (p + 1) i (p + 2) ts) (λ e out b. plainly .links-member (t .kind-is) (o .holds) (rw (x .is-one) at b))
 
   pub index-chain : {i p q : ℕ} {ts us : Forest} → ChainDone s i p ts → Tok s p LBrack → Reads s (J.expression (p + 1)) q us → Tok s q RBrack → ChainDone s i (q + 1) (one (node Row.Index i i (q + 1) (join ts us)))
   unfolding join
   index-chain {i} {p} {q} {ts} {us} x t a c =
-      record {
-        tree = node Row.Index i i (q + 1) (join ts us);
-        is-one = refl;
-        goes = λ e out b. x .goes e out (quiet (plainly .links-index (t .kind-is) a (c .kind-is) (rw (x .is-one) at b)));
-        operand = x .operand;
-      }
+      linked x (node Row.Index i i (q + 1) (join ts us)) (λ e out b. quiet (plainly .links-index (t .kind-is) a (c .kind-is) (rw (x .is-one) at b)))
 
   pub call-chain : {i p j : ℕ} {ts us : Forest} → ChainDone s i p ts → ArgumentsDone s p j us → ChainDone s i j (one (node Row.Call i i j (join ts us)))
   call-chain {i} {p} {j} {ts} {us} x a =
-      record {
-        tree = node Row.Call i i j (join ts us);
-        is-one = refl;
-        goes = λ e out b. x .goes e out (quiet (plainly .links-call (a .opens .kind-is) (subst (λ (v : Forest). Reads s (J.arguments i (p + 1) v) j (one (node Row.Call i i j (join v us)))) (x .is-one) (a .reads i ts)) (rw (x .is-one) at b)));
-        operand = x .operand;
-      }
+      linked x (node Row.Call i i j (join ts us)) (λ e out b. quiet (plainly .links-call (a .opens .kind-is)
+      (subst (λ (v : Forest). Reads s (J.arguments i (p + 1) v) j (one (node Row.Call i i j (join v us)))) (x .is-one) (a .reads i ts)) (rw (x .is-one) at b)))
 
   pub chain-left : {i j : ℕ} {ts : Forest} → ChainDone s i j ts → LeftDone s i j ts
   chain-left x = record { reads = λ u. rw (x .is-one) (x .goes _ _ (plainly .links-end (u .no-dot) (u .no-brack) (u .no-paren))); operand = x .operand }
@@ -705,21 +694,15 @@ pub closed-assignment : {s : Sheet} {j : ℕ} → Closed s j → is-assignment-o
 unfolding is-assignment-operator
 closed-assignment x = closed-test is-assignment-operator refl refl refl refl refl refl x
 
-pub closed-arrow : {s : Sheet} {j : ℕ} → Closed s j → token s j is Arrow ≡ false
-closed-arrow {s} {j} x = test-not (token s j) is-closer Arrow refl (x .closes)
-
-pub closed-question : {s : Sheet} {j : ℕ} → Closed s j → token s j is Question ≡ false
-closed-question {s} {j} x = test-not (token s j) is-closer Question refl (x .closes)
-
-pub closed-eq : {s : Sheet} {j : ℕ} → Closed s j → token s j is Eq ≡ false
-closed-eq {s} {j} x = test-not (token s j) is-closer Eq refl (x .closes)
+pub closed-not : {s : Sheet} {j : ℕ} (k : ℕ) → is-closer k ≡ false → Closed s j → token s j is k ≡ false
+closed-not {s} {j} k e x = test-not (token s j) is-closer k e (x .closes)
 
 module _ {s : Sheet} where
   pub short-value : {i j : ℕ} {ts : Forest} → ts ≡ one (first-tree ts) → Second s i j → ShortDone s i j ts → ValueDone s i j ts
   short-value {ts = ts} r n x =
       record {
         reads = λ c. rw (r)
-            (plainly .value-stops (no-async-name n (closed-no-name c)) (rw (r) at (x .reads (closed-tail c) (closed-level c))) (and-false (kind-of (first-tree ts) is Row.Identifier) (closed-arrow c)) (closed-assignment c) (closed-question c));
+            (plainly .value-stops (no-async-name n (closed-no-name c)) (rw (r) at (x .reads (closed-tail c) (closed-level c))) (and-false (kind-of (first-tree ts) is Row.Identifier) (closed-not Arrow refl c)) (closed-assignment c) (closed-not Question refl c));
       }
 
   pub conditional-value : {i p q j : ℕ} {ts us vs : Forest} → ts ≡ one (first-tree ts) → Second s i p → ShortDone s i p ts → Tok s p Question → AssignmentDone s (p + 1) q us → Tok s q Colon → AssignmentDone s (q + 1) j vs
@@ -829,7 +812,7 @@ module _ {s : Sheet} where
   name-dots {i} n = test-not (token s i) is-name Dot3 refl (n .holds)
 
   pub shorthand-part : {i : ℕ} → Of is-name s i → PartDone s i (i + 1) (one (node Row.Shorthand i i (i + 1) (one (leaf Row.Identifier i))))
-  shorthand-part {i} n = plain-part Row.Shorthand i i (i + 1) (one (leaf Row.Identifier i)) refl (name-curly n) (name-dots n) (λ c e. plainly .property-shorthand (unpaired n e) (closed-eq c))
+  shorthand-part {i} n = plain-part Row.Shorthand i i (i + 1) (one (leaf Row.Identifier i)) refl (name-curly n) (name-dots n) (λ c e. plainly .property-shorthand (unpaired n e) (closed-not Eq refl c))
 
   pub cover-part : {i j : ℕ} {ts : Forest} → Of is-name s i → Tok s (i + 1) Eq → AssignmentDone s (i + 2) j ts → PartDone s i j (one (node Row.ShorthandInit (i + 1) i j (cons (leaf Row.Identifier i) ts)))
   cover-part {i} {j} {ts} n t x = plain-part Row.ShorthandInit (i + 1) i j (cons (leaf Row.Identifier i) ts) refl (name-curly n) (name-dots n) (λ c e. plainly .property-init (unpaired n (ap (λ (k : ℕ). k is Colon) (t .kind-is))) (t .kind-is) (x .reads c))
@@ -848,7 +831,7 @@ module _ {s : Sheet} where
 
   -- the same in binding patterns
   pub bound-shorthand : {i : ℕ} → Of is-name s i → PropertyBound s i (i + 1) (one (node Row.BindingShorthand i i (i + 1) (one (leaf Row.BindingName i))))
-  bound-shorthand n = record { reads = λ c e. plainly .binding-property-shorthand (unpaired n e) (closed-eq c); no-curly = name-curly n; no-dots = name-dots n }
+  bound-shorthand n = record { reads = λ c e. plainly .binding-property-shorthand (unpaired n e) (closed-not Eq refl c); no-curly = name-curly n; no-dots = name-dots n }
 
   pub bound-shorthand-default : {i j : ℕ} {ts : Forest} → Of is-name s i → Tok s (i + 1) Eq → AssignmentDone s (i + 2) j ts
       → PropertyBound s i j (one (node Row.BindingShorthandInit (i + 1) i j (cons (leaf Row.BindingName i) ts)))

@@ -42,41 +42,24 @@ other : {s : Sheet} {i j : ℕ} (kind mark first end : ℕ) (kids : Forest) → 
 unfolding kind-of first-tree
 other kind mark first end kids a b = record { lone = refl; no-spread = a; named = λ e. absurd (not-both e b) }
 
--- a literal is of one of two kinds
-array-other : {s : Sheet} {i j : ℕ} (mark first end : ℕ) (kids : Forest) → Root s i j (one (node (array-row kids) mark first end kids))
-unfolding array-row
-array-other {s} {i} {j} mark first end kids = go (ends-in-spread kids)
-  where
-    go : (b : Bool) → Root s i j (one (node (if b then Row.ArrayRestComma else Row.Array) mark first end kids))
-    go true = other _ mark first end kids refl refl
-    go false = other _ mark first end kids refl refl
-
-object-other : {s : Sheet} {i j : ℕ} (mark first end : ℕ) (kids : Forest) → Root s i j (one (node (object-row kids) mark first end kids))
-unfolding object-row
-object-other {s} {i} {j} mark first end kids = go (ends-in-spread kids)
-  where
-    go : (b : Bool) → Root s i j (one (node (if b then Row.ObjectRestComma else Row.Object) mark first end kids))
-    go true = other _ mark first end kids refl refl
-    go false = other _ mark first end kids refl refl
-
-tier-other : {s : Sheet} {i j : ℕ} (tier mark first end : ℕ) (kids : Forest) → Root s i j (one (node (tier-row tier) mark first end kids))
-unfolding tier-row
-tier-other {s} {i} {j} tier mark first end kids = go (leb tier 3)
-  where
-    go : (b : Bool) → Root s i j (one (node (if b then Row.Logical else Row.Binary) mark first end kids))
-    go true = other _ mark first end kids refl refl
-    go false = other _ mark first end kids refl refl
+-- of one of two kinds
+either-other : {s : Sheet} {i j : ℕ} (b : Bool) (k l mark first end : ℕ) (kids : Forest) → k is Row.Spread ≡ false → k is Row.Identifier ≡ false → l is Row.Spread ≡ false → l is Row.Identifier ≡ false
+    → Root s i j (one (node (if b then k else l) mark first end kids))
+either-other true k l mark first end kids a b c d = other k mark first end kids a b
+either-other false k l mark first end kids a b c d = other l mark first end kids c d
 
 module _ {s : Sheet} where
   root-array : {i j : ℕ} {ts : Forest} → Derives s ArrayLiteral i j ts → Root s i j ts
+  unfolding array-row
   root-array (D.array-empty o d c) = other _ _ _ _ _ refl refl
   root-array (D.array-list o d c) = other _ _ _ _ _ refl refl
-  root-array (D.array-comma o d t e c) = array-other _ _ _ _
+  root-array (D.array-comma {ts = ts} {us = us} o d t e c) = either-other (ends-in-spread (join ts us)) Row.ArrayRestComma Row.Array _ _ _ _ refl refl refl refl
 
   root-object : {i j : ℕ} {ts : Forest} → Derives s ObjectLiteral i j ts → Root s i j ts
+  unfolding object-row
   root-object (D.object-empty o c) = other _ _ _ _ _ refl refl
   root-object (D.object-list o d c) = other _ _ _ _ _ refl refl
-  root-object (D.object-comma o d t c) = object-other _ _ _ _
+  root-object (D.object-comma {ts = ts} o d t c) = either-other (ends-in-spread ts) Row.ObjectRestComma Row.Object _ _ _ _ refl refl refl refl
 
   pub root-primary : {i j : ℕ} {ts : Forest} → Derives s PrimaryExpression i j ts → Root s i j ts
   unfolding kind-of first-tree
@@ -106,10 +89,11 @@ module _ {s : Sheet} where
   root-unary (D.unary t d) = other _ _ _ _ _ refl refl
 
   pub root-tier : {tier i j : ℕ} {ts : Forest} → Derives s (TierExpression tier) i j ts → Root s i j ts
+  unfolding tier-row
   root-tier (D.no-power d) = root-unary d
   root-tier (D.power d t e) = other _ _ _ _ _ refl refl
   root-tier (D.no-operation l d) = root-tier d
-  root-tier (D.operation l d t e) = rw (line l .row-is) (tier-other _ _ _ _ _)
+  root-tier (D.operation {x = x} l d t e) = rw (line l .row-is) (either-other (leb x 3) Row.Logical Row.Binary _ _ _ _ refl refl refl refl)
 
   pub root-coalesce : {i j : ℕ} {ts : Forest} → Derives s CoalesceExpression i j ts → Root s i j ts
   root-coalesce (D.coalesce d t e) = other _ _ _ _ _ refl refl

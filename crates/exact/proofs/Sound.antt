@@ -36,7 +36,7 @@ use Rattle.laws.proofs.Bounds.{Any, Nothing}
 use Rattle.ecma262.specs.Derives as D
 use Rattle.ecma262.specs.Derives.{Tok, OneOf, SameLine, identifiers, assignment-operators, Links, Nonterminal, PrimaryExpression, ArrayLiteral, Elision, SpreadElement, Element, ObjectLiteral, PropertyDefinition, PropertyName, LinkedExpression, LeftHandSideExpression, UpdateExpression, UnaryExpression, TierExpression, CoalesceExpressionHead, CoalesceExpression, ShortCircuitExpression, ConditionalExpression, AssignmentExpression, SimpleTarget, DestructuringAssignmentTarget, Commas, Expression, Binding, BindingPattern, BindingElement, BindingRestElement, BindingProperty, BindingRestProperty, FormalParameters, ArrowFormalParameters, ArrowParameters, AsyncArrowHead, ConciseBody, CallExpression, ends-in-spread, array-row, object-row, Derives, covers-nothing, cover-nothing, Derived}
 use Rattle.grammar.specs.Reading.{unconverted, unconverteds, whole, reading}
-use Rattle.exact.proofs.Terminals.{levels, is-power, is-coalesce, power-floor, other-floor, row-of-tier, named, worded, literally, keyed, prefixed, updated, compounded, Operator, line, operator, tier-up, operation}
+use Rattle.exact.proofs.Terminals.{levels, is-power, is-coalesce, power-floor, other-floor, row-of-tier, Operator, line, operator, tier-up, operation, as-printed, compounds, keys, literal-tokens, names, unary, updates, words}
 use Rattle.exact.specs.Terminals.{tier-row, is-key, is-prefix, is-update, is-compound}
 use Rattle.exact.proofs.Roots.{NameAt, not-both, root-primary, root-chain, root-left-hand-side, root-unary, root-short-circuit, root-assignment, spread-last, Begun, none-yet, after-comma, one-more, BegunElided, only-holes, after-list, one-hole-more, one-element-more, list-and-comma, root-expression, Silent, silent, said, Means, follow, trying, saying, giving, none, turning, hence, Shaped, in-brackets, in-braces, binding-shape}
 use Rattle.exact.proofs.Convert.{unary-simple, left-simple, short-circuit-simple, short-circuit-any}
@@ -368,7 +368,7 @@ module _ {s : Sheet} {N : Type 0} {ask : Asks N} (h : Answers Any (GoodMeant s) 
           follow {Q = λ end trees. (end ≡ at) × (Derives s ShortCircuitExpression first at (one left) → Derives s SimpleTarget first at trees)}
           (turning simple at left (λ u rs e f. (refl, λ d. short-circuit-simple d u rs e f)))
           (λ target q. follow (asked (J.assignment (at + 1)))
-          (λ right d. giving _ _ (λ o l. value-compound at (target .trees) (right .trees) (q .1 l) (compounded (operator-left (token s at) o t)) d refl)))
+          (λ right d. giving _ _ (λ o l. value-compound at (target .trees) (right .trees) (q .1 l) (as-printed compounds (operator-left (token s at) o t)) d refl)))
 
   sound-after-binary : (first : ℕ) (left : Part) → Derives s ShortCircuitExpression first (left .end) (left .trees) → Reads (Means (Value s first)) Nothing (after-binary s ask first left)
   unfolding after-binary
@@ -395,7 +395,7 @@ module _ {s : Sheet} {N : Type 0} {ask : Asks N} (h : Answers Any (GoodMeant s) 
       (λ e. let x : a ≡ true = and-right (token s at is Async) a e in
       let y : b ≡ true = and-right (is-name (token s (at + 1))) b x in
       hence (asked (J.body Row.AsyncArrow at (at + 2) (one (leaf Row.BindingName (at + 1)))))
-      (λ end trees m. value-async-arrow (tok-eq at Async (and-left (token s at is Async) a e)) (named (and-left (is-name (token s (at + 1))) b x))
+      (λ end trees m. value-async-arrow (tok-eq at Async (and-left (token s at is Async) a e)) (as-printed names (and-left (is-name (token s (at + 1))) b x))
       (record { unbroken = not-true (break-before s (at + 1)) (and-left (not (break-before s (at + 1))) c y) }) (tok-eq (at + 2) Arrow (and-right (not (break-before s (at + 1))) c y)) m))
       (λ _. follow (asked (J.binary 0 at)) (λ left u. sound-after-binary at left (u (omega arith) .part)))
 
@@ -419,11 +419,11 @@ module _ {s : Sheet} {N : Type 0} {ask : Asks N} (h : Answers Any (GoodMeant s) 
   unfolding unary-of is-unary-operator is-update-operator is-prefix is-update
   sound-unary at =
       test (is-prefix (token s at))
-      (λ t. follow (asked (J.unary (at + 1))) (λ operand d. giving _ _ (D.unary (prefixed t) d)))
+      (λ t. follow (asked (J.unary (at + 1))) (λ operand d. giving _ _ (D.unary (as-printed unary t) d)))
       (λ _. test (is-update (token s at))
       (λ t. follow (asked (J.unary (at + 1)))
       (λ operand d. follow {Q = λ end trees. Derives s SimpleTarget (at + 1) end trees} (turning simple (operand .end) (tree operand) (λ u rs e f. unary-simple (rw (root-unary d .lone) at d) u rs e f))
-      (λ target e. giving _ _ (D.update (D.prefix (updated t) e)))))
+      (λ target e. giving _ _ (D.update (D.prefix (as-printed updates t) e)))))
       (λ _. hence (asked (J.postfix at)) (λ end trees d. D.update d)))
 
   sound-postfix : (at : ℕ) → Reads (GoodMeant s (J.postfix at)) Nothing (postfix-of s ask at)
@@ -435,7 +435,7 @@ module _ {s : Sheet} {N : Type 0} {ask : Asks N} (h : Answers Any (GoodMeant s) 
       let l = and-right (is-update (token s (operand .end))) (not (break-before s (operand .end))) t in
       follow {Q = λ end trees. (end ≡ operand .end) × Derives s SimpleTarget at (operand .end) trees}
       (turning simple (operand .end) (tree operand) (λ v rs e f. (refl, left-simple (rw (root-left-hand-side d .lone) at d) v rs e f)))
-      (λ target e. giving _ _ (rw (e .0) (D.postfix (e .1) (updated u) (record { unbroken = not-true _ l })))))
+      (λ target e. giving _ _ (rw (e .0) (D.postfix (e .1) (as-printed updates u) (record { unbroken = not-true _ l })))))
       (λ _. giving _ _ (D.left-hand-side d)))
 
   -- 13.3
@@ -449,7 +449,7 @@ module _ {s : Sheet} {N : Type 0} {ask : Asks N} (h : Answers Any (GoodMeant s) 
   sound-links first at left =
       token-test s _ _
       (λ t. test (is-word (token s (at + 1)))
-      (λ u. hence (asked (J.links first (at + 2) (node Row.Member (at + 1) first (at + 2) (one left)))) (λ end trees m c d. m c (D.member d (tok t) (worded u))))
+      (λ u. hence (asked (J.links first (at + 2) (node Row.Member (at + 1) first (at + 2) (one left)))) (λ end trees m c d. m c (D.member d (tok t) (as-printed words u))))
       (λ _. none _))
       (token-test s _ _
       (λ t. follow (asked (J.expression (at + 1)))
@@ -529,9 +529,9 @@ module _ {s : Sheet} {N : Type 0} {ask : Asks N} (h : Answers Any (GoodMeant s) 
   sound-primary : (at : ℕ) → Reads (GoodMeant s (J.primary at)) Nothing (primary-of s ask at)
   unfolding primary-of parenthesized-of array-row object-row ends-in-spread
   sound-primary at =
-      test (is-name (token s at)) (λ t. giving _ _ (D.identifier (named t)))
+      test (is-name (token s at)) (λ t. giving _ _ (D.identifier (as-printed names t)))
       (λ _. token-test s _ _ (λ t. giving _ _ (D.this (tok t)))
-      (test (is-literal (token s at)) (λ t. giving _ _ (D.literal (literally t)))
+      (test (is-literal (token s at)) (λ t. giving _ _ (D.literal (as-printed literal-tokens t)))
       (λ _. token-test s _ _
       (λ t. follow (asked (J.expression (at + 1))) (λ inner d. token-test s _ _ (λ u. giving _ _ (D.parenthesized (tok t) d (tok u))) (none _)))
       (token-test s _ _ (λ t. hence (asked (J.elements at (at + 1) Row.Array nil)) (λ end trees m. D.array (m (tok t) (only-holes D.no-elision) refl)))
@@ -608,7 +608,7 @@ module _ {s : Sheet} {N : Type 0} {ask : Asks N} (h : Answers Any (GoodMeant s) 
   unfolding property-of shorthand-of
   sound-property at =
       test (is-name (token s at) and not (token s (at + 1) is Colon))
-      (λ e. let n = named (and-left (is-name (token s at)) (not (token s (at + 1) is Colon)) e) in
+      (λ e. let n = as-printed names (and-left (is-name (token s at)) (not (token s (at + 1) is Colon)) e) in
       token-test s _ _
       (λ t. follow (asked (J.assignment (at + 2))) (λ initializer d. giving _ _ (D.cover-initialized n (tok t) d)))
       (giving _ _ (D.shorthand n)))
@@ -618,7 +618,7 @@ module _ {s : Sheet} {N : Type 0} {ask : Asks N} (h : Answers Any (GoodMeant s) 
   sound-key : (at : ℕ) → Reads (GoodMeant s (J.key at)) Nothing (key-of s ask at)
   unfolding key-of is-key
   sound-key at =
-      test (is-key (token s at)) (λ t. giving _ _ (D.literal-name (keyed t)))
+      test (is-key (token s at)) (λ t. giving _ _ (D.literal-name (as-printed keys t)))
       (λ _. token-test s _ _
       (λ t. follow (asked (J.assignment (at + 1))) (λ inner d. token-test s _ _ (λ u. giving _ _ (D.computed-name (tok t) d (tok u))) (none _)))
       (none _))
@@ -627,7 +627,7 @@ module _ {s : Sheet} {N : Type 0} {ask : Asks N} (h : Answers Any (GoodMeant s) 
   sound-binding : (at : ℕ) → Reads (GoodMeant s (J.binding at)) Nothing (binding-of s ask at)
   unfolding binding-of
   sound-binding at =
-      test (is-name (token s at)) (λ t. giving _ _ (D.binding-name (named t)))
+      test (is-name (token s at)) (λ t. giving _ _ (D.binding-name (as-printed names t)))
       (λ _. token-test s _ _ (λ t. hence (asked (J.binding-elements at (at + 1) nil)) (λ end trees m. D.binding-pattern (m (tok t) (only-holes D.no-elision))))
       (token-test s _ _ (λ t. hence (asked (J.binding-properties at (at + 1) nil)) (λ end trees m. D.binding-pattern (m (tok t) (none-yet refl refl))))
       (none _)))
@@ -720,7 +720,7 @@ module _ {s : Sheet} {N : Type 0} {ask : Asks N} (h : Answers Any (GoodMeant s) 
   unfolding binding-property-of binding-shorthand-of
   sound-binding-property at =
       test (is-name (token s at) and not (token s (at + 1) is Colon))
-      (λ e. let n = named (and-left (is-name (token s at)) (not (token s (at + 1) is Colon)) e) in
+      (λ e. let n = as-printed names (and-left (is-name (token s at)) (not (token s (at + 1) is Colon)) e) in
       token-test s _ _
       (λ t. follow (asked (J.assignment (at + 2))) (λ initializer d. giving _ _ (D.binding-shorthand-default n (tok t) d)))
       (giving _ _ (D.binding-shorthand n)))

@@ -209,47 +209,11 @@ compounds = same assignment-operators is-compound refl refl (λ k h. rw (le-leb 
 
 -- a token of the standard's is one of the reader's, and the other way round
 module _ {s : Sheet} {at : ℕ} where
-  pub name : OneOf identifiers s at → Of is-name s at
-  name t = record { holds = sym (names (token s at)) ∙ t .holds }
+  pub as-read : {kinds : List ℕ} {test : ℕ → Bool} → ((k : ℕ) → one-of kinds k ≡ test k) → OneOf kinds s at → Of test s at
+  as-read alike t = record { holds = sym (alike (token s at)) ∙ t .holds }
 
-  pub word : OneOf identifier-names s at → Of is-word s at
-  word t = record { holds = sym (words (token s at)) ∙ t .holds }
-
-  pub literal : OneOf literals s at → Of is-literal s at
-  literal t = record { holds = sym (literal-tokens (token s at)) ∙ t .holds }
-
-  pub key : OneOf literal-property-names s at → Of is-key s at
-  key t = record { holds = sym (keys (token s at)) ∙ t .holds }
-
-  pub prefix : OneOf unary-operators s at → Of is-prefix s at
-  prefix t = record { holds = sym (unary (token s at)) ∙ t .holds }
-
-  pub update : OneOf update-operators s at → Of is-update s at
-  update t = record { holds = sym (updates (token s at)) ∙ t .holds }
-
-  pub compound : OneOf assignment-operators s at → Of is-compound s at
-  compound t = record { holds = sym (compounds (token s at)) ∙ t .holds }
-
-  pub named : is-name (token s at) ≡ true → OneOf identifiers s at
-  named e = record { holds = names (token s at) ∙ e }
-
-  pub worded : is-word (token s at) ≡ true → OneOf identifier-names s at
-  worded e = record { holds = words (token s at) ∙ e }
-
-  pub literally : is-literal (token s at) ≡ true → OneOf literals s at
-  literally e = record { holds = literal-tokens (token s at) ∙ e }
-
-  pub keyed : is-key (token s at) ≡ true → OneOf literal-property-names s at
-  keyed e = record { holds = keys (token s at) ∙ e }
-
-  pub prefixed : is-prefix (token s at) ≡ true → OneOf unary-operators s at
-  prefixed e = record { holds = unary (token s at) ∙ e }
-
-  pub updated : is-update (token s at) ≡ true → OneOf update-operators s at
-  updated e = record { holds = updates (token s at) ∙ e }
-
-  pub compounded : is-compound (token s at) ≡ true → OneOf assignment-operators s at
-  compounded e = record { holds = compounds (token s at) ∙ e }
+  pub as-printed : {kinds : List ℕ} {test : ℕ → Bool} → ((k : ℕ) → one-of kinds k ≡ test k) → test (token s at) ≡ true → OneOf kinds s at
+  as-printed alike e = record { holds = alike (token s at) ∙ e }
 
 -- beyond the kinds there is no operator
 no-level : (l k : ℕ) → 1 ≤ l → 79 ≤ k → expression-level k is l ≡ false
