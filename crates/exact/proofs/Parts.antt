@@ -564,6 +564,13 @@ module _ {s : Sheet} where
   pub tier-down : {l i j : ℕ} {ts : Forest} → TierDone s (suc l) i j ts → TierDone s l i j ts
   tier-down x = record { tree = x .tree; is-one = x .is-one; low = let b = x .low in omega arith; goes = λ floor lt t a b e out c. x .goes floor (omega arith) t (omega arith) b e out c }
 
+  -- an operator between two operands that are one tree each
+  over-operator : {floor i p j e k : ℕ} {x y : Tree} {ts us out : Forest} → ts ≡ one x → us ≡ one y → k ≡ operation-kind (token s p) → p < length (s .kinds)
+      → ltb floor (expression-level (token s p)) ≡ true → Reads s (J.binary (right-floor (token s p)) (p + 1)) j (one y) → operation-records s p x y ≡ []
+      → Reads s (J.operators floor i j (node k p i j (join ts us))) e out → Reads s (J.operators floor i p x) e out
+  over-operator {floor} {i} {p} {j} {e} {out = out} a b k h l r n c =
+      operators-more h l r n (subst (λ (z : Tree). Reads s (J.operators floor i j z) e out) (rw k (ap (node (operation-kind (token s p)) p i j) (two-kids a b))) c)
+
   -- an operator and its right operand
   pub operation-tier : {l i p j : ℕ} {ts us : Forest} → 2 ≤ l → TierDone s l i p ts → Operator s p l → TierDone s (suc l) (p + 1) j us → TierDone s l i j (one (node (tier-row l) p i j (join ts us)))
   operation-tier {l} {i} {p} {j} {ts} {us} h x o y =
@@ -577,18 +584,14 @@ module _ {s : Sheet} where
       at-most : l ≤ 11
       at-most = let k = y .low in omega arith
 
-      same-row : node (tier-row l) p i j (join ts us) ≡ node (operation-kind (token s p)) p i j (cons (x .tree) (one (y .tree)))
-      same-row =
-          let k : tier-row l ≡ operation-kind (token s p) = sym (row-of-tier (token s p) (omega (arith, o .level-is)) ∙ ap tier-row (o .level-is)) in
-          ap (λ (n : ℕ). node n p i j (join ts us)) k ∙ ap (node (operation-kind (token s p)) p i j) (two-kids (x .is-one) (y .is-one))
-
       step : (floor : ℕ) → floor < l → Tail s j → expression-level (token s j) ≤ l → expression-level (token s j) ≤ 11 → (e : ℕ) (out : Forest)
           → Reads s (J.operators floor i j (node (tier-row l) p i j (join ts us))) e out → Reads s (J.operators floor i p (x .tree)) e out
       step floor lt t a b e out c =
           let k = y .low in
           let fl : right-floor (token s p) ≡ l = other-floor (token s p) (omega (arith, o .level-is)) ∙ o .level-is in
           let right : Reads s (J.binary l (p + 1)) j (one (y .tree)) = y .goes l (omega arith) t (omega arith) b j (one (y .tree)) (plainly .operators-end (le-ltb _ _ a)) in
-          operators-more (operator-here h o) (rw (o .level-is) (lt-ltb _ _ lt)) (rw fl right) (no-records s p l (x .tree) (y .tree) h at-most (o .level-is)) (subst (λ (v : Tree). Reads s (J.operators floor i j v) e out) same-row c)
+          let k : tier-row l ≡ operation-kind (token s p) = sym (row-of-tier (token s p) (omega (arith, o .level-is)) ∙ ap tier-row (o .level-is)) in
+          over-operator (x .is-one) (y .is-one) k (operator-here h o) (rw (o .level-is) (lt-ltb _ _ lt)) (rw fl right) (no-records s p l (x .tree) (y .tree) h at-most (o .level-is)) c
 
   -- `**` after an UpdateExpression
   pub power-tier : {i p j : ℕ} {ts us : Forest} → ts ≡ one (first-tree ts) → UnaryDone s i p ts → kind-of (first-tree ts) is Row.Unary ≡ false → Tok s p Star2 → TierDone s 12 (p + 1) j us
@@ -601,18 +604,13 @@ module _ {s : Sheet} where
         goes = λ floor lt t a b e out c. quiet (plainly .binary-more (rw (r) at (x .reads (tail-kind _ refl refl refl refl refl o))) (step floor lt t b e out c));
       }
     where
-      same-row : node Row.Binary p i j (join ts us) ≡ node (operation-kind (token s p)) p i j (cons (first-tree ts) (one (y .tree)))
-      same-row =
-          let k : Row.Binary ≡ operation-kind (token s p) = sym (ap operation-kind (o .kind-is) ∙ known .star-row) in
-          ap (λ (n : ℕ). node n p i j (join ts us)) k ∙ ap (node (operation-kind (token s p)) p i j) (two-kids (r) (y .is-one))
-
       step : (floor : ℕ) → floor < 12 → Tail s j → expression-level (token s j) ≤ 11 → (e : ℕ) (out : Forest) → Reads s (J.operators floor i j (node Row.Binary p i j (join ts us))) e out
           → Reads s (J.operators floor i p (first-tree ts)) e out
       step floor lt t b e out c =
           let v : expression-level (token s p) ≡ 12 = ap expression-level (o .kind-is) ∙ known .star-level in
           let fl : right-floor (token s p) ≡ 11 = ap right-floor (o .kind-is) ∙ power-floor in
           let right : Reads s (J.binary 11 (p + 1)) j (one (y .tree)) = y .goes 11 (omega arith) t (omega arith) b j (one (y .tree)) (plainly .operators-end (le-ltb _ _ b)) in
-          operators-more (here o) (rw v (lt-ltb _ _ lt)) (rw fl right) (no-power-record s p (first-tree ts) (y .tree) o n) (subst (λ (z : Tree). Reads s (J.operators floor i j z) e out) same-row c)
+          over-operator r (y .is-one) (sym (ap operation-kind (o .kind-is) ∙ known .star-row)) (here o) (rw v (lt-ltb _ _ lt)) (rw fl right) (no-power-record s p (first-tree ts) (y .tree) o n) c
 
   -- `??` between a head and a BitwiseORExpression
   pub tier-head : {i j : ℕ} {ts : Forest} → TierDone s 4 i j ts → is-or-and s (first-tree ts) ≡ false → CoalesceDone s i j ts
@@ -636,19 +634,13 @@ module _ {s : Sheet} where
         goes = λ t a e out c. x .goes (tail-kind _ refl refl refl refl refl o) (let v : expression-level (token s p) ≡ 1 = ap expression-level (o .kind-is) ∙ known .coalesce-level in omega arith) e out (step t a e out c);
       }
     where
-      same-row : node Row.Logical p i j (join ts us) ≡ node (operation-kind (token s p)) p i j (cons (x .tree) (one (y .tree)))
-      same-row =
-          let k : Row.Logical ≡ operation-kind (token s p) = sym (ap operation-kind (o .kind-is) ∙ known .coalesce-row) in
-          ap (λ (m : ℕ). node m p i j (join ts us)) k ∙ ap (node (operation-kind (token s p)) p i j) (two-kids (x .is-one) (y .is-one))
-
       step : Tail s j → expression-level (token s j) ≤ 1 → (e : ℕ) (out : Forest) → Reads s (J.operators 0 i j (node Row.Logical p i j (join ts us))) e out → Reads s (J.operators 0 i p (x .tree)) e out
       step t a e out c =
           let v : expression-level (token s p) ≡ 1 = ap expression-level (o .kind-is) ∙ known .coalesce-level in
           let fl : right-floor (token s p) ≡ 1 = ap right-floor (o .kind-is) ∙ known .coalesce-floor in
           let right : Reads s (J.binary 1 (p + 1)) j (one (y .tree)) = y .goes 1 (omega arith) t (omega arith) (omega arith) j (one (y .tree)) (plainly .operators-end (le-ltb _ _ a)) in
-          operators-more (here o) (rw v (lt-ltb 0 1 (omega arith))) (rw fl right)
-          (no-coalesce-record s p (x .tree) (y .tree) o (x .bare) (ap (λ (z : Forest). is-or-and s (first-tree z)) (sym (y .is-one)) ∙ n))
-          (subst (λ (z : Tree). Reads s (J.operators 0 i j z) e out) same-row c)
+          over-operator (x .is-one) (y .is-one) (sym (ap operation-kind (o .kind-is) ∙ known .coalesce-row)) (here o) (rw v (lt-ltb 0 1 (omega arith))) (rw fl right)
+          (no-coalesce-record s p (x .tree) (y .tree) o (x .bare) (ap (λ (z : Forest). is-or-and s (first-tree z)) (sym (y .is-one)) ∙ n)) c
 
   pub tier-short : {i j : ℕ} {ts : Forest} → TierDone s 2 i j ts → ShortDone s i j ts
   tier-short {i} {j} x = record { reads = λ t a. rw (x .is-one) (x .goes 0 (omega arith) t (omega arith) (omega arith) j (one (x .tree)) (plainly .operators-end (le-ltb 0 (expression-level (token s j)) (omega arith)))) }
