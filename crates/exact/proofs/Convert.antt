@@ -193,22 +193,22 @@ pub record Turns (s : Sheet) (i j : ℕ) (ts : Forest) : Type 0 where
   pub with : {role : Role} → Expected role → (u : Tree) (records : List Record) → convert-as (first-tree ts) role ≡ turned u records → Silent records → Derives s (aim role) i j (one u)
 
 -- the last row of a literal: one more of them, or a Spread as a rest, where the record of its comma fits
-data LastKid (s : Sheet) (x rest : Nonterminal) (i j : ℕ) (spreads : Bool) (comma : List Record) (us : Forest) : Type 0 where
+pub data LastKid (s : Sheet) (x rest : Nonterminal) (i j : ℕ) (spreads : Bool) (comma : List Record) (us : Forest) : Type 0 where
   last-plain : spreads ≡ false → Derives s x i j us → LastKid s x rest i j spreads comma us
   last-rest : spreads ≡ true → Silent comma → Derives s rest i j us → LastKid s x rest i j spreads comma us
 
 -- a row of a literal: in the middle, and as the last
-record KidTurns (x rest : Nonterminal) (middle : Role) (last : List Record → Role) (s : Sheet) (i j : ℕ) (ts : Forest) : Type 0 where
-  tree : Tree
-  is-one : ts ≡ one tree
-  in-middle : (u : Tree) (records : List Record) → convert-as tree middle ≡ turned u records → Silent records → Derives s x i j (one u)
-  at-end : (comma : List Record) (u : Tree) (records : List Record) → convert-as tree (last comma) ≡ turned u records → Silent records
+pub record KidTurns (x rest : Nonterminal) (middle : Role) (last : List Record → Role) (s : Sheet) (i j : ℕ) (ts : Forest) : Type 0 where
+  pub tree : Tree
+  pub is-one : ts ≡ one tree
+  pub in-middle : (u : Tree) (records : List Record) → convert-as tree middle ≡ turned u records → Silent records → Derives s x i j (one u)
+  pub at-end : (comma : List Record) (u : Tree) (records : List Record) → convert-as tree (last comma) ≡ turned u records → Silent records
       → LastKid s x rest i j (kind-of tree is Row.Spread) comma (one u)
 
-abbrev ElementTurns : Sheet → ℕ → ℕ → Forest → Type 0
+abbrev pub ElementTurns : Sheet → ℕ → ℕ → Forest → Type 0
 ElementTurns = KidTurns AssignmentElement AssignmentRestElement element last-element
 
-abbrev PropertyTurns : Sheet → ℕ → ℕ → Forest → Type 0
+abbrev pub PropertyTurns : Sheet → ℕ → ℕ → Forest → Type 0
 PropertyTurns = KidTurns AssignmentProperty AssignmentRestProperty property last-property
 
 -- ELEMENTS
@@ -761,9 +761,9 @@ tier-stays {s} {i} {j} tier mark first end ts = go (leb tier 3)
     go true = stays _ mark first end ts refl
     go false = stays _ mark first end ts refl
 
--- EVERY EXPRESSION
+-- EVERY EXPRESSION: the statement, `made`
 -- what is shown of each nonterminal: of the expressions, and of what stands in literals
-abbrev Made : Sheet → Nonterminal → ℕ → ℕ → Forest → Type 0
+abbrev pub Made : Sheet → Nonterminal → ℕ → ℕ → Forest → Type 0
 Made s (ListOf x) i j ts = Each s (Made s x) i j ts
 Made s (Elided x) i j ts = Past s (Made s x) i j ts
 Made s D.PrimaryExpression i j ts = Turns s i j ts
@@ -806,7 +806,7 @@ Made s D.ArrowParameters i j ts = Unit {0}
 Made s D.AsyncArrowHead i j ts = Unit {0}
 Made s D.ConciseBody i j ts = Unit {0}
 
-made : {s : Sheet} {x : Nonterminal} {i j : ℕ} {ts : Forest} → Derives s x i j ts → Made s x i j ts
+pub made : {s : Sheet} {x : Nonterminal} {i j : ℕ} {ts : Forest} → Derives s x i j ts → Made s x i j ts
 unfolding turnable
 made (D.first-of-list d) = each-one (made d)
 made (D.next-of-list l t d) = each-more (made l) t (made d)
@@ -920,23 +920,3 @@ made (D.arrow-parameters _) = tt
 made (D.concise-body _ _) = tt
 made (D.async-name _ _ _) = tt
 made (D.async-parameters _ _ _) = tt
-
--- THE STATEMENTS
-module _ {s : Sheet} {i j : ℕ} {t : Tree} where
-  pub unary-simple : Derives s UnaryExpression i j (one t) → (u : Tree) (records : List Record) → convert-as t simple ≡ turned u records → Silent records → Derives s SimpleTarget i j (one u)
-  unfolding first-tree
-  unary-simple d u records e f = made d .with as-simple-target u records e f
-
-  pub left-simple : Derives s LeftHandSideExpression i j (one t) → (u : Tree) (records : List Record) → convert-as t simple ≡ turned u records → Silent records → Derives s SimpleTarget i j (one u)
-  unfolding first-tree
-  left-simple d u records e f = made d .with as-simple-target u records e f
-
-  pub short-circuit-simple : Derives s ShortCircuitExpression i j (one t) → (u : Tree) (records : List Record) → convert-as t simple ≡ turned u records → Silent records
-      → Derives s SimpleTarget i j (one u)
-  unfolding first-tree
-  short-circuit-simple d u records e f = made d .with as-simple-target u records e f
-
-  pub short-circuit-any : Derives s ShortCircuitExpression i j (one t) → (u : Tree) (records : List Record) → convert-as t any ≡ turned u records → Silent records
-      → Derives s DestructuringAssignmentTarget i j (one u)
-  unfolding first-tree
-  short-circuit-any d u records e f = made d .with as-target u records e f

@@ -39,7 +39,7 @@ use Rattle.grammar.specs.Reading.{unconverted, unconverteds, whole, reading}
 use Rattle.exact.proofs.Terminals.{levels, is-power, is-coalesce, power-floor, other-floor, row-of-tier, Operator, line, operator, tier-up, operation, as-printed, compounds, keys, literal-tokens, names, unary, updates, words}
 use Rattle.exact.specs.Terminals.{tier-row, is-key, is-prefix, is-update, is-compound}
 use Rattle.exact.proofs.Roots.{NameAt, not-both, root-primary, root-chain, root-left-hand-side, root-unary, root-short-circuit, root-assignment, spread-last, Begun, none-yet, after-comma, one-more, BegunElided, only-holes, after-list, one-hole-more, one-element-more, list-and-comma, root-expression, Silent, silent, said, Means, follow, trying, saying, giving, none, turning, hence, Shaped, in-brackets, in-braces, binding-shape}
-use Rattle.exact.proofs.Convert.{unary-simple, left-simple, short-circuit-simple, short-circuit-any}
+use Rattle.exact.proofs.Convert.{as-target, as-simple-target, made}
 
 -- WHAT IS MEANT
 -- the `=>` at a place and a body, after parameters
@@ -352,7 +352,7 @@ module _ {s : Sheet} {N : Type 0} {ask : Asks N} (h : Answers Any (GoodMeant s) 
       rw (le-leb PlusEq k (omega arith)) (and-right (leb Eq k) (leb k Star2Eq) e)
 
   sound-assign : (first at : ℕ) (left : Tree) → Reads (GoodMeant s (J.assign first at left)) Nothing (assign-of s ask first at left)
-  unfolding assign-of
+  unfolding assign-of first-tree
   sound-assign first at left = go (token s at is Eq) refl
     where
       go : (b : Bool) → token s at is Eq ≡ b
@@ -361,12 +361,12 @@ module _ {s : Sheet} {N : Type 0} {ask : Asks N} (h : Answers Any (GoodMeant s) 
           yield (right .end) (one (node (if b then Row.Assign else Row.CompoundAssign) at first (right .end) (join (target .trees) (right .trees)))))
       go true t =
           follow {Q = λ end trees. (end ≡ at) × (Derives s ShortCircuitExpression first at (one left) → Derives s DestructuringAssignmentTarget first at trees)}
-          (turning any at left (λ u rs e f. (refl, λ d. short-circuit-any d u rs e f)))
+          (turning any at left (λ u rs e f. (refl, λ d. made d .with as-target u rs e f)))
           (λ target q. follow (asked (J.assignment (at + 1)))
           (λ right d. giving _ _ (λ o l. value-assign at (target .trees) (right .trees) (q .1 l) (tok-eq at Eq t) d refl)))
       go false t =
           follow {Q = λ end trees. (end ≡ at) × (Derives s ShortCircuitExpression first at (one left) → Derives s SimpleTarget first at trees)}
-          (turning simple at left (λ u rs e f. (refl, λ d. short-circuit-simple d u rs e f)))
+          (turning simple at left (λ u rs e f. (refl, λ d. made d .with as-simple-target u rs e f)))
           (λ target q. follow (asked (J.assignment (at + 1)))
           (λ right d. giving _ _ (λ o l. value-compound at (target .trees) (right .trees) (q .1 l) (as-printed compounds (operator-left (token s at) o t)) d refl)))
 
@@ -416,25 +416,25 @@ module _ {s : Sheet} {N : Type 0} {ask : Asks N} (h : Answers Any (GoodMeant s) 
 
   -- 13.5 and 13.4
   sound-unary : (at : ℕ) → Reads (GoodMeant s (J.unary at)) Nothing (unary-of s ask at)
-  unfolding unary-of is-unary-operator is-update-operator is-prefix is-update
+  unfolding unary-of is-unary-operator is-update-operator is-prefix is-update first-tree
   sound-unary at =
       test (is-prefix (token s at))
       (λ t. follow (asked (J.unary (at + 1))) (λ operand d. giving _ _ (D.unary (as-printed unary t) d)))
       (λ _. test (is-update (token s at))
       (λ t. follow (asked (J.unary (at + 1)))
-      (λ operand d. follow {Q = λ end trees. Derives s SimpleTarget (at + 1) end trees} (turning simple (operand .end) (tree operand) (λ u rs e f. unary-simple (rw (root-unary d .lone) at d) u rs e f))
+      (λ operand d. follow {Q = λ end trees. Derives s SimpleTarget (at + 1) end trees} (turning simple (operand .end) (tree operand) (λ u rs e f. made (rw (root-unary d .lone) at d) .with as-simple-target u rs e f))
       (λ target e. giving _ _ (D.update (D.prefix (as-printed updates t) e)))))
       (λ _. hence (asked (J.postfix at)) (λ end trees d. D.update d)))
 
   sound-postfix : (at : ℕ) → Reads (GoodMeant s (J.postfix at)) Nothing (postfix-of s ask at)
-  unfolding postfix-of is-update-operator is-update
+  unfolding postfix-of is-update-operator is-update first-tree
   sound-postfix at =
       follow (asked (J.left-hand-side at))
       (λ operand d. test (is-update (token s (operand .end)) and not (break-before s (operand .end)))
       (λ t. let u = and-left (is-update (token s (operand .end))) (not (break-before s (operand .end))) t in
       let l = and-right (is-update (token s (operand .end))) (not (break-before s (operand .end))) t in
       follow {Q = λ end trees. (end ≡ operand .end) × Derives s SimpleTarget at (operand .end) trees}
-      (turning simple (operand .end) (tree operand) (λ v rs e f. (refl, left-simple (rw (root-left-hand-side d .lone) at d) v rs e f)))
+      (turning simple (operand .end) (tree operand) (λ v rs e f. (refl, made (rw (root-left-hand-side d .lone) at d) .with as-simple-target v rs e f)))
       (λ target e. giving _ _ (rw (e .0) (D.postfix (e .1) (as-printed updates u) (record { unbroken = not-true _ l })))))
       (λ _. giving _ _ (D.left-hand-side d)))
 
