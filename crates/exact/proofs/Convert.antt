@@ -21,7 +21,7 @@ use Rattle.grammar.specs.Sheet.{Sheet, leaf, first-tree}
 use Rattle.ecma262.specs.Derives as D
 use Rattle.exact.specs.Terminals.{tier-row}
 use Rattle.exact.proofs.Terminals.{line}
-use Rattle.ecma262.specs.Derives.{Tok, OneOf, identifiers, identifier-names, assignment-operators, Links, Nonterminal, ListOf, Elided, Elision, PropertyName, LinkedExpression, LeftHandSideExpression, UnaryExpression, ShortCircuitExpression, AssignmentExpression, SimpleTarget, AssignmentPattern, DestructuringAssignmentTarget, AssignmentElement, AssignmentRestElement, AssignmentProperty, AssignmentRestProperty, AssignmentElementList, AssignmentPropertyList, Expression, ends-in-spread, array-row, object-row, Derives}
+use Rattle.ecma262.specs.Derives.{Tok, OneOf, identifiers, identifier-names, assignment-operators, Links, Nonterminal, ListOf, Elided, Elision, PropertyName, LinkedExpression, LeftHandSideExpression, UnaryExpression, ShortCircuitExpression, AssignmentExpression, SimpleTarget, AssignmentPattern, DestructuringAssignmentTarget, AssignmentElement, AssignmentRestElement, AssignmentProperty, AssignmentRestProperty, Expression, ends-in-spread, array-row, object-row, Derives}
 use Rattle.exact.proofs.Roots.{Root, not-both, root-assignment, root-expression, spread-last, Each, each-one, each-more, Past, past, Silent, said, silent-left, silent-right}
 
 -- OUTCOMES

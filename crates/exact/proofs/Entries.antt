@@ -47,8 +47,6 @@ use Rattle.agreement.specs.Count.{Counted, Ended, ended-done, ended-fail}
 use Rattle.agreement.proofs.Steps.{Start, ListWork, ReadWork, list-work, read-work, checked-work}
 use Rattle.exact.proofs.Sound.{Standard, clean-expression, clean-binding}
 use Rattle.exact.proofs.Unambiguous.{clean-is-derived, clean-is-bound}
-use Rattle.exact.proofs.Targets.{target-rows}
-use Rattle.exact.specs.Targets.{Own, In}
 use Rattle.exact.specs.Terms as Terms
 use Rattle.exact.specs.Terms.{Input, Output, TreeInput, sheet, Passes, comes-to, ByConvert, Shown, Clean, Refused, Answered, ThreeWayAnswered, three-way-checks, Unchanged, Converted, converted, wrong-size, no-tree, no-row, no-room, no-target, Bounded}
 
@@ -289,10 +287,6 @@ module _ (sheet : Sheet) (rows records : List ℕ) (fine : checks sheet rows rec
 
   pub derived-is-pattern : NoEarly sheet → (t : Tree) → Derived sheet BindingElement 0 (length (sheet .kinds)) t → Shows (pattern-entry sheet rows records) rows records (one t) []
   derived-is-pattern none t d = pattern-agrees sheet rows records fine none (one t) [] (record { after = tt; is-whole = clean-is-bound .1 d })
-
--- In a tree that an entry shows with no record, every row of a target's kind is the standard's target, over its own tokens.
-pub clean-targets : {x : Nonterminal} {sheet : Sheet} {given : Given} {rows records : List ℕ} {u : Tree} (d : ShowsDerived x sheet given rows records) → In u (d .tree) → Own sheet u
-clean-targets d a = target-rows (d .derived) a
 
 -- ONE OUTPUT
 -- six equations make two outputs one

@@ -19,7 +19,7 @@ use Rattle.laws.proofs.Readings.{Headed, bare, after-async}
 use Rattle.laws.proofs.Balanced as Balance
 use Rattle.laws.proofs.Balanced.{side-of, Side, Balanced, none, skip, nest, partner, joined, flat, name-flat, word-flat, literal-flat, operator-flat}
 use Rattle.ecma262.specs.Derives as D
-use Rattle.ecma262.specs.Derives.{Tok, one-of, OneOf, identifiers, identifier-names, literals, literal-property-names, update-operators, unary-operators, assignment-operators, LeftToRight, Links, Nonterminal, PrimaryExpression, LinkedExpression, Arguments, UpdateExpression, UnaryExpression, TierExpression, CoalesceExpression, ShortCircuitExpression, SimpleTarget, AssignmentPattern, DestructuringAssignmentTarget, Derives, AssignmentExpression, AssignmentElement}
+use Rattle.ecma262.specs.Derives.{Tok, one-of, OneOf, identifiers, identifier-names, literals, literal-property-names, update-operators, unary-operators, assignment-operators, LeftToRight, Links, Nonterminal, PrimaryExpression, LinkedExpression, Arguments, UpdateExpression, UnaryExpression, TierExpression, CoalesceExpression, ShortCircuitExpression, SimpleTarget, DestructuringAssignmentTarget, Derives, AssignmentExpression}
 use Rattle.grammar.specs.Update.{is-update-operator}
 use Rattle.grammar.specs.Assignment.{is-async-name}
 use Rattle.laws.proofs.Good.{and-left, and-right}

@@ -466,14 +466,14 @@ module _ {N : Type 0} {policy : Policy N} {sheet : Sheet} {Gives : Job → N →
         elements-end = λ h1. settle (λ f le. rw h1);
         elements-hole = λ h1 h2. let s1 = stands (sheet .kinds) h1 in settle (λ f le. rw (h1, reads h2 f (omega arith)));
         elements-fail = λ {at} h1 h2 h3. let u3 = item-steps sheet at (token sheet at is Dot3) in settle (λ f le. rw (h1, h2, reads h3 f (omega arith)));
-        elements-more = λ {at} h1 h2 h3 h4 h5. let u3 = item-steps sheet at (token sheet at is Dot3) in let w3 = item-reaches at (token sheet at is Dot3) h3 in let s4 = stands (sheet .kinds) h4 in let u5 = part-steps sheet at (token sheet at is Dot3) in
+        elements-more = λ {at} h1 h2 h3 h4 h5. let u3 = item-steps sheet at (token sheet at is Dot3) in let w3 = item-reaches at (token sheet at is Dot3) h3 in let s4 = stands (sheet .kinds) h4 in
             settle (λ f le. rw (h1, h2, reads h3 f (omega arith), h4, reads h5 f (omega arith)));
         elements-last = λ {at} h1 h2 h3 h4. let u3 = item-steps sheet at (token sheet at is Dot3) in settle (λ f le. rw (h1, h2, reads h3 f (omega arith), h4) (simp append-nil));
         elements-open = λ {at} h1 h2 h3 h4 h5. let u3 = item-steps sheet at (token sheet at is Dot3) in settle (λ f le. rw (h1, h2, reads h3 f (omega arith), h4, h5));
         -- 13.2, the parts of an object
         properties-end = λ h1. settle (λ f le. rw h1);
         properties-fail = λ {at} h1 h2. let u2 = part-steps sheet at (token sheet at is Dot3) in settle (λ f le. rw (h1, reads h2 f (omega arith)));
-        properties-more = λ {at} h1 h2 h3 h4. let u2 = part-steps sheet at (token sheet at is Dot3) in let w2 = part-reaches at (token sheet at is Dot3) h2 in let s3 = stands (sheet .kinds) h3 in let u4 = part-steps sheet at (token sheet at is Dot3) in
+        properties-more = λ {at} h1 h2 h3 h4. let u2 = part-steps sheet at (token sheet at is Dot3) in let w2 = part-reaches at (token sheet at is Dot3) h2 in let s3 = stands (sheet .kinds) h3 in
             settle (λ f le. rw (h1, reads h2 f (omega arith), h3, reads h4 f (omega arith)));
         properties-last = λ {at} h1 h2 h3. let u2 = part-steps sheet at (token sheet at is Dot3) in settle (λ f le. rw (h1, reads h2 f (omega arith), h3) (simp append-nil));
         properties-open = λ {at} h1 h2 h3 h4. let u2 = part-steps sheet at (token sheet at is Dot3) in settle (λ f le. rw (h1, reads h2 f (omega arith), h3, h4));
