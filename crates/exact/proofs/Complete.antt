@@ -22,38 +22,22 @@ use Rattle.grammar.specs.Binary.{is-or-and}
 use Rattle.grammar.specs.Step.{plenty}
 use Rattle.laws.proofs.Settles.{in-plenty}
 use Rattle.grammar.specs.Reading.{plain, unconverteds, whole, reading}
-use Rattle.laws.proofs.Bounds.{bounded}
 use Rattle.laws.proofs.Good.{inside, whole-from, and-left, and-right}
 use Rattle.ecma262.specs.Derives as D
 use Rattle.exact.specs.Terminals.{tier-row, is-update, Line}
-use Rattle.exact.proofs.Terminals.{Of, Operator, name, word, literal, key, prefix, update, compound, line, operator}
+use Rattle.exact.proofs.Terminals.{Of, Operator, line, operator, as-read, compounds, keys, literal-tokens, names, unary, updates, words}
 use Rattle.ecma262.specs.Derives.{Tok, one-of, OneOf, SameLine, assignment-operators, Links, Nonterminal, ListOf, Elided, Elision, PrimaryExpression, LinkedExpression, UpdateExpression, UnaryExpression, TierExpression, ConditionalExpression, Expression, Binding, BindingElement, array-row, object-row, Derives, Derived}
-use Rattle.exact.proofs.Roots.{not-both, root-primary, root-update, root-unary, root-short-circuit, root-assignment, Each, each-one, each-more, Past, past}
+use Rattle.exact.proofs.Roots.{not-both, root-primary, root-update, root-unary, root-short-circuit, root-assignment, Each, each-one, each-more, Past, past, Shaped, in-brackets, in-braces, binding-shape}
 use Rattle.exact.proofs.Convert.{as-simple-target}
-use Rattle.exact.proofs.Clean.{says-nothing}
-use Rattle.exact.proofs.Bracketed.{Opening, Ends, kind-ends, test-ends, short-circuit-opening, simple-opening, target-opening}
-use Rattle.exact.proofs.Follow.{is-closer, Closed, test-not, closed-ends, Operand, as-start, operand-chain, operand-simple, operand-target, start-of-assignment, second-short-circuit, second-target, second-simple}
-use Rattle.exact.proofs.Rules as R
-use Rattle.exact.proofs.Rules.{Reads}
-use Rattle.exact.proofs.Parts.{ItemDone, PartDone, closed-paren, closed-bracket, array-empty-reads, array-list-reads, array-comma-reads, object-empty-reads, object-list-reads, object-comma-reads, ArgumentsDone, no-arguments-done, arguments-done, arguments-comma-done, ElementBound, RestBound, PropertyBound, RestPropertyBound, bound-array-empty, bound-array-rest, bound-array-list, bound-array-comma, bound-array-list-rest, bound-object-empty, bound-object-rest, bound-object-list, bound-object-comma, bound-object-list-rest, ParametersDone, no-parameters-done, rest-parameter-done, parameters-done, parameters-comma-done, parameters-rest-done, operand-small, not-prefix, not-update, update-unlinked, ChainDone, LeftDone, UnaryDone, primary-chain, member-chain, index-chain, call-chain, chain-left, left-unary, prefix-unary, TierDone, CoalesceDone, ShortDone, unary-tier, tier-down, operation-tier, power-tier, tier-head, coalesce-done, tier-short, coalesce-short, ValueDone, AssignmentDone, BodyDone, ExpressionDone, CommasDone, ParametersRead, FormalDone, closed-eq, short-value, conditional-value, past-value, arrow-done, name-read, parameters-read, async-parameters-read, async-name-read, first-commas, next-commas, sequence-done, no-comma-done, KeyDone, literal-key, computed-key, shorthand-part, cover-part, pair-part, spread-part, bound-shorthand, bound-shorthand-default, bound-pair}
+use Rattle.exact.proofs.Sound.{says-nothing}
+use Rattle.exact.proofs.Follow.{Opening, Ends, kind-ends, test-ends, short-circuit-opening, simple-opening, target-opening, is-closer, Closed, test-not, closed-ends, Operand, as-start, operand-chain, operand-simple, operand-target, start-of-assignment, second-short-circuit, second-target, second-simple, closed-by}
+use Rattle.exact.proofs.Parts.{Reads, plainly, binding-rest-done, ItemDone, PartDone, array-empty-reads, array-list-reads, array-comma-reads, object-empty-reads, object-list-reads, object-comma-reads, ArgumentsDone, no-arguments-done, arguments-done, arguments-comma-done, ElementBound, RestBound, PropertyBound, RestPropertyBound, bound-array-empty, bound-array-rest, bound-array-list, bound-array-comma, bound-array-list-rest, bound-object-empty, bound-object-rest, bound-object-list, bound-object-comma, bound-object-list-rest, ParametersDone, no-parameters-done, rest-parameter-done, parameters-done, parameters-comma-done, parameters-rest-done, operand-small, not-prefix, not-update, update-unlinked, ChainDone, LeftDone, UnaryDone, primary-chain, member-chain, index-chain, call-chain, chain-left, left-unary, prefix-unary, TierDone, CoalesceDone, ShortDone, unary-tier, tier-down, operation-tier, power-tier, tier-head, coalesce-done, tier-short, coalesce-short, ValueDone, AssignmentDone, BodyDone, ExpressionDone, CommasDone, ParametersRead, FormalDone, short-value, conditional-value, past-value, arrow-done, name-read, parameters-read, async-parameters-read, async-name-read, first-commas, next-commas, sequence-done, no-comma-done, KeyDone, literal-key, computed-key, shorthand-part, cover-part, pair-part, spread-part, bound-shorthand, bound-shorthand-default, bound-pair, closed-not}
 use Rattle.exact.proofs.Sources.{holes-array, SimpleDone, name-source, index-source, member-source, paren-source, TargetDone, PatternDone, simple-target, pattern-target, assign-source, compound-source, ElementDone, RestDone, assignment-item, spread-item, target-element-done, default-element-done, rest-done, array-empty-source, array-rest-source, array-list-source, array-comma-source, array-list-rest-source, PropertyDone, RestPropertyDone, shorthand-source, shorthand-default-source, pair-source, rest-property-source, object-empty-source, object-rest-source, object-list-source, object-comma-source, object-list-rest-source}
 
 -- KINDS OF ROWS
-array-low : (ts : Forest) → array-row ts ≤ 8
-unfolding array-row
-array-low ts = go (D.ends-in-spread ts)
-  where
-    go : (b : Bool) → (if b then Row.ArrayRestComma else Row.Array) ≤ 8
-    go true = omega arith
-    go false = omega arith
-
-object-low : (ts : Forest) → object-row ts ≤ 8
-unfolding object-row
-object-low ts = go (D.ends-in-spread ts)
-  where
-    go : (b : Bool) → (if b then Row.ObjectRestComma else Row.Object) ≤ 8
-    go true = omega arith
-    go false = omega arith
+either-low : (b : Bool) (k l : ℕ) → k ≤ 8 → l ≤ 8 → (if b then k else l) ≤ 18
+either-low true k l a c = omega arith
+either-low false k l a c = omega arith
 
 -- the row of an operand, and of an UpdateExpression: no Unary and no Logical
 record Low (ts : Forest) : Type 0 where
@@ -66,15 +50,16 @@ low kind mark first end kids h = record { no-unary = ne-eqb kind Row.Unary (λ e
 
 module _ {s : Sheet} where
   primary-low : {i j : ℕ} {ts : Forest} → Derives s PrimaryExpression i j ts → Low ts
+  unfolding array-row object-row
   primary-low (D.this t) = low _ _ _ _ _ (omega arith)
   primary-low (D.identifier t) = low _ _ _ _ _ (omega arith)
   primary-low (D.literal t) = low _ _ _ _ _ (omega arith)
   primary-low (D.array (D.array-empty o d c)) = low _ _ _ _ _ (omega arith)
   primary-low (D.array (D.array-list o d c)) = low _ _ _ _ _ (omega arith)
-  primary-low (D.array (D.array-comma {ts = ts} {us = us} o d t e c)) = let l = array-low (join ts us) in low _ _ _ _ _ (omega arith)
+  primary-low (D.array (D.array-comma {ts = ts} {us = us} o d t e c)) = low _ _ _ _ _ (either-low (D.ends-in-spread (join ts us)) Row.ArrayRestComma Row.Array (omega arith) (omega arith))
   primary-low (D.object (D.object-empty o c)) = low _ _ _ _ _ (omega arith)
   primary-low (D.object (D.object-list o d c)) = low _ _ _ _ _ (omega arith)
-  primary-low (D.object (D.object-comma {ts = ts} o d t c)) = let l = object-low ts in low _ _ _ _ _ (omega arith)
+  primary-low (D.object (D.object-comma {ts = ts} o d t c)) = low _ _ _ _ _ (either-low (D.ends-in-spread ts) Row.ObjectRestComma Row.Object (omega arith) (omega arith))
   primary-low (D.parenthesized o d c) = low _ _ _ _ _ (omega arith)
 
   chain-low : {c : Links} {i j : ℕ} {ts : Forest} → Derives s (LinkedExpression c) i j ts → Low ts
@@ -138,7 +123,7 @@ module _ {s : Sheet} where
 
   literal-reads : {i : ℕ} → Of is-literal s i → Reads s (J.primary i) (i + 1) (one (leaf Row.Literal i))
   unfolding is-literal is-name
-  literal-reads {i} n = R.primary-literal (nameless (is-name (token s i)) refl) (test-not (token s i) is-literal This refl (n .holds)) n
+  literal-reads {i} n = plainly .primary-literal (nameless (is-name (token s i)) refl) (test-not (token s i) is-literal This refl (n .holds)) (n .holds)
     where
       nameless : (b : Bool) → is-name (token s i) ≡ b → b ≡ false
       nameless false e = refl
@@ -150,16 +135,13 @@ module _ {s : Sheet} where
   empty-array-reads : {i p : ℕ} {ts : Forest} → Tok s i LBrack → Derives s Elision (i + 1) p ts → Tok s p RBrack → Reads s (J.primary i) (p + 1) (one (node Row.Array i i (p + 1) ts))
   empty-array-reads {i} {p} {ts} o d c = subst (λ (k : ℕ). Reads s (J.primary i) (p + 1) (one (node k i i (p + 1) ts))) (holes-array d) (array-empty-reads o d c)
 
-  call-done : {i p j : ℕ} {ts us : Forest} → ChainDone s i p ts → ArgumentsDone s p j us → ChainDone s i j (one (node Row.Call i i j (join ts us)))
-  call-done {ts = ts} x a = let w = bounded (a .reads 0 ts .settles) in call-chain x (omega arith) a
-
   postfix-done : {i p : ℕ} {ts : Forest} → Operand s i → SimpleDone s i p ts → Of is-update s p → SameLine s p → UnaryDone s i (p + 1) (one (node Row.PostfixUpdate p i (p + 1) ts))
   unfolding is-update is-update-operator
   postfix-done {i} {p} o x t l =
       let k = operand-small (token s i) (o .begins) in
       record {
         reads = λ _. rw (x .is-one)
-            (R.unary-postfix (not-prefix (token s i) k) (not-update (token s i) k) (R.postfix-update (x .left .reads (update-unlinked t)) (rw (t .holds, l .unbroken)) (x .turns as-simple-target)));
+            (plainly .unary-none (not-prefix (token s i) k) (not-update (token s i) k) (plainly .postfix-done (x .left .reads (update-unlinked t)) (rw (t .holds, l .unbroken)) (x .turns as-simple-target)));
       }
 
   prefix-done : {i j : ℕ} {ts : Forest} → Of is-update s i → SimpleDone s (i + 1) j ts → UnaryDone s i j (one (node Row.PrefixUpdate i i j ts))
@@ -167,7 +149,7 @@ module _ {s : Sheet} where
   prefix-done {i} t x =
       record {
         reads = λ e. rw (x .is-one)
-            (R.unary-update (inside s i is-update refl (t .holds)) (update-no-prefix (token s i) (t .holds)) (t .holds) (left-unary (x .left) .reads e) (x .turns as-simple-target));
+            (plainly .update-done (inside s i is-update refl (t .holds)) (update-no-prefix (token s i) (t .holds)) (t .holds) (left-unary (x .left) .reads e) (x .turns as-simple-target));
       }
 
   -- a token of one kind is of no other
@@ -176,31 +158,21 @@ module _ {s : Sheet} where
 
   -- bindings
   binding-start : {i j : ℕ} {ts : Forest} → Derives s Binding i j ts → (k : ℕ) → is-name k ≡ false → k is LBrack ≡ false → k is LCurly ≡ false → token s i is k ≡ false
-  binding-start {i} (D.binding-name n) k a b c = test-not (token s i) is-name k a (name n .holds)
-  binding-start (D.binding-pattern (D.binding-object-empty o _)) k a b c = kind-not k LCurly c o
-  binding-start (D.binding-pattern (D.binding-object-rest o _ _)) k a b c = kind-not k LCurly c o
-  binding-start (D.binding-pattern (D.binding-object-list o _ _)) k a b c = kind-not k LCurly c o
-  binding-start (D.binding-pattern (D.binding-object-comma o _ _ _)) k a b c = kind-not k LCurly c o
-  binding-start (D.binding-pattern (D.binding-object-list-rest o _ _ _ _)) k a b c = kind-not k LCurly c o
-  binding-start (D.binding-pattern (D.binding-array-empty o _ _)) k a b c = kind-not k LBrack b o
-  binding-start (D.binding-pattern (D.binding-array-rest o _ _)) k a b c = kind-not k LBrack b o
-  binding-start (D.binding-pattern (D.binding-array-list o _ _)) k a b c = kind-not k LBrack b o
-  binding-start (D.binding-pattern (D.binding-array-comma o _ _ _ _)) k a b c = kind-not k LBrack b o
-  binding-start (D.binding-pattern (D.binding-array-list-rest o _ _ _ _)) k a b c = kind-not k LBrack b o
+  binding-start {i} (D.binding-name n) k a b c = test-not (token s i) is-name k a (as-read names n .holds)
+  binding-start {i} (D.binding-pattern d) k a b c = by (binding-shape d)
+    where
+      by : {j : ℕ} {ts : Forest} → Shaped s Row.BindingArray Row.BindingObject i j ts → token s i is k ≡ false
+      by (in-brackets o) = kind-not k LBrack b o
+      by (in-braces o) = kind-not k LCurly c o
 
   binding-plain : {i j : ℕ} {ts : Forest} → Derives s Binding i j ts → kind-of (first-tree ts) is Row.BindingDefault ≡ false
   unfolding kind-of first-tree
   binding-plain (D.binding-name n) = refl
-  binding-plain (D.binding-pattern (D.binding-object-empty o c)) = refl
-  binding-plain (D.binding-pattern (D.binding-object-rest o d c)) = refl
-  binding-plain (D.binding-pattern (D.binding-object-list o d c)) = refl
-  binding-plain (D.binding-pattern (D.binding-object-comma o d t c)) = refl
-  binding-plain (D.binding-pattern (D.binding-object-list-rest o d t e c)) = refl
-  binding-plain (D.binding-pattern (D.binding-array-empty o d c)) = refl
-  binding-plain (D.binding-pattern (D.binding-array-rest o d c)) = refl
-  binding-plain (D.binding-pattern (D.binding-array-list o d c)) = refl
-  binding-plain (D.binding-pattern (D.binding-array-comma o d t e c)) = refl
-  binding-plain (D.binding-pattern (D.binding-array-list-rest o d t e c)) = refl
+  binding-plain (D.binding-pattern d) = by (binding-shape d)
+    where
+      by : {i j : ℕ} {ts : Forest} → Shaped s Row.BindingArray Row.BindingObject i j ts → kind-of (first-tree ts) is Row.BindingDefault ≡ false
+      by (in-brackets _) = refl
+      by (in-braces _) = refl
 
   bound-start : {i j k : ℕ} {ts us : Forest} → Derives s Binding i j ts → (Closed s k → Reads s (J.binding-element i) k us) → ElementBound s i k us
   unfolding is-name
@@ -208,14 +180,14 @@ module _ {s : Sheet} where
       record { reads = r; no-bracket = binding-start d RBrack refl refl refl; no-paren = binding-start d RParen refl refl refl; no-comma = binding-start d Comma refl refl refl; no-dots = binding-start d Dot3 refl refl refl }
 
   plain-bound : {i j : ℕ} {ts : Forest} → Derives s Binding i j ts → Reads s (J.binding i) j ts → ElementBound s i j ts
-  plain-bound d x = bound-start d (λ c. R.element-plain x (closed-eq c))
+  plain-bound d x = bound-start d (λ c. plainly .element-bare x (closed-not Eq refl c))
 
   default-bound : {i p j : ℕ} {ts us : Forest} → Derives s Binding i p ts → Reads s (J.binding i) p ts → Tok s p Eq → AssignmentDone s (p + 1) j us
       → ElementBound s i j (one (node Row.BindingDefault p i j (join ts us)))
-  default-bound d x t y = bound-start d (λ c. R.element-default x t (y .reads c))
+  default-bound d x t y = bound-start d (λ c. plainly .element-init x (t .kind-is) (y .reads c))
 
   rest-bound : {i j : ℕ} {ts : Forest} → Tok s i Dot3 → Derives s Binding (i + 1) j ts → Reads s (J.binding (i + 1)) j ts → RestBound s i j (one (node Row.BindingRest i i j ts))
-  rest-bound t d x = record { dots = t; reads = λ c. R.rest-done t (R.element-plain x (closed-eq c)) (binding-plain d) }
+  rest-bound t d x = record { dots = t; reads = λ c. binding-rest-done t (plainly .element-bare x (closed-not Eq refl c)) (binding-plain d) }
 
   rest-name-bound : {i : ℕ} → Tok s i Dot3 → Of is-name s (i + 1) → RestPropertyBound s i (i + 2) (one (node Row.BindingRest i i (i + 2) (one (leaf Row.BindingName (i + 1)))))
   unfolding kind-of kids-of first-tree
@@ -223,7 +195,7 @@ module _ {s : Sheet} where
       let e : i + 1 + 1 ≡ i + 2 = omega arith in
       record {
         dots = t;
-        reads = λ c. R.rest-done t (R.element-plain (subst (λ (m : ℕ). Reads s (J.binding (i + 1)) m (one (leaf Row.BindingName (i + 1)))) e (R.binding-name n)) (closed-eq c)) refl;
+        reads = λ c. binding-rest-done t (plainly .element-bare (subst (λ (m : ℕ). Reads s (J.binding (i + 1)) m (one (leaf Row.BindingName (i + 1)))) e (plainly .binding-name (n .holds))) (closed-not Eq refl c)) refl;
         is-name-only = refl;
       }
 
@@ -275,12 +247,12 @@ pub complete : {s : Sheet} {x : Nonterminal} {i j : ℕ} {ts : Forest} → Deriv
 complete (D.first-of-list d) = each-one (complete d)
 complete (D.next-of-list l t d) = each-more (complete l) t (complete d)
 complete (D.elided h d) = past h (complete d)
-complete (D.this t) = R.primary-this t
-complete (D.identifier n) = R.primary-name (name n)
-complete (D.literal n) = literal-reads (literal n)
+complete (D.this t) = plainly .primary-this (t .kind-is)
+complete (D.identifier n) = plainly .primary-name (as-read names n .holds)
+complete (D.literal n) = literal-reads (as-read literal-tokens n)
 complete (D.array d) = complete d
 complete (D.object d) = complete d
-complete (D.parenthesized o d c) = R.primary-paren o (complete d .reads (closed-paren c) (ap (λ (k : ℕ). k is Comma) (c .kind-is))) c
+complete (D.parenthesized o d c) = plainly .primary-paren (o .kind-is) (complete d .reads (closed-by _ refl c) (ap (λ (k : ℕ). k is Comma) (c .kind-is))) (c .kind-is)
 complete (D.array-empty o d c) = empty-array-reads o d c
 complete (D.array-list o d c) = array-list-reads o (complete d) c
 complete (D.array-comma o d t e c) = array-comma-reads o (complete d) t e c
@@ -292,25 +264,25 @@ complete (D.spread-element d) = complete d .0
 complete (D.object-empty o c) = object-empty-reads o c
 complete (D.object-list o d c) = object-list-reads o (complete d) c
 complete (D.object-comma o d t c) = object-comma-reads o (complete d) t c
-complete (D.shorthand n) = shorthand-part (name n)
-complete (D.cover-initialized n t d) = cover-part (name n) t (complete d)
+complete (D.shorthand n) = shorthand-part (as-read names n)
+complete (D.cover-initialized n t d) = cover-part (as-read names n) t (complete d)
 complete (D.property k t d) = pair-part (complete k) t (complete d)
 complete (D.spread-property d) = complete d .1
-complete (D.literal-name n) = literal-key (key n)
+complete (D.literal-name n) = literal-key (as-read keys n)
 complete (D.computed-name o d c) = computed-key o (complete d) c
 complete (D.primary d) = primary-chain (root-primary d .lone) (operand-chain (D.primary d)) (complete d)
-complete (D.index d o e c) = index-chain (complete d) o (complete e .reads (closed-bracket c) (ap (λ (k : ℕ). k is Comma) (c .kind-is))) c
-complete (D.member d o e) = member-chain (complete d) o (word e)
-complete (D.call d e) = call-done (complete d) (complete e)
+complete (D.index d o e c) = index-chain (complete d) o (complete e .reads (closed-by _ refl c) (ap (λ (k : ℕ). k is Comma) (c .kind-is))) c
+complete (D.member d o e) = member-chain (complete d) o (as-read words e)
+complete (D.call d e) = call-chain (complete d) (complete e)
 complete (D.linked d) = chain-left (complete d)
 complete (D.no-arguments o c) = no-arguments-done o c
 complete (D.arguments o d c) = arguments-done o (complete d) c
 complete (D.arguments-comma o d t c) = arguments-comma-done o (complete d) t c
 complete (D.left-hand-side d) = left-unary (complete d)
-complete (D.postfix d t l) = postfix-done (operand-simple d) (complete d) (update t) l
-complete (D.prefix t d) = prefix-done (update t) (complete d)
+complete (D.postfix d t l) = postfix-done (operand-simple d) (complete d) (as-read updates t) l
+complete (D.prefix t d) = prefix-done (as-read updates t) (complete d)
 complete (D.update d) = complete d
-complete (D.unary t d) = prefix-unary (prefix t) (complete d)
+complete (D.unary t d) = prefix-unary (as-read unary t) (complete d)
 complete (D.no-power d) = unary-tier (root-unary d .lone) (complete d)
 complete (D.power d t e) = power-tier (root-update d .lone) (complete d) (update-kind d) t (complete e)
 complete (D.no-operation l d) = looser-tier (line l) (complete d)
@@ -326,10 +298,10 @@ complete (D.no-assignment d) = past-value (conditional-opening d) (complete d)
 complete (D.arrow d t l e) = arrow-done (complete d) t l (complete e)
 complete (D.async-arrow d t l e) = arrow-done (complete d) t l (complete e)
 complete (D.assign d t e) = assign-source (second-target d) (target-opening d (kind-ends _ refl refl t)) (complete d) t (complete e)
-complete (D.compound-assign d t e) = compound-source (second-simple d) (simple-opening d (compound-ends t)) (complete d) (compound t) (complete e)
-complete (D.target-name n) = name-source (name n)
-complete (D.target-index d o e c) = index-source (complete d) o (complete e .reads (closed-bracket c) (ap (λ (k : ℕ). k is Comma) (c .kind-is))) c
-complete (D.target-member d o e) = member-source (complete d) o (word e)
+complete (D.compound-assign d t e) = compound-source (second-simple d) (simple-opening d (compound-ends t)) (complete d) (as-read compounds t) (complete e)
+complete (D.target-name n) = name-source (as-read names n)
+complete (D.target-index d o e c) = index-source (complete d) o (complete e .reads (closed-by _ refl c) (ap (λ (k : ℕ). k is Comma) (c .kind-is))) c
+complete (D.target-member d o e) = member-source (complete d) o (as-read words e)
 complete (D.target-parenthesized o d c) = paren-source o (second-simple d) (λ e. simple-opening d (closed-ends e)) (complete d) c
 complete (D.target-simple d) = simple-target (complete d)
 complete (D.target-pattern d) = pattern-target (complete d)
@@ -346,15 +318,15 @@ complete (D.target-object-list-rest o d t e c) = object-list-rest-source o (comp
 complete (D.target-element d) = target-element-done (as-start (operand-target d)) (second-target d) (λ e. target-opening d (closed-ends e)) (complete d)
 complete (D.target-default d t e) = default-element-done (as-start (operand-target d)) (assign-source (second-target d) (target-opening d (kind-ends _ refl refl t)) (complete d) t (complete e))
 complete (D.target-rest t d) = rest-done t (second-target d) (λ e. target-opening d (closed-ends e)) (complete d)
-complete (D.target-shorthand n) = shorthand-source (name n)
-complete (D.target-shorthand-default n t d) = shorthand-default-source (name n) t (root-assignment d .lone) (complete d)
+complete (D.target-shorthand n) = shorthand-source (as-read names n)
+complete (D.target-shorthand-default n t d) = shorthand-default-source (as-read names n) t (root-assignment d .lone) (complete d)
 complete (D.target-property k t d) = pair-source (complete k) t (complete d)
 complete (D.target-rest-property t d) = rest-property-source t (second-simple d) (λ e. simple-opening d (closed-ends e)) (complete d)
 complete (D.no-comma d) = no-comma-done (complete d)
 complete (D.sequence d) = sequence-done (complete d)
 complete (D.first-comma d t e) = first-commas (complete d) t (complete e)
 complete (D.next-comma d t e) = next-commas (complete d) t (complete e)
-complete (D.binding-name n) = R.binding-name (name n)
+complete (D.binding-name n) = plainly .binding-name (as-read names n .holds)
 complete (D.binding-pattern d) = complete d
 complete (D.binding-object-empty o c) = bound-object-empty o c
 complete (D.binding-object-rest o d c) = bound-object-rest o (complete d) c
@@ -369,20 +341,20 @@ complete (D.binding-array-list-rest o d t e c) = bound-array-list-rest o (comple
 complete (D.no-default d) = plain-bound d (complete d)
 complete (D.binding-default d t e) = default-bound d (complete d) t (complete e)
 complete (D.binding-rest t d) = rest-bound t d (complete d)
-complete (D.binding-shorthand n) = bound-shorthand (name n)
-complete (D.binding-shorthand-default n t d) = bound-shorthand-default (name n) t (complete d)
+complete (D.binding-shorthand n) = bound-shorthand (as-read names n)
+complete (D.binding-shorthand-default n t d) = bound-shorthand-default (as-read names n) t (complete d)
 complete (D.binding-property k t d) = bound-pair (complete k) t (complete d)
-complete (D.binding-rest-property t n) = rest-name-bound t (name n)
+complete (D.binding-rest-property t n) = rest-name-bound t (as-read names n)
 complete D.no-parameters = no-parameters-done
 complete (D.rest-parameter d) = rest-parameter-done (complete d)
 complete (D.parameters d) = parameters-done (complete d)
 complete (D.parameters-comma d t) = parameters-comma-done (complete d) t
 complete (D.parameters-rest d t e) = parameters-rest-done (complete d) t (complete e)
 complete (D.arrow-formal-parameters o d c) = record { opens = o; reads = complete d .reads c }
-complete (D.arrow-name n) = name-read (name n)
+complete (D.arrow-name n) = name-read (as-read names n)
 complete (D.arrow-parameters d) = parameters-read (complete d)
 complete (D.concise-body n d) = record { no-curly = n .other; reads = complete d .reads }
-complete (D.async-name t n l) = async-name-read t (name n) l
+complete (D.async-name t n l) = async-name-read t (as-read names n) l
 complete (D.async-parameters t l d) = async-parameters-read t l (complete d)
 
 -- THE STATEMENTS
@@ -391,7 +363,6 @@ past-the-end : (s : Sheet) → token s (length (s .kinds)) ≡ 0
 past-the-end s = List·getD-eq-default (s .kinds) 0 {n = length (s .kinds)} (omega arith)
 
 pub at-the-end : (s : Sheet) → Closed s (length (s .kinds))
-unfolding is-closer
 at-the-end s = record { closes = ap is-closer (past-the-end s) }
 
 pub not-comma : (s : Sheet) → token s (length (s .kinds)) is Comma ≡ false
@@ -403,11 +374,11 @@ module _ {s : Sheet} {t : Tree} where
   unfolding unconverteds
   complete-expression d =
       let r = complete (d .derivation) .reads (at-the-end s) (not-comma s) in
-      whole-from plain s (J.expression 0) tt (r .settles .with (plenty s) (in-plenty s (J.expression 0))) ∙ ap (λ (l : List Record). whole (one t) (l ++ []) tt) (says-nothing t (d .no-cover))
+      whole-from plain s (J.expression 0) tt (r .with (plenty s) (in-plenty s (J.expression 0))) ∙ ap (λ (l : List Record). whole (one t) (l ++ []) tt) (says-nothing t (d .no-cover))
 
   -- 14.3.3: the same of a BindingElement and the pattern entry
   pub complete-binding : Derived s BindingElement 0 (length (s .kinds)) t → reading plain s (J.binding-element 0) tt ≡ whole (one t) [] tt
   unfolding unconverteds
   complete-binding d =
       let r = complete (d .derivation) .reads (at-the-end s) in
-      whole-from plain s (J.binding-element 0) tt (r .settles .with (plenty s) (in-plenty s (J.binding-element 0))) ∙ ap (λ (l : List Record). whole (one t) (l ++ []) tt) (says-nothing t (d .no-cover))
+      whole-from plain s (J.binding-element 0) tt (r .with (plenty s) (in-plenty s (J.binding-element 0))) ∙ ap (λ (l : List Record). whole (one t) (l ++ []) tt) (says-nothing t (d .no-cover))

@@ -3,7 +3,7 @@
 use Prim.Native.Nat.{ℕ, zero, suc, _+_}
 use mathlib.Core.Path.{_≡_, refl, sym, ap, _∙_, subst}
 use mathlib.Core.Bool.{Bool, true, false, not}
-use mathlib.Core.List.{List, [], _∷_, _++_}
+use mathlib.Core.List.{List, [], _∷_, _++_, append-assoc, append-nil}
 use native.Mathlib.Omega.{arith}
 use lib.Dec.{eqb, leb}
 use borrow.Author.Tests.{ne-eqb}
@@ -21,9 +21,8 @@ use Rattle.grammar.specs.Sheet.{Sheet, leaf, first-tree}
 use Rattle.ecma262.specs.Derives as D
 use Rattle.exact.specs.Terminals.{tier-row}
 use Rattle.exact.proofs.Terminals.{line}
-use Rattle.ecma262.specs.Derives.{Tok, OneOf, identifiers, identifier-names, assignment-operators, Links, Nonterminal, ListOf, Elided, Elision, PropertyName, LinkedExpression, LeftHandSideExpression, UnaryExpression, ShortCircuitExpression, AssignmentExpression, SimpleTarget, AssignmentPattern, DestructuringAssignmentTarget, AssignmentElement, AssignmentRestElement, AssignmentProperty, AssignmentRestProperty, AssignmentElementList, AssignmentPropertyList, Expression, ends-in-spread, array-row, object-row, Derives}
-use Rattle.exact.proofs.Roots.{Root, not-both, root-assignment, root-expression, spread-last, Each, each-one, each-more, Past, past}
-use Rattle.exact.proofs.Means.{Silent, said, silent-left, silent-right}
+use Rattle.ecma262.specs.Derives.{Tok, OneOf, identifiers, identifier-names, assignment-operators, Links, Nonterminal, ListOf, Elided, Elision, PropertyName, LinkedExpression, LeftHandSideExpression, UnaryExpression, ShortCircuitExpression, AssignmentExpression, SimpleTarget, AssignmentPattern, DestructuringAssignmentTarget, AssignmentElement, AssignmentRestElement, AssignmentProperty, AssignmentRestProperty, Expression, ends-in-spread, array-row, object-row, Derives}
+use Rattle.exact.proofs.Roots.{Root, not-both, root-assignment, root-expression, spread-last, Each, each-one, each-more, Past, past, Silent, said, silent-left, silent-right}
 
 -- OUTCOMES
 -- a row that is turned over its kids
@@ -84,14 +83,6 @@ record Split (ts us : Forest) (f g : ℕ → Role) (vs : Forest) (records : List
   right-turns : convert-kids us f ≡ turned right right-said
   is-forest : vs ≡ join left right
   are : records ≡ left-said ++ right-said
-
-append-assoc : (a b c : List Record) → (a ++ b) ++ c ≡ a ++ (b ++ c)
-append-assoc [] b c = refl
-append-assoc (x ∷ a) b c = ap (λ (l : List Record). x ∷ l) (append-assoc a b c)
-
-append-nil : (a : List Record) → a ++ [] ≡ a
-append-nil [] = refl
-append-nil (x ∷ a) = ap (λ (l : List Record). x ∷ l) (append-nil a)
 
 split : (ts us : Forest) (f g : ℕ → Role) → ((n : ℕ) → f (n + count us) ≡ g n) → (vs : Forest) (records : List Record) → convert-kids (join ts us) f ≡ turned vs records → Split ts us f g vs records
 unfolding convert-kids join both
@@ -201,36 +192,24 @@ refuses kind mark first end kids h role x u records e =
 pub record Turns (s : Sheet) (i j : ℕ) (ts : Forest) : Type 0 where
   pub with : {role : Role} → Expected role → (u : Tree) (records : List Record) → convert-as (first-tree ts) role ≡ turned u records → Silent records → Derives s (aim role) i j (one u)
 
--- an element: in the middle, and as the last, where a Spread is a rest and the record of its comma fits
-data LastElement (s : Sheet) (i j : ℕ) (t : Tree) (comma : List Record) (u : Tree) : Type 0 where
-  last-plain : kind-of t is Row.Spread ≡ false → Derives s AssignmentElement i j (one u) → LastElement s i j t comma u
-  last-rest : kind-of t is Row.Spread ≡ true → Silent comma → Derives s AssignmentRestElement i j (one u) → LastElement s i j t comma u
+-- the last row of a literal: one more of them, or a Spread as a rest, where the record of its comma fits
+pub data LastKid (s : Sheet) (x rest : Nonterminal) (i j : ℕ) (spreads : Bool) (comma : List Record) (us : Forest) : Type 0 where
+  last-plain : spreads ≡ false → Derives s x i j us → LastKid s x rest i j spreads comma us
+  last-rest : spreads ≡ true → Silent comma → Derives s rest i j us → LastKid s x rest i j spreads comma us
 
-record ElementTurns (s : Sheet) (i j : ℕ) (ts : Forest) : Type 0 where
-  tree : Tree
-  is-one : ts ≡ one tree
-  in-middle : (u : Tree) (records : List Record) → convert-as tree element ≡ turned u records → Silent records → Derives s AssignmentElement i j (one u)
-  at-end : (comma : List Record) (u : Tree) (records : List Record) → convert-as tree (last-element comma) ≡ turned u records → Silent records → LastElement s i j tree comma u
+-- a row of a literal: in the middle, and as the last
+pub record KidTurns (x rest : Nonterminal) (middle : Role) (last : List Record → Role) (s : Sheet) (i j : ℕ) (ts : Forest) : Type 0 where
+  pub tree : Tree
+  pub is-one : ts ≡ one tree
+  pub in-middle : (u : Tree) (records : List Record) → convert-as tree middle ≡ turned u records → Silent records → Derives s x i j (one u)
+  pub at-end : (comma : List Record) (u : Tree) (records : List Record) → convert-as tree (last comma) ≡ turned u records → Silent records
+      → LastKid s x rest i j (kind-of tree is Row.Spread) comma (one u)
 
--- a list of elements
-data ElementsTurn (s : Sheet) (i : ℕ) : ℕ → Forest → Type 0 where
-  first-element : {p j : ℕ} (hs ts : Forest) → Derives s Elision i p hs → ElementTurns s p j ts → ElementsTurn s i j (join hs ts)
-  next-element : {p q j : ℕ} (ts hs us : Forest) → ElementsTurn s i p ts → Tok s p Comma → Derives s Elision (p + 1) q hs → ElementTurns s q j us → ElementsTurn s i j (join ts (join hs us))
+abbrev pub ElementTurns : Sheet → ℕ → ℕ → Forest → Type 0
+ElementTurns = KidTurns AssignmentElement AssignmentRestElement element last-element
 
--- a property: in the middle, and as the last
-data LastProperty (s : Sheet) (i j : ℕ) (t : Tree) (comma : List Record) (u : Tree) : Type 0 where
-  last-plain-property : kind-of t is Row.Spread ≡ false → Derives s AssignmentProperty i j (one u) → LastProperty s i j t comma u
-  last-rest-property : kind-of t is Row.Spread ≡ true → Silent comma → Derives s AssignmentRestProperty i j (one u) → LastProperty s i j t comma u
-
-record PropertyTurns (s : Sheet) (i j : ℕ) (ts : Forest) : Type 0 where
-  tree : Tree
-  is-one : ts ≡ one tree
-  in-middle : (u : Tree) (records : List Record) → convert-as tree property ≡ turned u records → Silent records → Derives s AssignmentProperty i j (one u)
-  at-end : (comma : List Record) (u : Tree) (records : List Record) → convert-as tree (last-property comma) ≡ turned u records → Silent records → LastProperty s i j tree comma u
-
-data PropertiesTurn (s : Sheet) (i : ℕ) : ℕ → Forest → Type 0 where
-  first-property : {j : ℕ} (ts : Forest) → PropertyTurns s i j ts → PropertiesTurn s i j ts
-  next-property : {p j : ℕ} (ts us : Forest) → PropertiesTurn s i p ts → Tok s p Comma → PropertyTurns s (p + 1) j us → PropertiesTurn s i j (join ts us)
+abbrev pub PropertyTurns : Sheet → ℕ → ℕ → Forest → Type 0
+PropertyTurns = KidTurns AssignmentProperty AssignmentRestProperty property last-property
 
 -- ELEMENTS
 -- roles in which a hole stays
@@ -251,6 +230,10 @@ holey comma (suc n) = rw (ne-eqb (suc n) 0 (λ e. omega arith)) holey-middle
 pub followed : (comma : List Record) (more : ℕ) (n : ℕ) → elements comma (n + suc more) ≡ element
 followed comma more n = rw (ne-eqb (n + suc more) 0 (λ e. omega arith))
 
+-- and so is a property
+pub followed-property : (comma : List Record) (n : ℕ) → properties comma (n + 1) ≡ property
+followed-property comma n = rw (ne-eqb (n + 1) 0 (λ e. omega arith))
+
 module _ {s : Sheet} where
   holes-stay : {i j : ℕ} {hs : Forest} → Derives s Elision i j hs → (f : ℕ → Role) → ((n : ℕ) → Holey (f n)) → (us : Forest) (records : List Record) → convert-kids hs f ≡ turned us records → us ≡ hs
   unfolding convert-kids count
@@ -262,17 +245,6 @@ module _ {s : Sheet} where
       let b = kept (sym (hole-stays p (h 0)) ∙ q .turns) in
       r .is-forest ∙ ap (λ (x : Forest). join x (r .right)) a ∙ ap (join ts) (q .is-forest ∙ ap one (b .is-row))
 
-  -- an element after holes, in the middle
-  middle-turns : {i p j : ℕ} (hs ts : Forest) → Derives s Elision i p hs → ElementTurns s p j ts → (us : Forest) (records : List Record)
-      → convert-kids (join hs ts) (only element) ≡ turned us records → Silent records → Derives s (Elided AssignmentElement) i j us
-  middle-turns hs ts h x us records e f =
-      let r = split hs ts (only element) (only element) (λ n. refl) us records e in
-      let a = holes-stay h (only element) (λ n. holey-middle) (r .left) (r .left-said) (r .left-turns) in
-      let q = single (x .tree) (only element) (r .right) (r .right-said) (ap (λ (v : Forest). convert-kids v (only element)) (sym (x .is-one)) ∙ r .right-turns) in
-      let g : Silent (r .left-said ++ r .right-said) = subst Silent (r .are) f in
-      let d = x .in-middle (q .into) (r .right-said) (q .turns) (silent-right (r .left-said) (r .right-said) g) in
-      rw (r .is-forest, a, q .is-forest) (D.elided h d)
-
 one-count : {ts : Forest} (t : Tree) → ts ≡ one t → count ts ≡ 1
 unfolding count
 one-count t e = rw e
@@ -280,64 +252,129 @@ one-count t e = rw e
 ends : (hs ts : Forest) (t : Tree) → ts ≡ one t → ends-in-spread (join hs ts) ≡ kind-of t is Row.Spread
 ends hs ts t e = ap (λ (v : Forest). ends-in-spread (join hs v)) e ∙ spread-last hs t
 
--- and as the last
-data LastElided (s : Sheet) (i j : ℕ) (t : Tree) (comma : List Record) (us : Forest) : Type 0 where
-  last-elided : kind-of t is Row.Spread ≡ false → Derives s (Elided AssignmentElement) i j us → LastElided s i j t comma us
-  last-elided-rest : kind-of t is Row.Spread ≡ true → Silent comma → Derives s (Elided AssignmentRestElement) i j us → LastElided s i j t comma us
+lone-ends : (ts : Forest) (t : Tree) → ts ≡ one t → ends-in-spread ts ≡ kind-of t is Row.Spread
+unfolding join
+lone-ends ts t e = ends nil ts t e
 
--- a list of elements of which the last closes the literal
-data LastList (s : Sheet) (i j : ℕ) (ts : Forest) (comma : List Record) (us : Forest) : Type 0 where
-  plain-list : ends-in-spread ts ≡ false → Derives s AssignmentElementList i j us → LastList s i j ts comma us
-  rest-only : ends-in-spread ts ≡ true → Silent comma → Derives s (Elided AssignmentRestElement) i j us → LastList s i j ts comma us
-  rest-after : (p : ℕ) (xs ys : Forest) → ends-in-spread ts ≡ true → Silent comma → Derives s AssignmentElementList i p xs → Tok s p Comma
-      → Derives s (Elided AssignmentRestElement) (p + 1) j ys → us ≡ join xs ys → LastList s i j ts comma us
+-- LISTS
+-- what stands in the list of a literal: its roles, what it becomes in the middle and as the last, and that only the last tells whether the list ends in a Spread
+record Kids (s : Sheet) (x rest : Nonterminal) (middle : Role) (last : List Record → ℕ → Role) (Kid : ℕ → ℕ → Forest → Type 0) : Type 0 where
+  in-middle : {i j : ℕ} {ts : Forest} → Kid i j ts → (us : Forest) (records : List Record) → convert-kids ts (only middle) ≡ turned us records → Silent records → Derives s x i j us
+  at-end : {i j : ℕ} {ts : Forest} → Kid i j ts → (comma : List Record) (us : Forest) (records : List Record) → convert-kids ts (last comma) ≡ turned us records → Silent records
+      → LastKid s x rest i j (ends-in-spread ts) comma us
+  goes-before : {i j : ℕ} {ts : Forest} → Kid i j ts → (comma : List Record) (n : ℕ) → last comma (n + count ts) ≡ middle
+  spreads : {i j : ℕ} {us : Forest} → Kid i j us → (ts : Forest) → ends-in-spread (join ts us) ≡ ends-in-spread us
+
+-- a list of which the last closes the literal
+data LastList (s : Sheet) (x rest : Nonterminal) (i j : ℕ) (spreads : Bool) (comma : List Record) (us : Forest) : Type 0 where
+  plain-list : spreads ≡ false → Derives s (ListOf x) i j us → LastList s x rest i j spreads comma us
+  rest-only : spreads ≡ true → Silent comma → Derives s rest i j us → LastList s x rest i j spreads comma us
+  rest-after : (p : ℕ) (xs ys : Forest) → spreads ≡ true → Silent comma → Derives s (ListOf x) i p xs → Tok s p Comma → Derives s rest (p + 1) j ys → us ≡ join xs ys
+      → LastList s x rest i j spreads comma us
+
+module _ {s : Sheet} {x rest : Nonterminal} {i j : ℕ} {spreads : Bool} {us : Forest} where
+  -- before a comma that closes, a list ends in no Spread
+  open-list : {comma : List Record} → spreads ≡ false → LastList s x rest i j spreads comma us → Derives s (ListOf x) i j us
+  open-list b (plain-list n l) = l
+  open-list b (rest-only n c l) = absurd (not-both n b)
+  open-list b (rest-after q xs ys n c l t r e) = absurd (not-both n b)
+
+  closed-list : {r : Record} → spreads ≡ true → LastList s x rest i j spreads (r ∷ []) us → ⊥
+  closed-list b (plain-list n l) = not-both b n
+  closed-list b (rest-only n c l) = said c
+  closed-list b (rest-after q xs ys n c l t r e) = said c
+
+module _ {s : Sheet} {x rest : Nonterminal} {middle : Role} {last : List Record → ℕ → Role} {Kid : ℕ → ℕ → Forest → Type 0} (k : Kids s x rest middle last Kid) where
+  list-middle : {i j : ℕ} {ts : Forest} → Each s Kid i j ts → (us : Forest) (records : List Record) → convert-kids ts (only middle) ≡ turned us records → Silent records
+      → Derives s (ListOf x) i j us
+  list-middle (each-one d) us records e f = D.first-of-list (k .in-middle d us records e f)
+  list-middle (each-more {ts = ts} {us = vs} l t d) us records e f =
+      let r = split ts vs (only middle) (only middle) (λ n. refl) us records e in
+      let g : Silent (r .left-said ++ r .right-said) = subst Silent (r .are) f in
+      rw (r .is-forest)
+      (D.next-of-list (list-middle l (r .left) (r .left-said) (r .left-turns) (silent-left (r .left-said) (r .right-said) g)) t
+      (k .in-middle d (r .right) (r .right-said) (r .right-turns) (silent-right (r .left-said) (r .right-said) g)))
+
+  list-last : {i j : ℕ} {ts : Forest} → Each s Kid i j ts → (comma : List Record) (us : Forest) (records : List Record) → convert-kids ts (last comma) ≡ turned us records → Silent records
+      → LastList s x rest i j (ends-in-spread ts) comma us
+  list-last {i} {j} (each-one d) comma us records e f = go (k .at-end d comma us records e f)
+    where
+      go : {b : Bool} → LastKid s x rest i j b comma us → LastList s x rest i j b comma us
+      go (last-plain n d) = plain-list n (D.first-of-list d)
+      go (last-rest n c d) = rest-only n c d
+  list-last {i} {j} (each-more {p = p} {ts = ts} {us = vs} l t d) comma us records e f =
+      let r = split ts vs (last comma) (only middle) (k .goes-before d comma) us records e in
+      let g : Silent (r .left-said ++ r .right-said) = subst Silent (r .are) f in
+      rw (k .spreads d ts)
+      (go (r .left) (r .right) (r .is-forest) (list-middle l (r .left) (r .left-said) (r .left-turns) (silent-left (r .left-said) (r .right-said) g))
+      (k .at-end d comma (r .right) (r .right-said) (r .right-turns) (silent-right (r .left-said) (r .right-said) g)))
+    where
+      go : {b : Bool} (ls rs : Forest) → us ≡ join ls rs → Derives s (ListOf x) i p ls → LastKid s x rest (p + 1) j b comma rs → LastList s x rest i j b comma us
+      go ls rs q l (last-plain n d) = plain-list n (rw q (D.next-of-list l t d))
+      go ls rs q l (last-rest n c d) = rest-after p ls rs n c l t d q
+
+suc-last : (n : ℕ) → n + 1 ≡ suc n
+suc-last n = omega arith
 
 module _ {s : Sheet} where
-  last-turns : {i p j : ℕ} (hs ts : Forest) → Derives s Elision i p hs → (x : ElementTurns s p j ts) → (comma : List Record) (us : Forest) (records : List Record)
-      → convert-kids (join hs ts) (elements comma) ≡ turned us records → Silent records → LastElided s i j (x .tree) comma us
-  last-turns {i} {p} {j} hs ts h x comma us records e f =
+  -- an element after holes, in the middle and as the last
+  element-middle : {i j : ℕ} {ts : Forest} → Past s (ElementTurns s) i j ts → (us : Forest) (records : List Record) → convert-kids ts (only element) ≡ turned us records → Silent records
+      → Derives s (Elided AssignmentElement) i j us
+  element-middle (past {hs = hs} {ts = ts} h x) us records e f =
+      let r = split hs ts (only element) (only element) (λ n. refl) us records e in
+      let a = holes-stay h (only element) (λ n. holey-middle) (r .left) (r .left-said) (r .left-turns) in
+      let q = single (x .tree) (only element) (r .right) (r .right-said) (ap (λ (v : Forest). convert-kids v (only element)) (sym (x .is-one)) ∙ r .right-turns) in
+      let g : Silent (r .left-said ++ r .right-said) = subst Silent (r .are) f in
+      let d = x .in-middle (q .into) (r .right-said) (q .turns) (silent-right (r .left-said) (r .right-said) g) in
+      rw (r .is-forest, a, q .is-forest) (D.elided h d)
+
+  element-last : {i j : ℕ} {ts : Forest} → Past s (ElementTurns s) i j ts → (comma : List Record) (us : Forest) (records : List Record) → convert-kids ts (elements comma) ≡ turned us records
+      → Silent records → LastKid s (Elided AssignmentElement) (Elided AssignmentRestElement) i j (ends-in-spread ts) comma us
+  element-last {i} {j} (past {p = p} {hs = hs} {ts = ts} h x) comma us records e f =
       let r = split hs ts (elements comma) (only element) (λ n. ap (λ (m : ℕ). elements comma (n + m)) (one-count (x .tree) (x .is-one)) ∙ followed comma 0 n) us records e in
       let a = holes-stay h (only element) (λ n. holey-middle) (r .left) (r .left-said) (r .left-turns) in
       let q = single (x .tree) (elements comma) (r .right) (r .right-said) (ap (λ (v : Forest). convert-kids v (elements comma)) (sym (x .is-one)) ∙ r .right-turns) in
       let g : Silent (r .left-said ++ r .right-said) = subst Silent (r .are) f in
-      go (r .is-forest ∙ ap (λ (v : Forest). join v (r .right)) a ∙ ap (join hs) (q .is-forest)) (x .at-end comma (q .into) (r .right-said) (q .turns) (silent-right (r .left-said) (r .right-said) g))
+      rw (ends hs ts (x .tree) (x .is-one))
+      (go (r .is-forest ∙ ap (λ (v : Forest). join v (r .right)) a ∙ ap (join hs) (q .is-forest)) (x .at-end comma (q .into) (r .right-said) (q .turns) (silent-right (r .left-said) (r .right-said) g)))
     where
-      go : {u : Tree} → us ≡ join hs (one u) → LastElement s p j (x .tree) comma u → LastElided s i j (x .tree) comma us
-      go q (last-plain k d) = last-elided k (rw q (D.elided h d))
-      go q (last-rest k c d) = last-elided-rest k c (rw q (D.elided h d))
+      go : {b : Bool} {u : Tree} → us ≡ join hs (one u) → LastKid s AssignmentElement AssignmentRestElement p j b comma (one u)
+          → LastKid s (Elided AssignmentElement) (Elided AssignmentRestElement) i j b comma us
+      go q (last-plain n d) = last-plain n (rw q (D.elided h d))
+      go q (last-rest n c d) = last-rest n c (rw q (D.elided h d))
 
-  elements-middle : {i j : ℕ} {ts : Forest} → ElementsTurn s i j ts → (us : Forest) (records : List Record) → convert-kids ts (only element) ≡ turned us records → Silent records
-      → Derives s AssignmentElementList i j us
-  elements-middle (first-element hs ts h x) us records e f = D.first-of-list (middle-turns hs ts h x us records e f)
-  elements-middle (next-element ts hs vs d t h x) us records e f =
-      let r = split ts (join hs vs) (only element) (only element) (λ n. refl) us records e in
-      let g : Silent (r .left-said ++ r .right-said) = subst Silent (r .are) f in
-      rw (r .is-forest)
-      (D.next-of-list (elements-middle d (r .left) (r .left-said) (r .left-turns) (silent-left (r .left-said) (r .right-said) g)) t
-      (middle-turns hs vs h x (r .right) (r .right-said) (r .right-turns) (silent-right (r .left-said) (r .right-said) g)))
+  element-before : {i j : ℕ} {ts : Forest} → Past s (ElementTurns s) i j ts → (comma : List Record) (n : ℕ) → elements comma (n + count ts) ≡ element
+  element-before (past {hs = hs} {ts = ts} h x) comma n =
+      ap (λ (m : ℕ). elements comma (n + m)) (count-join hs ts ∙ ap (λ (m : ℕ). count hs + m) (one-count (x .tree) (x .is-one)) ∙ suc-last (count hs)) ∙ followed comma (count hs) n
 
-  elements-last : {i j : ℕ} {ts : Forest} → ElementsTurn s i j ts → (comma : List Record) (us : Forest) (records : List Record) → convert-kids ts (elements comma) ≡ turned us records
-      → Silent records → LastList s i j ts comma us
-  elements-last {i} {j} (first-element hs ts h x) comma us records e f = go (last-turns hs ts h x comma us records e f)
-    where
-      go : LastElided s i j (x .tree) comma us → LastList s i j (join hs ts) comma us
-      go (last-elided k d) = plain-list (ends hs ts (x .tree) (x .is-one) ∙ k) (D.first-of-list d)
-      go (last-elided-rest k c d) = rest-only (ends hs ts (x .tree) (x .is-one) ∙ k) c d
-  elements-last {i} {j} (next-element {p = p} ts hs vs d t h x) comma us records e f =
-      let r = split ts (join hs vs) (elements comma) (only element) (λ n. ap (λ (m : ℕ). elements comma (n + m)) (count-join hs vs ∙ ap (λ (m : ℕ). count hs + m) (one-count (x .tree) (x .is-one)) ∙ suc-last (count hs)) ∙ followed comma (count hs) n) us records e in
-      let g : Silent (r .left-said ++ r .right-said) = subst Silent (r .are) f in
-      go (r .left) (r .right) (r .is-forest) (elements-middle d (r .left) (r .left-said) (r .left-turns) (silent-left (r .left-said) (r .right-said) g))
-      (last-turns hs vs h x comma (r .right) (r .right-said) (r .right-turns) (silent-right (r .left-said) (r .right-said) g))
-    where
-      suc-last : (n : ℕ) → n + 1 ≡ suc n
-      suc-last n = omega arith
+  element-spreads : {i j : ℕ} {us : Forest} → Past s (ElementTurns s) i j us → (ts : Forest) → ends-in-spread (join ts us) ≡ ends-in-spread us
+  element-spreads (past {hs = hs} {ts = us} h x) ts =
+      ap ends-in-spread (sym (join-assoc ts hs us)) ∙ ends (join ts hs) us (x .tree) (x .is-one) ∙ sym (ends hs us (x .tree) (x .is-one))
 
-      spreads : ends-in-spread (join ts (join hs vs)) ≡ kind-of (x .tree) is Row.Spread
-      spreads = ap ends-in-spread (sym (join-assoc ts hs vs)) ∙ ends (join ts hs) vs (x .tree) (x .is-one)
+  in-arrays : Kids s (Elided AssignmentElement) (Elided AssignmentRestElement) element elements (Past s (ElementTurns s))
+  in-arrays = record { in-middle = λ d. element-middle d; at-end = λ d. element-last d; goes-before = λ d. element-before d; spreads = λ d. element-spreads d }
 
-      go : (ls rs : Forest) → us ≡ join ls rs → Derives s AssignmentElementList i p ls → LastElided s (p + 1) j (x .tree) comma rs → LastList s i j (join ts (join hs vs)) comma us
-      go ls rs q l (last-elided k d) = plain-list (spreads ∙ k) (rw q (D.next-of-list l t d))
-      go ls rs q l (last-elided-rest k c d) = rest-after p ls rs (spreads ∙ k) c l t d q
+  -- a property, in the middle and as the last
+  property-middle : {i j : ℕ} {ts : Forest} → PropertyTurns s i j ts → (us : Forest) (records : List Record) → convert-kids ts (only property) ≡ turned us records → Silent records
+      → Derives s AssignmentProperty i j us
+  property-middle x us records e f =
+      let q = single (x .tree) (only property) us records (ap (λ (v : Forest). convert-kids v (only property)) (sym (x .is-one)) ∙ e) in
+      rw (q .is-forest) (x .in-middle (q .into) records (q .turns) f)
+
+  property-last : {i j : ℕ} {ts : Forest} → PropertyTurns s i j ts → (comma : List Record) (us : Forest) (records : List Record) → convert-kids ts (properties comma) ≡ turned us records
+      → Silent records → LastKid s AssignmentProperty AssignmentRestProperty i j (ends-in-spread ts) comma us
+  property-last {ts = ts} x comma us records e f =
+      let q = single (x .tree) (properties comma) us records (ap (λ (v : Forest). convert-kids v (properties comma)) (sym (x .is-one)) ∙ e) in
+      rw (lone-ends ts (x .tree) (x .is-one), q .is-forest) (x .at-end comma (q .into) records (q .turns) f)
+
+  property-before : {i j : ℕ} {ts : Forest} → PropertyTurns s i j ts → (comma : List Record) (n : ℕ) → properties comma (n + count ts) ≡ property
+  property-before x comma n = ap (λ (m : ℕ). properties comma (n + m)) (one-count (x .tree) (x .is-one)) ∙ followed-property comma n
+
+  property-spreads : {i j : ℕ} {us : Forest} → PropertyTurns s i j us → (ts : Forest) → ends-in-spread (join ts us) ≡ ends-in-spread us
+  property-spreads {us = us} x ts = ends ts us (x .tree) (x .is-one) ∙ sym (lone-ends us (x .tree) (x .is-one))
+
+  in-objects : Kids s AssignmentProperty AssignmentRestProperty property properties (PropertyTurns s)
+  in-objects = record { in-middle = λ d. property-middle d; at-end = λ d. property-last d; goes-before = λ d. property-before d; spreads = λ d. property-spreads d }
 
   -- LITERALS
   -- a literal that in each role but one is turned over its kids is an AssignmentPattern
@@ -407,38 +444,30 @@ module _ {s : Sheet} where
       array-turns i i (p + 1) ts (λ us records e f. let q = holes-stay d (elements []) (holey []) us records e in rw q (D.target-array-empty o d c))
 
   -- [ ElementList ]
-  list-array-turns : {i p : ℕ} {ts : Forest} → Tok s i LBrack → ElementsTurn s (i + 1) p ts → Tok s p RBrack → Turns s i (p + 1) (one (node Row.Array i i (p + 1) ts))
-  list-array-turns {i} {p} {ts} o d c = array-turns i i (p + 1) ts (λ us records e f. go us (elements-last d [] us records e f))
+  list-array-turns : {i p : ℕ} {ts : Forest} → Tok s i LBrack → Each s (Past s (ElementTurns s)) (i + 1) p ts → Tok s p RBrack → Turns s i (p + 1) (one (node Row.Array i i (p + 1) ts))
+  list-array-turns {i} {p} {ts} o d c = array-turns i i (p + 1) ts (λ us records e f. go us (list-last in-arrays d [] us records e f))
     where
-      go : (us : Forest) → LastList s (i + 1) p ts [] us → Derives s AssignmentPattern i (p + 1) (one (node Row.TargetArray i i (p + 1) us))
+      go : (us : Forest) → LastList s (Elided AssignmentElement) (Elided AssignmentRestElement) (i + 1) p (ends-in-spread ts) [] us → Derives s AssignmentPattern i (p + 1) (one (node Row.TargetArray i i (p + 1) us))
       go us (plain-list n l) = D.target-array-list o l c
       go us (rest-only n x l) = D.target-array-rest o l c
       go us (rest-after q xs ys n x l t r e) = rw e (D.target-array-list-rest o l t r c)
 
   -- [ ElementList , ]
-  comma-array-turns : {i p : ℕ} (ts : Forest) → Tok s i LBrack → ElementsTurn s (i + 1) p ts → Tok s p Comma → Tok s (p + 1) RBrack
+  comma-array-turns : {i p : ℕ} (ts : Forest) → Tok s i LBrack → Each s (Past s (ElementTurns s)) (i + 1) p ts → Tok s p Comma → Tok s (p + 1) RBrack
       → Turns s i (p + 1 + 1) (one (node (array-row ts) i i (p + 1 + 1) ts))
   unfolding array-row
   comma-array-turns {i} {p} ts o d t c = by (ends-in-spread ts) refl
     where
-      open-pattern : ends-in-spread ts ≡ false → (us : Forest) → LastList s (i + 1) p ts [] us → Derives s AssignmentPattern i (p + 1 + 1) (one (node Row.TargetArray i i (p + 1 + 1) us))
-      open-pattern b us (plain-list n l) =
-          subst (λ (v : Forest). Derives s AssignmentPattern i (p + 1 + 1) (one (node Row.TargetArray i i (p + 1 + 1) v))) (join-nil us) (D.target-array-comma o l t D.no-elision c)
-      open-pattern b us (rest-only n x l) = absurd (not-both n b)
-      open-pattern b us (rest-after q xs ys n x l t′ r e) = absurd (not-both n b)
-
-      closed-pattern : ends-in-spread ts ≡ true → (us : Forest) → LastList s (i + 1) p ts (rest-comma i ∷ []) us → Derives s AssignmentPattern i (p + 1 + 1) (one (node Row.TargetArray i i (p + 1 + 1) us))
-      closed-pattern b us (plain-list n l) = absurd (not-both b n)
-      closed-pattern b us (rest-only n x l) = absurd (said x)
-      closed-pattern b us (rest-after q xs ys n x l t′ r e) = absurd (said x)
-
       by : (b : Bool) → ends-in-spread ts ≡ b → Turns s i (p + 1 + 1) (one (node (if b then Row.ArrayRestComma else Row.Array) i i (p + 1 + 1) ts))
       by true b =
-          array-closed-turns i i (p + 1 + 1) ts (sym (spread-is-last ts) ∙ b) (λ us records e f. closed-pattern b us (elements-last d (rest-comma i ∷ []) us records e f))
-      by false b = array-turns i i (p + 1 + 1) ts (λ us records e f. open-pattern b us (elements-last d [] us records e f))
+          array-closed-turns i i (p + 1 + 1) ts (sym (spread-is-last ts) ∙ b) (λ us records e f. absurd (closed-list b (list-last in-arrays d (rest-comma i ∷ []) us records e f)))
+      by false b =
+          array-turns i i (p + 1 + 1) ts
+          (λ us records e f. subst (λ (v : Forest). Derives s AssignmentPattern i (p + 1 + 1) (one (node Row.TargetArray i i (p + 1 + 1) v))) (join-nil us)
+          (D.target-array-comma o (open-list b (list-last in-arrays d [] us records e f)) t D.no-elision c))
 
   -- [ ElementList , Elision opt ]
-  elision-array-turns : {i p q : ℕ} {ts us : Forest} → Tok s i LBrack → ElementsTurn s (i + 1) p ts → Tok s p Comma → Derives s Elision (p + 1) q us → Tok s q RBrack
+  elision-array-turns : {i p q : ℕ} {ts us : Forest} → Tok s i LBrack → Each s (Past s (ElementTurns s)) (i + 1) p ts → Tok s p Comma → Derives s Elision (p + 1) q us → Tok s q RBrack
       → Turns s i (q + 1) (one (node (array-row (join ts us)) i i (q + 1) (join ts us)))
   unfolding array-row kind-of count
   elision-array-turns {ts = ts} o d t D.no-elision c = rw (join-nil ts) (comma-array-turns ts o d t c)
@@ -449,73 +478,14 @@ module _ {s : Sheet} where
       rw b (array-turns i i (r + 1 + 1) (join ts (join hs hole))
       (λ us records e f. go us (split ts (join hs hole) (elements []) (only element) (λ n. ap (λ (m : ℕ). elements [] (n + m)) k ∙ followed [] (count hs) n) us records e) f))
     where
-      suc-last : (n : ℕ) → n + 1 ≡ suc n
-      suc-last n = omega arith
-
       go : {records : List Record} (us : Forest) → (x : Split ts (join hs (one (leaf Row.Hole r))) (elements []) (only element) us records)
           → Silent records → Derives s AssignmentPattern i (r + 1 + 1) (one (node Row.TargetArray i i (r + 1 + 1) us))
       go us x f =
-          let l = elements-middle d (x .left) (x .left-said) (x .left-turns) (silent-left (x .left-said) (x .right-said) (subst Silent (x .are) f)) in
+          let l = list-middle in-arrays d (x .left) (x .left-said) (x .left-turns) (silent-left (x .left-said) (x .right-said) (subst Silent (x .are) f)) in
           let q = holes-stay (D.elision h u) (elements []) (holey []) (x .right) (x .right-said) (x .right-turns) in
           rw (x .is-forest, q) (D.target-array-comma o l t (D.elision h u) c)
 
--- PROPERTIES
--- a list of properties of which the last closes the literal
-data LastProperties (s : Sheet) (i j : ℕ) (ts : Forest) (comma : List Record) (us : Forest) : Type 0 where
-  plain-properties : ends-in-spread ts ≡ false → Derives s AssignmentPropertyList i j us → LastProperties s i j ts comma us
-  rest-property-only : ends-in-spread ts ≡ true → Silent comma → Derives s AssignmentRestProperty i j us → LastProperties s i j ts comma us
-  rest-property-after : (p : ℕ) (xs ys : Forest) → ends-in-spread ts ≡ true → Silent comma → Derives s AssignmentPropertyList i p xs → Tok s p Comma
-      → Derives s AssignmentRestProperty (p + 1) j ys → us ≡ join xs ys → LastProperties s i j ts comma us
-
--- a property that another follows is in the middle
-pub followed-property : (comma : List Record) (n : ℕ) → properties comma (n + 1) ≡ property
-followed-property comma n = rw (ne-eqb (n + 1) 0 (λ e. omega arith))
-
-lone-ends : (ts : Forest) (t : Tree) → ts ≡ one t → ends-in-spread ts ≡ kind-of t is Row.Spread
-unfolding join
-lone-ends ts t e = ends nil ts t e
-
 module _ {s : Sheet} where
-  property-in-middle : {i j : ℕ} {ts : Forest} → (x : PropertyTurns s i j ts) → (us : Forest) (records : List Record) → convert-kids ts (only property) ≡ turned us records → Silent records
-      → Derives s AssignmentProperty i j us
-  property-in-middle x us records e f =
-      let q = single (x .tree) (only property) us records (ap (λ (v : Forest). convert-kids v (only property)) (sym (x .is-one)) ∙ e) in
-      rw (q .is-forest) (x .in-middle (q .into) records (q .turns) f)
-
-  properties-middle : {i j : ℕ} {ts : Forest} → PropertiesTurn s i j ts → (us : Forest) (records : List Record) → convert-kids ts (only property) ≡ turned us records → Silent records
-      → Derives s AssignmentPropertyList i j us
-  properties-middle (first-property ts x) us records e f = D.first-of-list (property-in-middle x us records e f)
-  properties-middle (next-property ts vs d t x) us records e f =
-      let r = split ts vs (only property) (only property) (λ n. refl) us records e in
-      let g : Silent (r .left-said ++ r .right-said) = subst Silent (r .are) f in
-      rw (r .is-forest)
-      (D.next-of-list (properties-middle d (r .left) (r .left-said) (r .left-turns) (silent-left (r .left-said) (r .right-said) g)) t
-      (property-in-middle x (r .right) (r .right-said) (r .right-turns) (silent-right (r .left-said) (r .right-said) g)))
-
-  -- the last property, after others or alone
-  property-at-end : {i j : ℕ} {ts : Forest} → (x : PropertyTurns s i j ts) → (comma : List Record) (us : Forest) (records : List Record) → convert-kids ts (properties comma) ≡ turned us records
-      → Silent records → (u : Tree) × (us ≡ one u) × LastProperty s i j (x .tree) comma u
-  property-at-end x comma us records e f =
-      let q = single (x .tree) (properties comma) us records (ap (λ (v : Forest). convert-kids v (properties comma)) (sym (x .is-one)) ∙ e) in
-      (q .into, q .is-forest, x .at-end comma (q .into) records (q .turns) f)
-
-  properties-last : {i j : ℕ} {ts : Forest} → PropertiesTurn s i j ts → (comma : List Record) (us : Forest) (records : List Record) → convert-kids ts (properties comma) ≡ turned us records
-      → Silent records → LastProperties s i j ts comma us
-  properties-last {i} {j} (first-property ts x) comma us records e f = let r = property-at-end x comma us records e f in go (r .0) (r .1) (r .2)
-    where
-      go : (u : Tree) → us ≡ one u → LastProperty s i j (x .tree) comma u → LastProperties s i j ts comma us
-      go u q (last-plain-property k d) = plain-properties (lone-ends ts (x .tree) (x .is-one) ∙ k) (rw q (D.first-of-list d))
-      go u q (last-rest-property k c d) = rest-property-only (lone-ends ts (x .tree) (x .is-one) ∙ k) c (rw q d)
-  properties-last {i} {j} (next-property {p = p} ts vs d t x) comma us records e f =
-      let r = split ts vs (properties comma) (only property) (λ n. ap (λ (m : ℕ). properties comma (n + m)) (one-count (x .tree) (x .is-one)) ∙ followed-property comma n) us records e in
-      let g : Silent (r .left-said ++ r .right-said) = subst Silent (r .are) f in
-      let y = property-at-end x comma (r .right) (r .right-said) (r .right-turns) (silent-right (r .left-said) (r .right-said) g) in
-      go (r .left) (y .0) (r .is-forest ∙ ap (join (r .left)) (y .1)) (properties-middle d (r .left) (r .left-said) (r .left-turns) (silent-left (r .left-said) (r .right-said) g)) (y .2)
-    where
-      go : (ls : Forest) (u : Tree) → us ≡ join ls (one u) → Derives s AssignmentPropertyList i p ls → LastProperty s (p + 1) j (x .tree) comma u → LastProperties s i j (join ts vs) comma us
-      go ls u q l (last-plain-property k a) = plain-properties (ends ts vs (x .tree) (x .is-one) ∙ k) (rw q (D.next-of-list l t a))
-      go ls u q l (last-rest-property k c a) = rest-property-after p ls (one u) (ends ts vs (x .tree) (x .is-one) ∙ k) c l t a q
-
   -- OBJECTS
   -- { }
   empty-object-turns : {i : ℕ} → Tok s i LCurly → Tok s (i + 1) RCurly → Turns s i (i + 2) (one (node Row.Object i i (i + 2) nil))
@@ -523,33 +493,23 @@ module _ {s : Sheet} where
   empty-object-turns {i} o c = object-turns i i (i + 2) nil (λ us records e f. let q : nil ≡ us = cc in rw (sym q) (D.target-object-empty o c))
 
   -- { PropertyDefinitionList }
-  list-object-turns : {i p : ℕ} {ts : Forest} → Tok s i LCurly → PropertiesTurn s (i + 1) p ts → Tok s p RCurly → Turns s i (p + 1) (one (node Row.Object i i (p + 1) ts))
-  list-object-turns {i} {p} {ts} o d c = object-turns i i (p + 1) ts (λ us records e f. go us (properties-last d [] us records e f))
+  list-object-turns : {i p : ℕ} {ts : Forest} → Tok s i LCurly → Each s (PropertyTurns s) (i + 1) p ts → Tok s p RCurly → Turns s i (p + 1) (one (node Row.Object i i (p + 1) ts))
+  list-object-turns {i} {p} {ts} o d c = object-turns i i (p + 1) ts (λ us records e f. go us (list-last in-objects d [] us records e f))
     where
-      go : (us : Forest) → LastProperties s (i + 1) p ts [] us → Derives s AssignmentPattern i (p + 1) (one (node Row.TargetObject i i (p + 1) us))
-      go us (plain-properties n l) = D.target-object-list o l c
-      go us (rest-property-only n x l) = D.target-object-rest o l c
-      go us (rest-property-after q xs ys n x l t r e) = rw e (D.target-object-list-rest o l t r c)
+      go : (us : Forest) → LastList s AssignmentProperty AssignmentRestProperty (i + 1) p (ends-in-spread ts) [] us → Derives s AssignmentPattern i (p + 1) (one (node Row.TargetObject i i (p + 1) us))
+      go us (plain-list n l) = D.target-object-list o l c
+      go us (rest-only n x l) = D.target-object-rest o l c
+      go us (rest-after q xs ys n x l t r e) = rw e (D.target-object-list-rest o l t r c)
 
   -- { PropertyDefinitionList , }
-  comma-object-turns : {i p : ℕ} {ts : Forest} → Tok s i LCurly → PropertiesTurn s (i + 1) p ts → Tok s p Comma → Tok s (p + 1) RCurly
+  comma-object-turns : {i p : ℕ} {ts : Forest} → Tok s i LCurly → Each s (PropertyTurns s) (i + 1) p ts → Tok s p Comma → Tok s (p + 1) RCurly
       → Turns s i (p + 2) (one (node (object-row ts) i i (p + 2) ts))
   unfolding object-row
   comma-object-turns {i} {p} {ts} o d t c = by (ends-in-spread ts) refl
     where
-      open-pattern : ends-in-spread ts ≡ false → (us : Forest) → LastProperties s (i + 1) p ts [] us → Derives s AssignmentPattern i (p + 2) (one (node Row.TargetObject i i (p + 2) us))
-      open-pattern b us (plain-properties n l) = D.target-object-comma o l t c
-      open-pattern b us (rest-property-only n x l) = absurd (not-both n b)
-      open-pattern b us (rest-property-after q xs ys n x l t′ r e) = absurd (not-both n b)
-
-      closed-pattern : ends-in-spread ts ≡ true → (us : Forest) → LastProperties s (i + 1) p ts (rest-comma i ∷ []) us → Derives s AssignmentPattern i (p + 2) (one (node Row.TargetObject i i (p + 2) us))
-      closed-pattern b us (plain-properties n l) = absurd (not-both b n)
-      closed-pattern b us (rest-property-only n x l) = absurd (said x)
-      closed-pattern b us (rest-property-after q xs ys n x l t′ r e) = absurd (said x)
-
       by : (b : Bool) → ends-in-spread ts ≡ b → Turns s i (p + 2) (one (node (if b then Row.ObjectRestComma else Row.Object) i i (p + 2) ts))
-      by true b = object-closed-turns i i (p + 2) ts (sym (spread-is-last ts) ∙ b) (λ us records e f. closed-pattern b us (properties-last d (rest-comma i ∷ []) us records e f))
-      by false b = object-turns i i (p + 2) ts (λ us records e f. open-pattern b us (properties-last d [] us records e f))
+      by true b = object-closed-turns i i (p + 2) ts (sym (spread-is-last ts) ∙ b) (λ us records e f. absurd (closed-list b (list-last in-objects d (rest-comma i ∷ []) us records e f)))
+      by false b = object-turns i i (p + 2) ts (λ us records e f. D.target-object-comma o (open-list b (list-last in-objects d [] us records e f)) t c)
 
 -- ROWS
 -- a key or an initializer stays as it is
@@ -694,7 +654,7 @@ module _ {s : Sheet} where
       either comma b = if b then turn Row.TargetRest (array-argument (last-of ts)) (only any) comma else C.refuse (Cause.Spread i)
 
       go : (comma : List Record) (b : Bool) (u : Tree) (records : List Record) → over (either comma b) (node Row.Spread i i j ts) (convert-kids ts (roles (either comma b))) ≡ turned u records → Silent records
-          → LastElement s i j (node Row.Spread i i j ts) comma u
+          → LastKid s AssignmentElement AssignmentRestElement i j (kind-of (node Row.Spread i i j ts) is Row.Spread) comma (one u)
       go comma true u records e f =
           let before = array-argument (last-of ts) in
           let x = over-turn Row.TargetRest Row.Spread i i j before comma (only any) ts (convert-kids ts (only any)) u records e in
@@ -725,7 +685,7 @@ module _ {s : Sheet} where
           by (D.target-pattern d) = absurd (said (subst Silent (ap object-argument is-last ∙ literal-argument (first-tree ts) b) a))
 
       go : (comma : List Record) (b : Bool) (u : Tree) (records : List Record) → over (either comma b) (node Row.Spread i i j ts) (convert-kids ts (roles (either comma b))) ≡ turned u records → Silent records
-          → LastProperty s i j (node Row.Spread i i j ts) comma u
+          → LastKid s AssignmentProperty AssignmentRestProperty i j (kind-of (node Row.Spread i i j ts) is Row.Spread) comma (one u)
       go comma true u records e f =
           let argument = object-argument (last-of ts) in
           let before = argument ++ comma in
@@ -735,7 +695,7 @@ module _ {s : Sheet} where
           let g = silent-right before (x .said) y in
           let k = silent-left before (x .said) y in
           let d = rest (q .into) (x .said) (silent-left argument comma k) (q .turns) g (is-array-or-object (kind-of (first-tree ts))) refl in
-          last-rest-property refl (silent-right argument comma k) (rw (x .is-row, q .is-forest) d)
+          last-rest refl (silent-right argument comma k) (rw (x .is-row, q .is-forest) d)
       go comma false u records e f = never e
 
   -- a property that is no Spread converts alike in the middle and as the last
@@ -744,7 +704,7 @@ module _ {s : Sheet} where
       → PropertyTurns s i j (one (node kind mark first end ts))
   unfolding convert-as change as-last-property seen roles kind-of
   plain-property kind mark first end ts k h =
-      record { tree = node kind mark first end ts; is-one = refl; in-middle = h; at-end = λ comma u records e f. last-plain-property k (h u records (rw k at e) f) }
+      record { tree = node kind mark first end ts; is-one = refl; in-middle = h; at-end = λ comma u records e f. last-plain k (h u records (rw k at e) f) }
 
   shorthand-turns : {i : ℕ} → OneOf identifiers s i → PropertyTurns s i (i + 1) (one (node Row.Shorthand i i (i + 1) (one (leaf Row.Identifier i))))
   unfolding convert-as convert-kids change as-property as-name seen roles over both count
@@ -801,9 +761,9 @@ tier-stays {s} {i} {j} tier mark first end ts = go (leb tier 3)
     go true = stays _ mark first end ts refl
     go false = stays _ mark first end ts refl
 
--- EVERY EXPRESSION
+-- EVERY EXPRESSION: the statement, `made`
 -- what is shown of each nonterminal: of the expressions, and of what stands in literals
-abbrev Made : Sheet → Nonterminal → ℕ → ℕ → Forest → Type 0
+abbrev pub Made : Sheet → Nonterminal → ℕ → ℕ → Forest → Type 0
 Made s (ListOf x) i j ts = Each s (Made s x) i j ts
 Made s (Elided x) i j ts = Past s (Made s x) i j ts
 Made s D.PrimaryExpression i j ts = Turns s i j ts
@@ -846,15 +806,7 @@ Made s D.ArrowParameters i j ts = Unit {0}
 Made s D.AsyncArrowHead i j ts = Unit {0}
 Made s D.ConciseBody i j ts = Unit {0}
 
-all-elements : {s : Sheet} {i j : ℕ} {ts : Forest} → Each s (Past s (ElementTurns s)) i j ts → ElementsTurn s i j ts
-all-elements (each-one (past h d)) = first-element _ _ h d
-all-elements (each-more l t (past h d)) = next-element _ _ _ (all-elements l) t h d
-
-all-properties : {s : Sheet} {i j : ℕ} {ts : Forest} → Each s (PropertyTurns s) i j ts → PropertiesTurn s i j ts
-all-properties (each-one d) = first-property _ d
-all-properties (each-more l t d) = next-property _ _ (all-properties l) t d
-
-made : {s : Sheet} {x : Nonterminal} {i j : ℕ} {ts : Forest} → Derives s x i j ts → Made s x i j ts
+pub made : {s : Sheet} {x : Nonterminal} {i j : ℕ} {ts : Forest} → Derives s x i j ts → Made s x i j ts
 unfolding turnable
 made (D.first-of-list d) = each-one (made d)
 made (D.next-of-list l t d) = each-more (made l) t (made d)
@@ -866,16 +818,16 @@ made (D.array d) = made d
 made (D.object d) = made d
 made (D.parenthesized o d c) = paren-turns o (root-expression d) (made d) c
 made (D.array-empty o d c) = empty-array-turns o d c
-made (D.array-list o d c) = list-array-turns o (all-elements (made d)) c
-made (D.array-comma o d t h c) = elision-array-turns o (all-elements (made d)) t h c
+made (D.array-list o d c) = list-array-turns o (made d) c
+made (D.array-comma o d t h c) = elision-array-turns o (made d) t h c
 made D.no-elision = tt
 made (D.elision _ _) = tt
 made (D.spread t d) = (spread-element-turns t (root-assignment d) (made d), spread-property-turns t (root-assignment d) (made d))
 made (D.plain-element d) = plain-element-turns (root-assignment d) (made d)
 made (D.spread-element d) = made d .0
 made (D.object-empty o c) = empty-object-turns o c
-made (D.object-list o d c) = list-object-turns o (all-properties (made d)) c
-made (D.object-comma o d t c) = comma-object-turns o (all-properties (made d)) t c
+made (D.object-list o d c) = list-object-turns o (made d) c
+made (D.object-comma o d t c) = comma-object-turns o (made d) t c
 made (D.shorthand n) = shorthand-turns n
 made (D.cover-initialized n t d) = cover-turns-at _ (root-assignment d .lone) n t d
 made (D.property k t d) = property-turns-at _ _ (lone-key k) (root-assignment d .lone) k t (made d)
@@ -968,23 +920,3 @@ made (D.arrow-parameters _) = tt
 made (D.concise-body _ _) = tt
 made (D.async-name _ _ _) = tt
 made (D.async-parameters _ _ _) = tt
-
--- THE STATEMENTS
-module _ {s : Sheet} {i j : ℕ} {t : Tree} where
-  pub unary-simple : Derives s UnaryExpression i j (one t) → (u : Tree) (records : List Record) → convert-as t simple ≡ turned u records → Silent records → Derives s SimpleTarget i j (one u)
-  unfolding first-tree
-  unary-simple d u records e f = made d .with as-simple-target u records e f
-
-  pub left-simple : Derives s LeftHandSideExpression i j (one t) → (u : Tree) (records : List Record) → convert-as t simple ≡ turned u records → Silent records → Derives s SimpleTarget i j (one u)
-  unfolding first-tree
-  left-simple d u records e f = made d .with as-simple-target u records e f
-
-  pub short-circuit-simple : Derives s ShortCircuitExpression i j (one t) → (u : Tree) (records : List Record) → convert-as t simple ≡ turned u records → Silent records
-      → Derives s SimpleTarget i j (one u)
-  unfolding first-tree
-  short-circuit-simple d u records e f = made d .with as-simple-target u records e f
-
-  pub short-circuit-any : Derives s ShortCircuitExpression i j (one t) → (u : Tree) (records : List Record) → convert-as t any ≡ turned u records → Silent records
-      → Derives s DestructuringAssignmentTarget i j (one u)
-  unfolding first-tree
-  short-circuit-any d u records e f = made d .with as-target u records e f

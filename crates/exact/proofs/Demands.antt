@@ -23,12 +23,9 @@ use Rattle.agreement.specs.Terms.{ReadAs, NoEarly}
 use Rattle.agreement.proofs.Agreement.{plain-reads-too, plain-pattern-reads-too}
 use Rattle.agreement.proofs.Answers.{read-agrees, pattern-agrees}
 use Rattle.agreement.proofs.Steps.{whole-list, pattern}
-use Rattle.exact.proofs.Exact.{clean-reading, clean-pattern, read-is-derived, pattern-is-derived, derived-is-read, derived-is-pattern}
+use Rattle.exact.proofs.Entries.{clean-reading, clean-pattern, read-is-derived, pattern-is-derived, derived-is-read, derived-is-pattern, told-once, By, by-once, by-answered, by-shown, by-clean, passed, shown-read, clean-shown, shown-clean, clean-convert, by-subtree, by-three-way, by-converted, work-bounded}
 use Rattle.grammar.specs.Told.{ToldThreeWay, ToldSubtree}
 use Rattle.exact.specs.Terms.{Input, TreeInput, Output, sheet, Passes, ByRead, ByPattern, ByConvert, Shown, Clean, Answered, Converted, ThreeWayAnswered, Bounded}
-use Rattle.exact.proofs.Entries.{told-once, By, by-once, by-answered, by-shown, by-clean, passed, shown-read, clean-shown, shown-clean, clean-convert, by-subtree, by-three-way}
-use Rattle.exact.proofs.Converts.{by-converted}
-use Rattle.exact.proofs.Work.{work-bounded}
 
 -- the two contracts of a reading are one, by what is read
 of-read : {i : Input} {x : Output} → ByRead i x → By (expression 0) i x

@@ -1,12 +1,7 @@
-pub mod Levels
 pub mod Terminals
 pub mod Roots
-pub mod Means
 pub mod Convert
 pub mod Sound
-pub mod Clean
-pub mod Bracketed
-pub mod Rules
 pub mod Follow
 pub mod Parts
 pub mod Sources
@@ -14,11 +9,6 @@ pub mod Complete
 pub mod Unambiguous
 pub mod Targets
 pub mod Examples
-pub mod Exact
-pub mod Words
-pub mod Checks
 pub mod Entries
-pub mod Converts
-pub mod Work
 pub mod GivenWhenRead
 pub mod Demands

@@ -9,18 +9,19 @@ use native.Mathlib.Omega.{arith}
 use native.Mathlib.Decide.{ℕ-discrete}
 use lib.Dec.{ltb, leb}
 use borrow.Author.Tests.{eqb-true, eqb-false, ne-eqb, eq-eqb, ltb-true, ltb-false, leb-true, le-leb}
+use lib.ListN.{length}
 use Rattle.tokens.specs.Bool.{_is_, _or_, _and_, if_then_else_}
 use Rattle.tokens.specs.Kind.{Async, LParen, RParen, LBrack, RBrack, LCurly, RCurly, Comma, Colon, Question, Dot3, Arrow, Question2, Star2, Eq, PlusEq, Star2Eq}
 use Rattle.tokens.specs.Token.{is-name, is-word, is-literal}
 use Rattle.operators.specs.Precedence.{level, expression-level}
 use Rattle.rows.specs.Tree.{Tree, Forest, node, nil, cons, one, join, kind-of, mark-of, kids-of}
 use Rattle.rows.specs.Row as Row
-use Rattle.rows.specs.Record.{Record, mixed-coalesce, rest-initializer, break-before-arrow}
+use Rattle.rows.specs.Record.{Record, mixed-coalesce, rest-initializer, break-before-arrow, shorthand-initializer}
 use Rattle.rows.proofs.Rows.{join-nil, join-assoc}
 use Rattle.conversion.specs.Conversion.{any, simple}
 use Rattle.grammar.specs.Sheet.{Sheet, token, break-before, done, Part, first-tree, tree, leaf, _>>=_, yield}
 use Rattle.grammar.specs.Job as J
-use Rattle.grammar.specs.Job.{Job, Asks}
+use Rattle.grammar.specs.Job.{Job, Asks, expression, binding-element}
 use Rattle.grammar.specs.Primary.{parenthesized-of, primary-of, elements-of, properties-of, shorthand-of, property-of, key-of, spread-of}
 use Rattle.grammar.specs.LeftHandSide.{left-hand-side-of, links-of, arguments-of}
 use Rattle.grammar.specs.Update.{is-unary-operator, is-update-operator, converted, unary-of, postfix-of}
@@ -29,17 +30,16 @@ use Rattle.grammar.specs.Assignment.{is-assignment-operator, is-async-name, val
 use Rattle.grammar.specs.Comma.{expression-of, sequence-of}
 use Rattle.grammar.specs.Binding.{binding-of, binding-element-of, binding-elements-of, binding-properties-of, binding-shorthand-of, binding-property-of, binding-rest-of}
 use Rattle.grammar.specs.Arrow.{Policy, arrow-of, assignment-of, parenthesized-head-of, head-of, parameters-of, body-of}
-use Rattle.grammar.specs.Step.{step, read}
-use Rattle.laws.proofs.Good.{Reads, Answers, Preserved, good, good-done, Stands, test, token-test, chooses, notes, and-left, and-right}
+use Rattle.grammar.specs.Step.{step, read, plenty}
+use Rattle.laws.proofs.Good.{Reads, Answers, Preserved, good, good-done, Stands, test, token-test, chooses, notes, and-left, and-right, came}
 use Rattle.laws.proofs.Bounds.{Any, Nothing}
 use Rattle.ecma262.specs.Derives as D
-use Rattle.ecma262.specs.Derives.{Tok, OneOf, SameLine, identifiers, assignment-operators, Links, Nonterminal, PrimaryExpression, ArrayLiteral, Elision, SpreadElement, Element, ObjectLiteral, PropertyDefinition, PropertyName, LinkedExpression, LeftHandSideExpression, UpdateExpression, UnaryExpression, TierExpression, CoalesceExpressionHead, CoalesceExpression, ShortCircuitExpression, ConditionalExpression, AssignmentExpression, SimpleTarget, DestructuringAssignmentTarget, Commas, Expression, Binding, BindingPattern, BindingElement, BindingRestElement, BindingProperty, BindingRestProperty, FormalParameters, ArrowFormalParameters, ArrowParameters, AsyncArrowHead, ConciseBody, CallExpression, ends-in-spread, array-row, object-row, Derives}
-use Rattle.exact.proofs.Levels.{levels, is-power, is-coalesce, power-floor, other-floor, row-of-tier}
+use Rattle.ecma262.specs.Derives.{Tok, OneOf, SameLine, identifiers, assignment-operators, Links, Nonterminal, PrimaryExpression, ArrayLiteral, Elision, SpreadElement, Element, ObjectLiteral, PropertyDefinition, PropertyName, LinkedExpression, LeftHandSideExpression, UpdateExpression, UnaryExpression, TierExpression, CoalesceExpressionHead, CoalesceExpression, ShortCircuitExpression, ConditionalExpression, AssignmentExpression, SimpleTarget, DestructuringAssignmentTarget, Commas, Expression, Binding, BindingPattern, BindingElement, BindingRestElement, BindingProperty, BindingRestProperty, FormalParameters, ArrowFormalParameters, ArrowParameters, AsyncArrowHead, ConciseBody, CallExpression, ends-in-spread, array-row, object-row, Derives, covers-nothing, cover-nothing, Derived}
+use Rattle.grammar.specs.Reading.{unconverted, unconverteds, whole, reading}
+use Rattle.exact.proofs.Terminals.{levels, is-power, is-coalesce, power-floor, other-floor, row-of-tier, Operator, line, operator, tier-up, operation, as-printed, compounds, keys, literal-tokens, names, unary, updates, words}
 use Rattle.exact.specs.Terminals.{tier-row, is-key, is-prefix, is-update, is-compound}
-use Rattle.exact.proofs.Terminals.{named, worded, literally, keyed, prefixed, updated, compounded, Operator, line, operator, tier-up, operation}
-use Rattle.exact.proofs.Roots.{NameAt, not-both, root-primary, root-chain, root-left-hand-side, root-unary, root-short-circuit, root-assignment, spread-last, Begun, none-yet, after-comma, one-more, BegunElided, only-holes, after-list, one-hole-more, one-element-more, list-and-comma}
-use Rattle.exact.proofs.Means.{Silent, silent, said, Means, follow, trying, saying, giving, none, turning, hence}
-use Rattle.exact.proofs.Convert.{unary-simple, left-simple, short-circuit-simple, short-circuit-any}
+use Rattle.exact.proofs.Roots.{NameAt, not-both, root-primary, root-chain, root-left-hand-side, root-unary, root-short-circuit, root-assignment, spread-last, Begun, none-yet, after-comma, one-more, BegunElided, only-holes, after-list, one-hole-more, one-element-more, list-and-comma, root-expression, Silent, silent, said, Means, follow, trying, saying, giving, none, turning, hence, Shaped, in-brackets, in-braces, binding-shape}
+use Rattle.exact.proofs.Convert.{as-target, as-simple-target, made}
 
 -- WHAT IS MEANT
 -- the `=>` at a place and a body, after parameters
@@ -352,7 +352,7 @@ module _ {s : Sheet} {N : Type 0} {ask : Asks N} (h : Answers Any (GoodMeant s) 
       rw (le-leb PlusEq k (omega arith)) (and-right (leb Eq k) (leb k Star2Eq) e)
 
   sound-assign : (first at : ℕ) (left : Tree) → Reads (GoodMeant s (J.assign first at left)) Nothing (assign-of s ask first at left)
-  unfolding assign-of
+  unfolding assign-of first-tree
   sound-assign first at left = go (token s at is Eq) refl
     where
       go : (b : Bool) → token s at is Eq ≡ b
@@ -361,14 +361,14 @@ module _ {s : Sheet} {N : Type 0} {ask : Asks N} (h : Answers Any (GoodMeant s) 
           yield (right .end) (one (node (if b then Row.Assign else Row.CompoundAssign) at first (right .end) (join (target .trees) (right .trees)))))
       go true t =
           follow {Q = λ end trees. (end ≡ at) × (Derives s ShortCircuitExpression first at (one left) → Derives s DestructuringAssignmentTarget first at trees)}
-          (turning any at left (λ u rs e f. (refl, λ d. short-circuit-any d u rs e f)))
+          (turning any at left (λ u rs e f. (refl, λ d. made d .with as-target u rs e f)))
           (λ target q. follow (asked (J.assignment (at + 1)))
           (λ right d. giving _ _ (λ o l. value-assign at (target .trees) (right .trees) (q .1 l) (tok-eq at Eq t) d refl)))
       go false t =
           follow {Q = λ end trees. (end ≡ at) × (Derives s ShortCircuitExpression first at (one left) → Derives s SimpleTarget first at trees)}
-          (turning simple at left (λ u rs e f. (refl, λ d. short-circuit-simple d u rs e f)))
+          (turning simple at left (λ u rs e f. (refl, λ d. made d .with as-simple-target u rs e f)))
           (λ target q. follow (asked (J.assignment (at + 1)))
-          (λ right d. giving _ _ (λ o l. value-compound at (target .trees) (right .trees) (q .1 l) (compounded (operator-left (token s at) o t)) d refl)))
+          (λ right d. giving _ _ (λ o l. value-compound at (target .trees) (right .trees) (q .1 l) (as-printed compounds (operator-left (token s at) o t)) d refl)))
 
   sound-after-binary : (first : ℕ) (left : Part) → Derives s ShortCircuitExpression first (left .end) (left .trees) → Reads (Means (Value s first)) Nothing (after-binary s ask first left)
   unfolding after-binary
@@ -395,7 +395,7 @@ module _ {s : Sheet} {N : Type 0} {ask : Asks N} (h : Answers Any (GoodMeant s) 
       (λ e. let x : a ≡ true = and-right (token s at is Async) a e in
       let y : b ≡ true = and-right (is-name (token s (at + 1))) b x in
       hence (asked (J.body Row.AsyncArrow at (at + 2) (one (leaf Row.BindingName (at + 1)))))
-      (λ end trees m. value-async-arrow (tok-eq at Async (and-left (token s at is Async) a e)) (named (and-left (is-name (token s (at + 1))) b x))
+      (λ end trees m. value-async-arrow (tok-eq at Async (and-left (token s at is Async) a e)) (as-printed names (and-left (is-name (token s (at + 1))) b x))
       (record { unbroken = not-true (break-before s (at + 1)) (and-left (not (break-before s (at + 1))) c y) }) (tok-eq (at + 2) Arrow (and-right (not (break-before s (at + 1))) c y)) m))
       (λ _. follow (asked (J.binary 0 at)) (λ left u. sound-after-binary at left (u (omega arith) .part)))
 
@@ -416,26 +416,26 @@ module _ {s : Sheet} {N : Type 0} {ask : Asks N} (h : Answers Any (GoodMeant s) 
 
   -- 13.5 and 13.4
   sound-unary : (at : ℕ) → Reads (GoodMeant s (J.unary at)) Nothing (unary-of s ask at)
-  unfolding unary-of is-unary-operator is-update-operator is-prefix is-update
+  unfolding unary-of is-unary-operator is-update-operator is-prefix is-update first-tree
   sound-unary at =
       test (is-prefix (token s at))
-      (λ t. follow (asked (J.unary (at + 1))) (λ operand d. giving _ _ (D.unary (prefixed t) d)))
+      (λ t. follow (asked (J.unary (at + 1))) (λ operand d. giving _ _ (D.unary (as-printed unary t) d)))
       (λ _. test (is-update (token s at))
       (λ t. follow (asked (J.unary (at + 1)))
-      (λ operand d. follow {Q = λ end trees. Derives s SimpleTarget (at + 1) end trees} (turning simple (operand .end) (tree operand) (λ u rs e f. unary-simple (rw (root-unary d .lone) at d) u rs e f))
-      (λ target e. giving _ _ (D.update (D.prefix (updated t) e)))))
+      (λ operand d. follow {Q = λ end trees. Derives s SimpleTarget (at + 1) end trees} (turning simple (operand .end) (tree operand) (λ u rs e f. made (rw (root-unary d .lone) at d) .with as-simple-target u rs e f))
+      (λ target e. giving _ _ (D.update (D.prefix (as-printed updates t) e)))))
       (λ _. hence (asked (J.postfix at)) (λ end trees d. D.update d)))
 
   sound-postfix : (at : ℕ) → Reads (GoodMeant s (J.postfix at)) Nothing (postfix-of s ask at)
-  unfolding postfix-of is-update-operator is-update
+  unfolding postfix-of is-update-operator is-update first-tree
   sound-postfix at =
       follow (asked (J.left-hand-side at))
       (λ operand d. test (is-update (token s (operand .end)) and not (break-before s (operand .end)))
       (λ t. let u = and-left (is-update (token s (operand .end))) (not (break-before s (operand .end))) t in
       let l = and-right (is-update (token s (operand .end))) (not (break-before s (operand .end))) t in
       follow {Q = λ end trees. (end ≡ operand .end) × Derives s SimpleTarget at (operand .end) trees}
-      (turning simple (operand .end) (tree operand) (λ v rs e f. (refl, left-simple (rw (root-left-hand-side d .lone) at d) v rs e f)))
-      (λ target e. giving _ _ (rw (e .0) (D.postfix (e .1) (updated u) (record { unbroken = not-true _ l })))))
+      (turning simple (operand .end) (tree operand) (λ v rs e f. (refl, made (rw (root-left-hand-side d .lone) at d) .with as-simple-target v rs e f)))
+      (λ target e. giving _ _ (rw (e .0) (D.postfix (e .1) (as-printed updates u) (record { unbroken = not-true _ l })))))
       (λ _. giving _ _ (D.left-hand-side d)))
 
   -- 13.3
@@ -449,7 +449,7 @@ module _ {s : Sheet} {N : Type 0} {ask : Asks N} (h : Answers Any (GoodMeant s) 
   sound-links first at left =
       token-test s _ _
       (λ t. test (is-word (token s (at + 1)))
-      (λ u. hence (asked (J.links first (at + 2) (node Row.Member (at + 1) first (at + 2) (one left)))) (λ end trees m c d. m c (D.member d (tok t) (worded u))))
+      (λ u. hence (asked (J.links first (at + 2) (node Row.Member (at + 1) first (at + 2) (one left)))) (λ end trees m c d. m c (D.member d (tok t) (as-printed words u))))
       (λ _. none _))
       (token-test s _ _
       (λ t. follow (asked (J.expression (at + 1)))
@@ -529,9 +529,9 @@ module _ {s : Sheet} {N : Type 0} {ask : Asks N} (h : Answers Any (GoodMeant s) 
   sound-primary : (at : ℕ) → Reads (GoodMeant s (J.primary at)) Nothing (primary-of s ask at)
   unfolding primary-of parenthesized-of array-row object-row ends-in-spread
   sound-primary at =
-      test (is-name (token s at)) (λ t. giving _ _ (D.identifier (named t)))
+      test (is-name (token s at)) (λ t. giving _ _ (D.identifier (as-printed names t)))
       (λ _. token-test s _ _ (λ t. giving _ _ (D.this (tok t)))
-      (test (is-literal (token s at)) (λ t. giving _ _ (D.literal (literally t)))
+      (test (is-literal (token s at)) (λ t. giving _ _ (D.literal (as-printed literal-tokens t)))
       (λ _. token-test s _ _
       (λ t. follow (asked (J.expression (at + 1))) (λ inner d. token-test s _ _ (λ u. giving _ _ (D.parenthesized (tok t) d (tok u))) (none _)))
       (token-test s _ _ (λ t. hence (asked (J.elements at (at + 1) Row.Array nil)) (λ end trees m. D.array (m (tok t) (only-holes D.no-elision) refl)))
@@ -608,7 +608,7 @@ module _ {s : Sheet} {N : Type 0} {ask : Asks N} (h : Answers Any (GoodMeant s) 
   unfolding property-of shorthand-of
   sound-property at =
       test (is-name (token s at) and not (token s (at + 1) is Colon))
-      (λ e. let n = named (and-left (is-name (token s at)) (not (token s (at + 1) is Colon)) e) in
+      (λ e. let n = as-printed names (and-left (is-name (token s at)) (not (token s (at + 1) is Colon)) e) in
       token-test s _ _
       (λ t. follow (asked (J.assignment (at + 2))) (λ initializer d. giving _ _ (D.cover-initialized n (tok t) d)))
       (giving _ _ (D.shorthand n)))
@@ -618,7 +618,7 @@ module _ {s : Sheet} {N : Type 0} {ask : Asks N} (h : Answers Any (GoodMeant s) 
   sound-key : (at : ℕ) → Reads (GoodMeant s (J.key at)) Nothing (key-of s ask at)
   unfolding key-of is-key
   sound-key at =
-      test (is-key (token s at)) (λ t. giving _ _ (D.literal-name (keyed t)))
+      test (is-key (token s at)) (λ t. giving _ _ (D.literal-name (as-printed keys t)))
       (λ _. token-test s _ _
       (λ t. follow (asked (J.assignment (at + 1))) (λ inner d. token-test s _ _ (λ u. giving _ _ (D.computed-name (tok t) d (tok u))) (none _)))
       (none _))
@@ -627,7 +627,7 @@ module _ {s : Sheet} {N : Type 0} {ask : Asks N} (h : Answers Any (GoodMeant s) 
   sound-binding : (at : ℕ) → Reads (GoodMeant s (J.binding at)) Nothing (binding-of s ask at)
   unfolding binding-of
   sound-binding at =
-      test (is-name (token s at)) (λ t. giving _ _ (D.binding-name (named t)))
+      test (is-name (token s at)) (λ t. giving _ _ (D.binding-name (as-printed names t)))
       (λ _. token-test s _ _ (λ t. hence (asked (J.binding-elements at (at + 1) nil)) (λ end trees m. D.binding-pattern (m (tok t) (only-holes D.no-elision))))
       (token-test s _ _ (λ t. hence (asked (J.binding-properties at (at + 1) nil)) (λ end trees m. D.binding-pattern (m (tok t) (none-yet refl refl))))
       (none _)))
@@ -674,25 +674,17 @@ module _ {s : Sheet} {N : Type 0} {ask : Asks N} (h : Answers Any (GoodMeant s) 
       close-rest {us = vs} o (after-list p ts us l c h q) d t = rw (q, join-assoc ts us vs) (D.binding-array-list-rest o l c (D.elided h d) t)
 
   -- a binding whose row is a BindingName is a BindingIdentifier
-  pattern-kind : {i j : ℕ} {ts : Forest} → Derives s BindingPattern i j ts → kind-of (first-tree ts) is Row.BindingName ≡ false
+  shaped-kind : {i j : ℕ} {ts : Forest} → Shaped s Row.BindingArray Row.BindingObject i j ts → kind-of (first-tree ts) is Row.BindingName ≡ false
   unfolding kind-of first-tree
-  pattern-kind (D.binding-object-empty o c) = refl
-  pattern-kind (D.binding-object-rest o d c) = refl
-  pattern-kind (D.binding-object-list o d c) = refl
-  pattern-kind (D.binding-object-comma o d t c) = refl
-  pattern-kind (D.binding-object-list-rest o d t e c) = refl
-  pattern-kind (D.binding-array-empty o d c) = refl
-  pattern-kind (D.binding-array-rest o d c) = refl
-  pattern-kind (D.binding-array-list o d c) = refl
-  pattern-kind (D.binding-array-comma o d t e c) = refl
-  pattern-kind (D.binding-array-list-rest o d t e c) = refl
+  shaped-kind (in-brackets _) = refl
+  shaped-kind (in-braces _) = refl
 
   bare-rest : {at end : ℕ} {ts : Forest} → Tok s at Dot3 → Derives s Binding (at + 1) end ts → kind-of (first-tree ts) is Row.BindingName ≡ true
       → Derives s BindingRestProperty at end (one (node Row.BindingRest at at end ts))
   bare-rest {at} t (D.binding-name n) k =
       let e : at + 2 ≡ at + 1 + 1 = omega arith in
       subst (λ (end : ℕ). Derives s BindingRestProperty at end (one (node Row.BindingRest at at end (one (leaf Row.BindingName (at + 1)))))) e (D.binding-rest-property t n)
-  bare-rest t (D.binding-pattern d) k = absurd (not-both k (pattern-kind d))
+  bare-rest t (D.binding-pattern d) k = absurd (not-both k (shaped-kind (binding-shape d)))
 
   name-only : {at end : ℕ} {us : Forest} → Derives s BindingRestElement at end us → kind-of (first-tree (kids-of (first-tree us))) is Row.BindingName ≡ true
       → Derives s BindingRestProperty at end us
@@ -728,7 +720,7 @@ module _ {s : Sheet} {N : Type 0} {ask : Asks N} (h : Answers Any (GoodMeant s) 
   unfolding binding-property-of binding-shorthand-of
   sound-binding-property at =
       test (is-name (token s at) and not (token s (at + 1) is Colon))
-      (λ e. let n = named (and-left (is-name (token s at)) (not (token s (at + 1) is Colon)) e) in
+      (λ e. let n = as-printed names (and-left (is-name (token s at)) (not (token s (at + 1) is Colon)) e) in
       token-test s _ _
       (λ t. follow (asked (J.assignment (at + 2))) (λ initializer d. giving _ _ (D.binding-shorthand-default n (tok t) d)))
       (giving _ _ (D.binding-shorthand n)))
@@ -849,3 +841,100 @@ module _ {N : Type 0} (policy : Policy N) (s : Sheet) where
   pub sound : (steps : ℕ) (job : Job) (before : N) {end : ℕ} {trees : Forest} {after : N} → read policy s steps job before ≡ done end trees [] after → Meant s job end trees
   sound steps job before e =
       good-done policy s Any (GoodMeant s) Nothing steps (good policy s Any (GoodMeant s) Nothing preserved steps) job tt before e silent
+
+-- CLEAN: what an entry reads with no record is derived by ECMA-262 over the whole list, with the same tree, under any policy
+-- two lists that are nothing together are nothing each
+pub nothing-left : (a b : List Record) → a ++ b ≡ [] → a ≡ []
+nothing-left [] b e = refl
+nothing-left (x ∷ a) b e = let z : _≡_ {A = ℕ} 0 1 = cc in absurd (omega arith)
+
+pub nothing-right : (a b : List Record) → a ++ b ≡ [] → b ≡ []
+nothing-right [] b e = e
+nothing-right (x ∷ a) b e = let z : _≡_ {A = ℕ} 0 1 = cc in absurd (omega arith)
+
+if-nothing : (b c : Bool) (r : Record) → c ≡ true → (if b then r ∷ [] else []) ≡ [] → (if b then false else c) ≡ true
+if-nothing false c r h e = h
+if-nothing true c r h e = let z : _≡_ {A = ℕ} 0 1 = cc in absurd (omega arith)
+
+if-first : (b c : Bool) → (if b then c else false) ≡ true → b ≡ true
+if-first true c e = refl
+if-first false c e = e
+
+if-second : (b c : Bool) → (if b then c else false) ≡ true → c ≡ true
+if-second true c e = e
+if-second false c e = let z : _≡_ {A = ℕ} 0 1 = cc in absurd (omega arith)
+
+if-other : (b c : Bool) → (if b then false else c) ≡ true → b ≡ false
+if-other false c e = refl
+if-other true c e = sym e
+
+if-rest : (b c : Bool) → (if b then false else c) ≡ true → c ≡ true
+if-rest false c e = e
+if-rest true c e = let z : _≡_ {A = ℕ} 0 1 = cc in absurd (omega arith)
+
+-- no record 8 is said exactly where no CoverInitializedName is left
+mutual
+  unfolding unconverted unconverteds covers-nothing cover-nothing
+
+  pub uncovered : (t : Tree) → unconverted t ≡ [] → covers-nothing t ≡ true
+  uncovered (node kind mark first end kids) e =
+      if-nothing (kind is Row.ShorthandInit) (cover-nothing kids) (shorthand-initializer mark) (uncovereds kids (nothing-left (unconverteds kids) _ e)) (nothing-right (unconverteds kids) _ e)
+
+  pub uncovereds : (ts : Forest) → unconverteds ts ≡ [] → cover-nothing ts ≡ true
+  uncovereds nil e = refl
+  uncovereds (cons t ts) e = rw (uncovered t (nothing-left (unconverted t) _ e)) (uncovereds ts (nothing-right (unconverted t) _ e))
+
+mutual
+  unfolding unconverted unconverteds covers-nothing cover-nothing
+
+  pub says-nothing : (t : Tree) → covers-nothing t ≡ true → unconverted t ≡ []
+  says-nothing (node kind mark first end kids) e =
+      rw (say-nothing kids (if-rest (kind is Row.ShorthandInit) (cover-nothing kids) e), if-other (kind is Row.ShorthandInit) (cover-nothing kids) e)
+
+  pub say-nothing : (ts : Forest) → cover-nothing ts ≡ true → unconverteds ts ≡ []
+  say-nothing nil e = refl
+  say-nothing (cons t ts) e = rw (says-nothing t (if-first (covers-nothing t) (cover-nothing ts) e), say-nothing ts (if-second (covers-nothing t) (cover-nothing ts) e))
+
+-- a binding is one tree
+shaped-alone : {s : Sheet} {array object i j : ℕ} {ts : Forest} → Shaped s array object i j ts → ts ≡ one (first-tree ts)
+unfolding first-tree
+shaped-alone (in-brackets _) = refl
+shaped-alone (in-braces _) = refl
+
+pub lone-binding : {s : Sheet} {i j : ℕ} {ts : Forest} → Derives s BindingElement i j ts → ts ≡ one (first-tree ts)
+unfolding first-tree
+lone-binding (D.no-default (D.binding-name n)) = refl
+lone-binding (D.no-default (D.binding-pattern d)) = shaped-alone (binding-shape d)
+lone-binding (D.binding-default d t e) = refl
+
+-- ECMA-262 has the whole list as this nonterminal, with this tree alone
+pub record Standard (s : Sheet) (x : Nonterminal) (trees : Forest) : Type 0 where
+  pub tree : Tree
+  pub is-tree : trees ≡ one tree
+  pub derived : Derived s x 0 (length (s .kinds)) tree
+
+standard-from : {s : Sheet} {trees : Forest} (x : Nonterminal) → trees ≡ one (first-tree trees) → Derives s x 0 (length (s .kinds)) trees → unconverteds trees ≡ [] → Standard s x trees
+unfolding cover-nothing
+standard-from {trees = trees} x q d e =
+    record {
+      tree = first-tree trees;
+      is-tree = q;
+      derived = record { derivation = rw q at d; no-cover = if-first (covers-nothing (first-tree trees)) true (ap cover-nothing (sym q) ∙ uncovereds trees e) };
+    }
+
+module _ {N : Type 0} (policy : Policy N) (s : Sheet) (notes : N) {trees : Forest} {after : N} where
+  -- 13.16: a clean reading is an Expression of the standard's
+  pub clean-expression : reading policy s (expression 0) notes ≡ whole trees [] after → Standard s Expression trees
+  clean-expression e =
+      let c = came policy s (expression 0) notes e in
+      let q = nothing-left (c .said) (unconverteds trees) (sym (c .then-unconverted)) in
+      let d = sound policy s (plenty s) (expression 0) notes (rw q at (c .done-at-end)) in
+      standard-from Expression (root-expression d .lone) d (nothing-right (c .said) (unconverteds trees) (sym (c .then-unconverted)))
+
+  -- 14.3.3: a clean reading of the pattern entry is a BindingElement of the standard's
+  pub clean-binding : reading policy s (binding-element 0) notes ≡ whole trees [] after → Standard s BindingElement trees
+  clean-binding e =
+      let c = came policy s (binding-element 0) notes e in
+      let q = nothing-left (c .said) (unconverteds trees) (sym (c .then-unconverted)) in
+      let d = sound policy s (plenty s) (binding-element 0) notes (rw q at (c .done-at-end)) in
+      standard-from BindingElement (lone-binding d) d (nothing-right (c .said) (unconverteds trees) (sym (c .then-unconverted)))

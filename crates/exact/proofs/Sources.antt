@@ -4,7 +4,7 @@
 use Prim.Native.Nat.{ℕ, suc, _+_, _≤_}
 use mathlib.Core.Path.{_≡_, refl, sym, ap, _∙_, subst}
 use mathlib.Core.Bool.{Bool, true, false}
-use mathlib.Core.List.{List, [], _∷_, _++_}
+use mathlib.Core.List.{List, []}
 use native.Mathlib.Omega.{arith}
 use lib.Dec.{leb}
 use borrow.Author.Tests.{ne-eqb, leb-true, le-leb, lt-leb}
@@ -22,27 +22,16 @@ use Rattle.grammar.specs.Job as J
 use Rattle.grammar.specs.Assignment.{is-assignment-operator}
 use Rattle.laws.proofs.Good.{inside, and-left, and-right}
 use Rattle.ecma262.specs.Derives as D
-use Rattle.exact.proofs.Terminals.{Of}
+use Rattle.exact.proofs.Terminals.{Of, past-levels}
 use Rattle.exact.specs.Terminals.{is-prefix, is-update, is-compound}
 use Rattle.ecma262.specs.Derives.{Tok, Elision, ends-in-spread, array-row, object-row, Derives}
-use Rattle.exact.proofs.Levels.{past-levels}
 use Rattle.exact.proofs.Roots.{not-both, spread-last, Each, each-one, each-more, Past, past}
 use Rattle.exact.proofs.Convert.{Expected, as-target, as-simple-target, as-content, as-middle, as-last, simple-kind, alike, followed, followed-property, Holey, holey-middle, hole-stays, holey, same-stays, Two, two}
-use Rattle.exact.proofs.Bracketed.{Opening}
-use Rattle.exact.proofs.Follow.{Closed, test-not, tail-by, tail-kind, is-operand, is-start, Operand, Start, operand-name, Second, no-async-name}
-use Rattle.exact.proofs.Rules as R
-use Rattle.exact.proofs.Rules.{Reads}
-use Rattle.exact.proofs.Parts.{past-head, ItemDone, PartDone, closed-paren, array-empty-reads, array-list-reads, array-comma-reads, object-empty-reads, object-list-reads, object-comma-reads, ChainDone, LeftDone, primary-chain, member-chain, index-chain, chain-left, left-unary, unary-short, short-value, AssignmentDone, past-value, no-comma-done, KeyDone, shorthand-part, cover-part, pair-part, spread-part}
+use Rattle.exact.proofs.Follow.{Opening, Closed, test-not, tail-by, tail-kind, is-operand, is-start, Operand, Start, operand-name, Second, no-async-name, closed-by, operand-kind}
+use Rattle.exact.proofs.Sound.{nothing-left, nothing-right}
+use Rattle.exact.proofs.Parts.{Reads, plainly, quiet, here, and-false, assign-compound, assign-equals, past-head, ItemDone, PartDone, array-empty-reads, array-list-reads, array-comma-reads, object-empty-reads, object-list-reads, object-comma-reads, ChainDone, LeftDone, primary-chain, member-chain, index-chain, chain-left, left-unary, unary-short, short-value, AssignmentDone, past-value, no-comma-done, KeyDone, shorthand-part, cover-part, pair-part, spread-part}
 
 -- CONVERSION, WHERE NOTHING IS SAID
-pub nothing-left : (a b : List Record) → [] ≡ a ++ b → a ≡ []
-nothing-left [] b e = refl
-nothing-left (x ∷ a) b e = let z : _≡_ {A = ℕ} 0 1 = cc in absurd (omega arith)
-
-pub nothing-right : (a b : List Record) → [] ≡ a ++ b → b ≡ []
-nothing-right [] b e = sym e
-nothing-right (x ∷ a) b e = let z : _≡_ {A = ℕ} 0 1 = cc in absurd (omega arith)
-
 -- one tree, and two forests one after the other
 pub one-turns : (f : ℕ → Role) (t u : Tree) → convert-as t (f 0) ≡ turned u [] → convert-kids (one t) f ≡ turned (one u) []
 unfolding convert-kids both count
@@ -56,8 +45,8 @@ join-turns (cons t ts) us vs ws f g h a b = go (two (convert-as t (g (count ts))
     go : Two (convert-as t (g (count ts))) (convert-kids ts g) vs [] → ((xs : Forest) → convert-kids ts g ≡ turned xs [] → convert-kids (join ts us) f ≡ turned (join xs ws) [])
         → both (convert-as t (f (count (join ts us)))) (convert-kids (join ts us) f) ≡ turned (join vs ws) []
     go r ih =
-        let p = nothing-left (r .head-said) (r .tail-said) (r .are) in
-        let q = nothing-right (r .head-said) (r .tail-said) (r .are) in
+        let p = nothing-left (r .head-said) (r .tail-said) (sym (r .are)) in
+        let q = nothing-right (r .head-said) (r .tail-said) (sym (r .are)) in
         let k : f (count (join ts us)) ≡ g (count ts) = ap f (count-join ts us) ∙ h (count ts) in
         let c : convert-as t (f (count (join ts us))) ≡ turned (r .head) [] = ap (convert-as t) k ∙ r .head-turns ∙ ap (turned (r .head)) p in
         let d = ih (r .tail) (r .tail-turns ∙ ap (turned (r .tail)) q) in
@@ -86,18 +75,6 @@ pub inner-expected : {role : Role} → Inner role → Expected role
 inner-expected in-value = as-content
 inner-expected in-middle = as-middle
 inner-expected (in-last comma) = as-last comma
-
-pub paren-operand : is-operand LParen ≡ true
-unfolding is-operand is-name is-literal
-paren-operand = refl
-
-pub brack-operand : is-operand LBrack ≡ true
-unfolding is-operand is-name is-literal
-brack-operand = refl
-
-pub curly-operand : is-operand LCurly ≡ true
-unfolding is-operand is-name is-literal
-curly-operand = refl
 
 -- SIMPLE TARGETS
 -- a simple target: an operand that is read and converts to it in each role
@@ -140,7 +117,7 @@ simple-done kind mark first end ts into k l c r =
 module _ {s : Sheet} where
   pub name-source : {i : ℕ} → Of is-name s i → SimpleDone s i (i + 1) (one (leaf Row.TargetName i))
   unfolding simple-kind convert-as change as-simple seen over inner-kind first-tree
-  name-source {i} n = simple-done Row.Identifier i i (i + 1) nil (leaf Row.TargetName i) refl (chain-left (primary-chain refl (operand-name n) (R.primary-name n))) refl refl
+  name-source {i} n = simple-done Row.Identifier i i (i + 1) nil (leaf Row.TargetName i) refl (chain-left (primary-chain refl (operand-name n) (plainly .primary-name (n .holds)))) refl refl
 
   pub index-source : {i p q : ℕ} {ts us : Forest} → ChainDone s i p ts → Tok s p LBrack → Reads s (J.expression (p + 1)) q us → Tok s q RBrack
       → SimpleDone s i (q + 1) (one (node Row.TargetIndex i i (q + 1) (join ts us)))
@@ -158,12 +135,12 @@ module _ {s : Sheet} where
 
   pub paren-source : {i p : ℕ} {ts : Forest} → Tok s i LParen → Second s (i + 1) p → (Closed s p → Opening s (i + 1)) → SimpleDone s (i + 1) p ts → Tok s p RParen
       → SimpleDone s i (p + 1) (one (node Row.TargetParen i i (p + 1) ts))
-  unfolding simple-kind convert-as convert-kids change as-simple seen roles over both inner-kind inner-kinds first-tree count
+  unfolding simple-kind convert-as convert-kids change as-simple seen roles over both inner-kind inner-kinds first-tree count is-operand is-name is-literal
   paren-source {i} {p} {ts} o n op x c =
       subst (λ (v : Forest). SimpleDone s i (p + 1) (one (node Row.TargetParen i i (p + 1) v))) (sym (x .is-one))
       (simple-done Row.Paren i i (p + 1) (one (x .tree)) (node Row.TargetParen i i (p + 1) (one (x .into))) refl
-      (chain-left (primary-chain refl (record { begins = ap is-operand (o .kind-is) ∙ paren-operand })
-      (R.primary-paren o (no-comma-done (left-assignment n op (x .left)) .reads (closed-paren c) (ap (λ (k : ℕ). k is Comma) (c .kind-is))) c)))
+      (chain-left (primary-chain refl (operand-kind LParen refl o)
+      (plainly .primary-paren (o .kind-is) (no-comma-done (left-assignment n op (x .left)) .reads (closed-by _ refl c) (ap (λ (k : ℕ). k is Comma) (c .kind-is))) (c .kind-is))))
       (rw (x .no-literal, x .turns as-simple-target)) (x .refers))
 
 -- ANY TARGETS
@@ -218,48 +195,25 @@ module _ {s : Sheet} where
         no-spread = x .no-spread;
       }
 
+  pattern-of : {i j : ℕ} (t u : Tree) → Operand s i → Reads s (J.primary i) j (one t) → convert-as t any ≡ turned u [] → convert-as t value ≡ turned u [] → convert-as t element ≡ turned u []
+      → ((comma : List Record) → convert-as t (last-element comma) ≡ turned u []) → array-argument t ≡ [] → kind-of t is Row.Spread ≡ false → PatternDone s i j (one u)
+  pattern-of t u o r a b c d e n = record { tree = t; into = u; is-one = refl; operand = o; reads = r; as-any-target = a; inside-turns = go; rest = e; no-spread = n }
+    where
+      go : {role : Role} → Inner role → convert-as t role ≡ turned u []
+      go in-value = b
+      go in-middle = c
+      go (in-last comma) = d comma
+
   -- an array literal that is read and whose kids turn
   pub array-pattern : {i j : ℕ} (ks us : Forest) → Tok s i LBrack → Reads s (J.primary i) j (one (node Row.Array i i j ks)) → convert-kids ks (elements []) ≡ turned us []
       → PatternDone s i j (one (node Row.TargetArray i i j us))
-  unfolding convert-as change as-any as-value as-element as-last-element seen roles over kind-of inner-kind
-  array-pattern {i} {j} ks us o r c =
-      record {
-        tree = node Row.Array i i j ks;
-        into = node Row.TargetArray i i j us;
-        is-one = refl;
-        operand = record { begins = ap is-operand (o .kind-is) ∙ brack-operand };
-        reads = r;
-        as-any-target = rw c;
-        inside-turns = go;
-        rest = refl;
-        no-spread = refl;
-      }
-    where
-      go : {role : Role} → Inner role → convert-as (node Row.Array i i j ks) role ≡ turned (node Row.TargetArray i i j us) []
-      go in-value = rw c
-      go in-middle = rw c
-      go (in-last comma) = rw c
+  unfolding convert-as change as-any as-value as-element as-last-element seen roles over kind-of inner-kind is-operand is-name is-literal
+  array-pattern {i} {j} ks us o r c = pattern-of (node Row.Array i i j ks) (node Row.TargetArray i i j us) (operand-kind LBrack refl o) r (rw c) (rw c) (rw c) (λ comma. rw c) refl refl
 
   pub object-pattern : {i j : ℕ} (ks us : Forest) → Tok s i LCurly → Reads s (J.primary i) j (one (node Row.Object i i j ks)) → convert-kids ks (properties []) ≡ turned us []
       → PatternDone s i j (one (node Row.TargetObject i i j us))
-  unfolding convert-as change as-any as-value as-element as-last-element seen roles over kind-of inner-kind
-  object-pattern {i} {j} ks us o r c =
-      record {
-        tree = node Row.Object i i j ks;
-        into = node Row.TargetObject i i j us;
-        is-one = refl;
-        operand = record { begins = ap is-operand (o .kind-is) ∙ curly-operand };
-        reads = r;
-        as-any-target = rw c;
-        inside-turns = go;
-        rest = refl;
-        no-spread = refl;
-      }
-    where
-      go : {role : Role} → Inner role → convert-as (node Row.Object i i j ks) role ≡ turned (node Row.TargetObject i i j us) []
-      go in-value = rw c
-      go in-middle = rw c
-      go (in-last comma) = rw c
+  unfolding convert-as change as-any as-value as-element as-last-element seen roles over kind-of inner-kind is-operand is-name is-literal
+  object-pattern {i} {j} ks us o r c = pattern-of (node Row.Object i i j ks) (node Row.TargetObject i i j us) (operand-kind LCurly refl o) r (rw c) (rw c) (rw c) (λ comma. rw c) refl refl
 
   -- ASSIGNMENTS
   pub assign-source : {i p j : ℕ} {ts us : Forest} → Second s i p → Opening s i → TargetDone s i p ts → Tok s p Eq → AssignmentDone s (p + 1) j us → AssignmentDone s i j (one (node Row.Assign p i j (join ts us)))
@@ -267,9 +221,9 @@ module _ {s : Sheet} where
   assign-source {i} {p} {j} {ts} {us} n op x t y =
       record {
         reads = λ c. subst (λ (v : Forest). Reads s (J.assignment i) j (one (node Row.Assign p i j (join v us)))) (sym (x .is-one))
-            (past-head op (R.value-assign (no-async-name n (ap is-name (t .kind-is)))
+            (past-head op (quiet (plainly .value-assigns (no-async-name n (ap is-name (t .kind-is)))
             (unary-short refl (left-unary (x .left)) .reads (tail-kind _ refl refl refl refl refl t) (past-levels (token s p) (omega (arith, t .kind-is))))
-            (ap (λ (k : ℕ). k is Arrow) (t .kind-is)) (ap is-assignment-operator (t .kind-is)) (R.assign-equals t (x .as-any-target) (y .reads c))));
+            (and-false (kind-of (x .tree) is Row.Identifier) (ap (λ (k : ℕ). k is Arrow) (t .kind-is))) (ap is-assignment-operator (t .kind-is)) (assign-equals t (x .as-any-target) (y .reads c)))));
       }
 
   pub compound-source : {i p j : ℕ} {ts us : Forest} → Second s i p → Opening s i → SimpleDone s i p ts → Of is-compound s p → AssignmentDone s (p + 1) j us
@@ -280,10 +234,10 @@ module _ {s : Sheet} where
       let u : leb (token s p) 78 ≡ true = and-right (leb 64 (token s p)) (leb (token s p) 78) (t .holds) in
       record {
         reads = λ c. subst (λ (v : Forest). Reads s (J.assignment i) j (one (node Row.CompoundAssign p i j (join v us)))) (sym (x .is-one))
-            (past-head op (R.value-assign (no-async-name n (name-small (token s p) l))
+            (past-head op (quiet (plainly .value-assigns (no-async-name n (name-small (token s p) l))
             (unary-short refl (left-unary (x .left)) .reads (tail-by is-compound refl refl refl refl refl (t .holds)) (past-levels (token s p) (omega arith)))
-            (test-not (token s p) is-compound Arrow refl (t .holds)) (rw (le-leb 63 (token s p) (omega arith)) u)
-            (R.assign-compound (test-not (token s p) is-compound Eq refl (t .holds)) (inside s p is-compound refl (t .holds)) (x .turns as-simple-target) (y .reads c))));
+            (and-false (kind-of (x .tree) is Row.Identifier) (test-not (token s p) is-compound Arrow refl (t .holds))) (rw (le-leb 63 (token s p) (omega arith)) u)
+            (assign-compound (test-not (token s p) is-compound Eq refl (t .holds)) (inside s p is-compound refl (t .holds)) (x .turns as-simple-target) (y .reads c)))));
       }
     where
       name-small : (k : ℕ) → 64 ≤ k → is-name k ≡ false
@@ -330,7 +284,7 @@ module _ {s : Sheet} where
   unfolding kind-of
   spread-item {i} {j} {ts} t x =
       record {
-        reads = λ c. rw (t .kind-is) (R.spread-done t (x .reads c));
+        reads = λ c. rw (t .kind-is) (plainly .spread-done (here t) (x .reads c));
         no-bracket = rw (t .kind-is);
         no-paren = rw (t .kind-is);
         no-comma = rw (t .kind-is);

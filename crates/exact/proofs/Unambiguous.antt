@@ -12,13 +12,13 @@ use Rattle.grammar.specs.Job.{Job}
 use Rattle.grammar.specs.Reading.{whole, plain, plain-reading, plain-pattern}
 use Rattle.laws.proofs.Steady.{one-outcome}
 use Rattle.ecma262.specs.Derives.{Nonterminal, Expression, BindingElement, Derives, Derived}
-use Rattle.exact.proofs.Clean.{Standard, clean-expression, clean-binding}
-use Rattle.exact.proofs.Rules.{Reads}
+use Rattle.exact.proofs.Sound.{Standard, clean-expression, clean-binding}
+use Rattle.exact.proofs.Parts.{Reads}
 use Rattle.exact.proofs.Complete.{complete, at-the-end, not-comma, complete-expression, complete-binding}
 
 -- a nonterminal is read with one tree at most
 one-reading : {s : Sheet} {job : Job} {j : ℕ} {ts us : Forest} → Reads s job j ts → Reads s job j us → ts ≡ us
-one-reading a b = let e = one-outcome (a .settles) (b .settles) in cc
+one-reading a b = let e = one-outcome a b in cc
 
 module _ {s : Sheet} {ts us : Forest} where
   -- two derivations of an Expression over the same list have the same tree

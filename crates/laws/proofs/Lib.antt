@@ -13,3 +13,4 @@ pub mod RowKinds
 pub mod Formed
 pub mod WellFormed
 pub mod Promises
+pub mod Rules
