@@ -4,7 +4,7 @@ use mathlib.Core.Path.{_∙_, sym}
 use native.Mathlib.Omega.{arith}
 use borrow.Author.Needs.{needs}
 use Rattle.rows.specs.Shape.{fits}
-use Rattle.trees.proofs.Beyond.{no-kid}
+use Rattle.trees.proofs.Shapes.{no-kid}
 use Rattle.trees.proofs.shape.fits.Statement.{statement}
 use Rattle.trees.proofs.shape.fits.Tie as tie
 

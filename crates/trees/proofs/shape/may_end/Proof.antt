@@ -7,7 +7,7 @@ use borrow.Author.Tests.{ne-eqb}
 use Rattle.rows.specs.Mask.{bits, mask}
 use Rattle.rows.specs.Shape.{may-end, is-parameter, is-binding, is-assignment, is-logical, is-binary, is-unary, is-left-hand-side}
 use Rattle.trees.proofs.Masks.{has-mask}
-use Rattle.trees.proofs.Beyond.{no-end}
+use Rattle.trees.proofs.Shapes.{no-end}
 use Rattle.trees.proofs.shape.may_end.Statement.{statement}
 use Rattle.trees.proofs.shape.may_end.Tie as tie
 
