@@ -38,6 +38,9 @@ module _ {rows : List ℕ} {root : ℕ} (h : Subtree rows root) where
   pub root-place : 6 * root ≡ length (h .before ++ flats (kids-of (h .tree)))
   root-place = simp length-append (omega (arith, length-flats (kids-of (h .tree)), size-root (h .tree), h .place))
 
+  pub place-root : 6 * root ≡ length (h .before) + 6 * sizes (kids-of (h .tree))
+  place-root = omega (arith, h .place, size-root (h .tree))
+
   pub root-word : (i : ℕ) → i < 6 → getD rows (6 * root + i) 0 ≡ getD (root-words (h .tree)) i 0
   root-word i small =
       rw root-text (at-seam (h .before ++ flats (kids-of (h .tree))) (root-words (h .tree)) (h .after) (6 * root) i root-place (omega (arith, length-root (h .tree))))
@@ -118,9 +121,6 @@ module _ {before : List ℕ} {kids : Forest} {tail rows : List ℕ} {after end :
   -- there is one more kid
   pub walk-more : after < count kids → Next (w .front)
   walk-more h = next (w .front) (omega (arith, counts))
-
-  pub walk-below : after ≤ count kids
-  walk-below = omega (arith, counts)
 
   module _ (n : Next (w .front)) where
     pub front-size : sizes (w .front) ≡ sizes (n .rest) + size (n .kid)

@@ -10,7 +10,7 @@ use borrow.Author.Tests.{eq-eqb, ne-eqb}
 use lib.ListN.{length, getD, length-append}
 use Rattle.tokens.specs.Bool.{if_then_else_}
 use Rattle.tokens.specs.declared.cause.Cause.{Cause}
-use Rattle.rows.specs.Tree.{Tree, Forest, node, nil, cons, one, count, size, sizes, kids-of}
+use Rattle.rows.specs.Tree.{Tree, Forest, node, nil, cons, one, count, size, sizes, kids-of, mark-of, first-of, end-of}
 use Rattle.rows.specs.Record.{Record}
 use Rattle.rows.specs.Post.{Word}
 use Rattle.rows.proofs.Rows.{sizes-join}
@@ -27,7 +27,7 @@ use Rattle.roles.specs.Plan as code
 use Rattle.targets.specs.Named.{NameUnder}
 use Rattle.targets.proofs.Near.{convert-near}
 use Rattle.conversion.proofs.Potentials.{comma-count, pays, potential-size, turned-records}
-use Rattle.targets.proofs.Flat.{Walk, Next, some-rows, walk-start, walk-some, walk-next, walk-past, whole-next, root-inside, kid-tree, kid-size, kid-text, size-root}
+use Rattle.targets.proofs.Flat.{place-root, Walk, Next, some-rows, walk-start, walk-some, walk-next, walk-past, whole-next, root-inside, kid-tree, kid-size, kid-text, size-root}
 use Rattle.targets.proofs.Looking.{reads-size, no-kid}
 use Rattle.targets.proofs.Plans.{turning, Alone, kept, refuses, alone, few-notes}
 
@@ -42,21 +42,21 @@ pub by-change : {rows : List ℕ} {root : ℕ} {role : def.Role} {of : ℕ} {ch 
     → means.plan (begins-of (h .tree)) of ≡ ch → convert-as (h .tree) role ≡ over ch (h .tree) (convert-kids (kids-of (h .tree)) (roles ch))
 by-change p h e = by-plan p h ∙ ap (λ (x : def.Change). over x (h .tree) (convert-kids (kids-of (h .tree)) (roles x))) e
 
-over-refused : (c : Cause) (t : Tree) (out : Outcome Forest) → outcome.found (over (def.refuse c) t out) ≡ Refused c
-unfolding over
-over-refused c t out = refl
+pub keeps-over : (kind : ℕ) (rs : List Record) (t : Tree) (out : Outcome Forest) → over (def.keep kind rs) t out ≡ turned (node kind (mark-of t) (first-of t) (end-of t) (kids-of t)) rs
+unfolding over kids-of mark-of first-of end-of
+keeps-over kind rs (node k m f e kids) out = refl
 
-over-kept : (k : ℕ) (rs : List Record) (t : Tree) (out : Outcome Forest) → outcome.found (over (def.keep k rs) t out) ≡ Turned (length rs)
+pub refuses-over : (c : Cause) (t : Tree) (out : Outcome Forest) → over (def.refuse c) t out ≡ refused c
 unfolding over
-over-kept k rs (node k′ m f e kids) out = refl
+refuses-over c t out = refl
 
 -- a row whose kids stay, or that is refused
 pub judge-alone : {rows : List ℕ} {root : ℕ} {role : def.Role} {of r : ℕ} → PlanAt rows root role of → Own of r → code.Keep ≤ of % 16 → Judged rows root role r
 judge-alone {rows} {root} {role} {of} {r} p o le = record { is = λ h. go h (alone (begins-of (h .tree)) of le) }
   where
     go : (h : Subtree rows root) → Alone (begins-of (h .tree)) of → outcome.told r ≡ outcome.found (convert-as (h .tree) role)
-    go h (kept q) = o .is _ ∙ ap outcome.own q ∙ sym (ap outcome.found (by-change p h q) ∙ over-kept _ _ (h .tree) _)
-    go h (refuses c q) = o .is _ ∙ ap outcome.own q ∙ sym (ap outcome.found (by-change p h q) ∙ over-refused c (h .tree) _)
+    go h (kept q) = o .is _ ∙ ap outcome.own q ∙ sym (ap outcome.found (by-change p h q ∙ keeps-over _ _ (h .tree) _))
+    go h (refuses c q) = o .is _ ∙ ap outcome.own q ∙ sym (ap outcome.found (by-change p h q ∙ refuses-over c (h .tree) _))
 
 -- judging stands at a kid: those after it are judged
 pub record Here {rows : List ℕ} {root : ℕ} (h : Subtree rows root) (of base end found : ℕ) : Type 0 where
@@ -221,9 +221,6 @@ nothing-more : (x : Conversion) → x ≡ outcome.both (Turned 0) x
 nothing-more (Turned n) = ap Turned (let e : n ≡ 0 + n = omega arith in e)
 nothing-more (Refused c) = refl
 
-root-rows : {rows : List ℕ} {root : ℕ} (h : Subtree rows root) → 6 * root ≡ length (h .before) + 6 * sizes (kids-of (h .tree))
-root-rows h = omega (arith, h .place, size-root (h .tree))
-
 over-turned : (begins of : ℕ) (t : Tree) (n : ℕ) → n ≡ length (means.before begins of) + length (means.after of)
     → outcome.found
     (over (def.turn (means.kind of) (means.before begins of) (means.kids of) (means.after of)) t (convert-kids (kids-of t) (roles (def.turn (means.kind of) (means.before begins of) (means.kids of) (means.after of)))))
@@ -281,7 +278,7 @@ module _ {rows : List ℕ} {root of found₀ end found first size′ : ℕ} (j :
       q
       ∙ ap (λ (x : Conversion). outcome.both x (outcome.told found))
       (o .is (the-kid j f lt h)
-      ∙ ap (λ (b : Bool). outcome.found (convert-as (the-next j f lt h .kid) (means.kid of b))) (l ∙ last-kid root (j .here h .walk) (root-rows h))))
+      ∙ ap (λ (b : Bool). outcome.found (convert-as (the-next j f lt h .kid) (means.kid of b))) (l ∙ last-kid root (j .here h .walk) (place-root h))))
 
   -- a kid that turns by itself has no record
   pub judge-pass : {at : ℕ} → NameUnder rows (end - 1) of at → at < end → Judging rows root of found₀ (end - size′) found

@@ -23,10 +23,10 @@ use Rattle.roles.specs.Meaning.{commas, kid, aim}
 use Rattle.roles.specs.ShortCut.{is-value, is-element, is-initialized, ends-in-target, named-kind}
 use Rattle.targets.specs.Named.{Named, NameAt, NameBelow, NameUnder, NameInside, NameSet, named-at}
 use Rattle.conversion.proofs.Potentials.{turned-is, turned-records}
-use Rattle.targets.proofs.Flat.{root-words, root-text, root-inside, Walk, Next, walk-start, walk-more, walk-next, kid-tree, kid-size, kid-text, whole-next}
+use Rattle.targets.proofs.Flat.{place-root, root-words, root-text, root-inside, Walk, Next, walk-start, walk-more, walk-next, kid-tree, kid-size, kid-text, whole-next}
 use Rattle.targets.proofs.Looking.{reads-kind, reads-kids, reads-size, no-kid}
 use Rattle.targets.proofs.Records.{filled-none}
-use Rattle.targets.proofs.Turning.{root-set, same-kids, place-root, more-flat, Step, step-turned}
+use Rattle.targets.proofs.Turning.{root-set, same-kids, more-flat, Step, step-turned}
 use Rattle.conversion.proofs.Shapes.{SameShape}
 
 -- a tree with another kind at its root, or other kids

@@ -8,7 +8,7 @@ use mathlib.Core.Path.{_≡_, refl, sym, ap, _∙_}
 use mathlib.Core.List.{List, [], _∷_, _++_, append-assoc}
 use native.Mathlib.Omega.{arith}
 use lib.Dec.{eqb}
-use borrow.Author.Tests.{eqb-true, eq-eqb}
+use borrow.Author.Tests.{eqb-true, eqb-false}
 use lib.ListN.{length, getD, set, length-append, length-set}
 use lib.Seq.{set-append-seam}
 use Rattle.tokens.specs.declared.cause.Cause.{Cause}
@@ -25,10 +25,10 @@ use Rattle.targets.specs.Named.{all-elements}
 use Rattle.roles.specs.ShortCut.{is-element}
 use Rattle.conversion.proofs.RuleHolds.{refused-turned}
 use Rattle.conversion.proofs.Potentials.{turned-is, turned-records}
-use Rattle.targets.proofs.Flat.{root-words, flat-root, root-text, root-inside, size-root, Walk, Next, walk-start, walk-some, walk-next, walk-none, walk-past, kid-tree, kid-size, whole-next}
+use Rattle.targets.proofs.Flat.{place-root, root-words, flat-root, root-text, root-inside, size-root, Walk, Next, walk-start, walk-some, walk-next, walk-none, walk-past, kid-tree, kid-size, whole-next}
 use Rattle.targets.proofs.Looking.{reads-kind, reads-size, last-begins, kid-before}
 use Rattle.targets.proofs.Records.{filled-none, filled-more}
-use Rattle.targets.proofs.Judging.{by-change, last-kid}
+use Rattle.targets.proofs.Judging.{by-change, keeps-over, refuses-over, last-kid}
 use Rattle.roles.specs.Plan as code
 use Rattle.targets.proofs.Plans.{turning, Alone, kept, refuses, alone, before-length, right-before}
 use Rattle.targets.proofs.Wrong.{wrong-kid}
@@ -108,19 +108,8 @@ root-set (node k m f e ts) kids kind before after rows rows′ root s text place
     ∙ set-append-seam (before ++ flats kids) k r kind
     ∙ rw (s .many, s .rows) (simp append-assoc)
 
-keeps-over : (kind : ℕ) (rs : List Record) (t : Tree) (out : Outcome Forest) → over (def.keep kind rs) t out ≡ turned (node kind (mark-of t) (first-of t) (end-of t) (kids-of t)) rs
-unfolding over kids-of mark-of first-of end-of
-keeps-over kind rs (node k m f e kids) out = refl
-
-refuses-over : (c : Cause) (t : Tree) (out : Outcome Forest) → over (def.refuse c) t out ≡ refused c
-unfolding over
-refuses-over c t out = refl
-
 pub same-kids : (ts : Forest) → SameShape ts ts
 same-kids ts = record { many = refl; rows = refl }
-
-pub place-root : {rows : List ℕ} {root : ℕ} (h : Subtree rows root) → 6 * root ≡ length (h .before) + 6 * sizes (kids-of (h .tree))
-place-root h = omega (arith, h .place, size-root (h .tree))
 
 -- a row whose kids stay is given its kind, and its record is written; of one that is refused nothing is asked
 pub turn-alone : {rows r : List ℕ} {root end result : ℕ} {rows′ r′ : List ℕ} {role : def.Role} {of : ℕ} → PlanAt rows root role of → code.Keep ≤ of % 16
@@ -411,9 +400,6 @@ same-last u u′ (cons t ts) each ts′ rs e h =
     let b = cons-parts t ts each ts′ rs h in
     rw (b .made) (same-last t (b .one) ts each (b .rest) (b .later) (same-first t (each (count ts)) (b .one) (b .first) (b .one-is)) (b .rest-is))
 
-no-both : true ≡ false → ⊥
-no-both e = let z : _≡_ {A = ℕ} 0 1 = cc in absurd (omega arith)
-
 -- what is known of a row whose kids are turned
 record Over {rows₀ : List ℕ} {root : ℕ} (h : Subtree rows₀ root) (ts : Forest) (rs : List Record) (r₀ : List ℕ) (start₀ : ℕ) (rows r : List ℕ) (start : ℕ) : Type 0 where
   text : rows ≡ h .before ++ (flats ts ++ (root-words (h .tree) ++ h .after))
@@ -441,7 +427,7 @@ module _ {rows₀ r₀ : List ℕ} {root of start₀ : ℕ} {rows r : List ℕ} 
       let e = walk-none (a .walk) (f .is (current h a)) ge in
       let d = walk-past (a .walk) (f .is (current h a)) ge .0 in
       let n = now-shape h a .many in
-      last-begins (current h a) (omega arith)
+      last-begins (current h a) (omega arith) (record { is = refl })
       ∙ ap (λ (g : Forest). first-of (def.last-of (join g (a .done)))) e
       ∙ same-last (node 0 0 0 0 nil) (node 0 0 0 0 nil) (a .walk .passed) (means.kids of) (a .done) (a .notes) refl (a .is)
       ∙ ap (λ (ts : Forest). first-of (def.last-of ts)) d
@@ -452,7 +438,7 @@ module _ {rows₀ r₀ : List ℕ} {root of start₀ : ℕ} {rows r : List ℕ} 
     where
       go : (b : Bool) → eqb (of % 16) code.WrongRest ≡ b → means.before (begins-before rows root) of ≡ means.before (begins-of (h .tree)) of
       go true q = ap (λ (n : ℕ). means.before n of) (begins-same h k (wrong-kid p (eqb-true (of % 16) code.WrongRest q) h))
-      go false q = right-before (begins-before rows root) (begins-of (h .tree)) of (λ e. no-both (sym (eq-eqb (of % 16) code.WrongRest e) ∙ q))
+      go false q = right-before (begins-before rows root) (begins-of (h .tree)) of (eqb-false (of % 16) code.WrongRest q)
 
   -- the row can be finished
   pub finish-fits : {role : def.Role} → PlanAt rows₀ root role of → KidsReady rows₀ root of start₀ → FinishFits rows root of (length r) start
