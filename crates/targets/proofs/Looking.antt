@@ -7,11 +7,12 @@ use native.Mathlib.Omega.{arith}
 use lib.ListN.{getD}
 use Rattle.rows.specs.Tree.{Tree, Forest, node, nil, cons, one, join, count, size, row, kind-of, mark-of, first-of, end-of, kids-of}
 use Rattle.rows.specs.Post.{Word}
+use Rattle.rows.proofs.Rows.{Next}
 use Rattle.conversion.specs.Conversion.{Role, change, last-or, last-of}
 use Rattle.roles.specs.Meaning as means
 use Rattle.targets.specs.Post.{Subtree, near, begins-of, FirstRow, PlanAt}
 use Rattle.roles.specs.declared.Seen.{Seen}
-use Rattle.targets.proofs.Flat.{Next, root-words, root-word, walk-start, walk-more, kid-tree, kid-size}
+use Rattle.targets.proofs.Flat.{no-kid, root-words, root-word, walk-start, walk-more, kid-tree, kid-size}
 
 words-are : (t : Tree) → root-words t ≡ row (kind-of t) (mark-of t) (first-of t) (end-of t) (count (kids-of t)) (size t)
 unfolding root-words kind-of mark-of first-of end-of kids-of size
@@ -36,11 +37,6 @@ module _ {rows : List ℕ} {root : ℕ} (h : Subtree rows root) where
 
   pub reads-size : {x : ℕ} → Word rows root 5 x → x ≡ size (h .tree)
   reads-size w = reads-word 5 (omega arith) w
-
-pub no-kid : (ts : Forest) → count ts ≡ 0 → ts ≡ nil
-unfolding count
-no-kid nil h = refl
-no-kid (cons t ts) h = absurd (omega arith)
 
 last-join : (u : Tree) (ts : Forest) (t : Tree) → last-or u (join ts (one t)) ≡ t
 unfolding join

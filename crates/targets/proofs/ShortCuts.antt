@@ -14,7 +14,7 @@ use Rattle.rows.specs.Row as row
 use Rattle.rows.specs.Tree.{Tree, Forest, node, nil, cons, one, join, count, size, sizes, flat, flats, kind-of, mark-of, first-of, end-of, kids-of}
 use Rattle.rows.specs.Post.{Word, KindSet, RowInside}
 use Rattle.rows.specs.Record.{Record}
-use Rattle.rows.proofs.Rows.{sizes-join, flats-join, count-join}
+use Rattle.rows.proofs.Rows.{sizes-join, flats-join, count-join, Next}
 use Rattle.conversion.specs.Conversion.{turned, is-reference, Role, any, simple, element, last-element, property, last-property, value, name, same, each, only, as-simple, as-any, as-value, as-element, as-last-element, as-property, as-last-property, as-name, change, roles, over, seen, both, convert-as, convert-kids}
 use Rattle.targets.specs.Post.{Subtree, WordInside, TurnedRow}
 use Rattle.conversion.proofs.RuleHolds.{by-test, both-true, one-kid}
@@ -23,8 +23,8 @@ use Rattle.roles.specs.Meaning.{commas, kid, aim}
 use Rattle.roles.specs.ShortCut.{is-value, is-element, is-initialized, ends-in-target, named-kind}
 use Rattle.targets.specs.Named.{Named, NameAt, NameBelow, NameUnder, NameInside, NameSet, named-at}
 use Rattle.conversion.proofs.Potentials.{turned-is, turned-records}
-use Rattle.targets.proofs.Flat.{place-root, root-words, root-text, root-inside, Walk, Next, walk-start, walk-more, walk-next, kid-tree, kid-size, kid-text, whole-next}
-use Rattle.targets.proofs.Looking.{reads-kind, reads-kids, reads-size, no-kid}
+use Rattle.targets.proofs.Flat.{no-kid, place-root, root-words, root-text, root-inside, Walk, walk-start, walk-more, walk-next, kid-tree, kid-size, kid-text, whole-next}
+use Rattle.targets.proofs.Looking.{reads-kind, reads-kids, reads-size}
 use Rattle.targets.proofs.Records.{filled-none}
 use Rattle.targets.proofs.Turning.{root-set, same-kids, more-flat, Step, step-turned}
 use Rattle.conversion.proofs.Shapes.{SameShape}

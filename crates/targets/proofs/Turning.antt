@@ -16,7 +16,7 @@ use Rattle.rows.specs.Tree.{Tree, Forest, node, nil, cons, one, join, count, si
 use Rattle.rows.specs.Record.{Record}
 use Rattle.rows.specs.Post.{Word, KindSet, RowInside}
 use Rattle.rows.proofs.Flat.{length-flats}
-use Rattle.rows.proofs.Rows.{sizes-join, flats-join, count-join}
+use Rattle.rows.proofs.Rows.{sizes-join, flats-join, count-join, Next}
 use Rattle.conversion.specs.Conversion as def
 use Rattle.conversion.specs.Conversion.{Outcome, turned, refused, roles, over, convert-as, convert-kids}
 use Rattle.roles.specs.Meaning as means
@@ -25,7 +25,7 @@ use Rattle.targets.specs.Named.{all-elements}
 use Rattle.roles.specs.ShortCut.{is-element}
 use Rattle.conversion.proofs.RuleHolds.{refused-turned}
 use Rattle.conversion.proofs.Potentials.{turned-is, turned-records}
-use Rattle.targets.proofs.Flat.{place-root, root-words, flat-root, root-text, root-inside, size-root, Walk, Next, walk-start, walk-some, walk-next, walk-none, walk-past, kid-tree, kid-size, whole-next}
+use Rattle.targets.proofs.Flat.{place-root, root-words, flat-root, root-text, root-inside, size-root, Walk, walk-start, walk-some, walk-next, walk-none, walk-past, kid-tree, kid-size, whole-next}
 use Rattle.targets.proofs.Looking.{reads-kind, reads-size, last-begins, kid-before}
 use Rattle.targets.proofs.Records.{filled-none, filled-more}
 use Rattle.targets.proofs.Judging.{by-change, keeps-over, refuses-over, last-kid}
@@ -406,10 +406,6 @@ record Over {rows₀ : List ℕ} {root : ℕ} (h : Subtree rows₀ root) (ts : F
   begins : start + length rs ≡ start₀
   filled : Filled r₀ start rs r
 
-same-over : {rows₀ r₀ : List ℕ} {root start₀ : ℕ} {rows r : List ℕ} {start : ℕ} {h : Subtree rows₀ root} {ts us : Forest} {rs ss : List Record} → turned ts rs ≡ turned us ss
-    → Over h ts rs r₀ start₀ rows r start → Over h us ss r₀ start₀ rows r start
-same-over e o = rw (turned-is e, turned-records e) at o
-
 module _ {rows₀ r₀ : List ℕ} {root of start₀ : ℕ} {rows r : List ℕ} {start stop first : ℕ} (t : Turning rows₀ root r₀ of start₀ rows r start stop)
     (f : FirstRow rows root first) (ge : stop ≤ first) where
   all-turned : (h : Subtree rows₀ root) (k : Kindly h of) → Over h (k .made) (k .records) r₀ start₀ rows r start
@@ -417,7 +413,8 @@ module _ {rows₀ r₀ : List ℕ} {root of start₀ : ℕ} {rows r : List ℕ} 
       let a = t .here h k in
       let d = walk-past (a .walk) (f .is (current h a)) ge in
       let b = sym (a .is) ∙ ap (λ (ts : Forest). convert-kids ts (means.kids of)) (d .0) ∙ k .is in
-      same-over b (record { text = d .1; begins = a .begins; filled = a .filled })
+      let o : Over h (a .done) (a .notes) r₀ start₀ rows r start = record { text = d .1; begins = a .begins; filled = a .filled } in
+      rw (turned-is b, turned-records b) at o
 
   -- the last kid begins where it did
   begins-same : (h : Subtree rows₀ root) (k : Kindly h of) → 0 < count (kids-of (h .tree)) → begins-before rows root ≡ begins-of (h .tree)
@@ -459,9 +456,6 @@ same-made : {before after r₀ rows r : List ℕ} {t u : Tree} {start end : ℕ}
     → (start + length ss ≡ end) × Made before after r₀ u start ss rows r → (start + length rs ≡ end) × Made before after r₀ t start rs rows r
 same-made e f m = rw (e, f) m
 
-same-written : {r₀ r : List ℕ} {end start : ℕ} {rs ss : List Record} → rs ≡ ss → Written r₀ end rs r start → Written r₀ end ss r start
-same-written e w = rw e at w
-
 pub turn-ends : {rows₀ rₑ r₀ : List ℕ} {root : ℕ} {role : def.Role} {of end start₀ : ℕ} {rows r : List ℕ} {start stop first : ℕ} {rows′ r′ : List ℕ} {result : ℕ}
     → PlanAt rows₀ root role of → of % 16 < code.Keep → Written rₑ end (means.after of) r₀ start₀ → 2 * end ≤ length rₑ → length r₀ ≡ length rₑ
     → Turning rows₀ root r₀ of start₀ rows r start stop → FirstRow rows root first → stop ≤ first → Finished rows r root of start rows′ r′ result
@@ -472,7 +466,7 @@ turn-ends {rₑ = rₑ} {root = root} {of = of} {end = end} {start₀ = start₀
           let c = accepted p lt h t′ rs a in
           let k : Kindly h of = record { made = c .kids; records = c .notes; is = c .is } in
           let o = all-turned t f ge h k in
-          let wₙ = same-written (before-same t f ge p h k) (w .notes) in
+          let wₙ = rw (before-same t f ge p h k) at (w .notes) in
           let ba = wₐ .begins in
           let bo = o .begins in
           let bn = wₙ .begins in

@@ -15,8 +15,7 @@ returns c =
 
 sub-low : tie.Need-sub-low
 sub-low c =
-    let well-formed = c .before .before .before .well-formed in
-    omega (arith, size-small (inside (well-formed .ensures .holds (not-false _ (c .before .before .if1 .left))) (c .before .if2 .left)) (c .row-word .ensures .is))
+    omega (arith, size-small (inside (c .before .before .before .well-formed .ensures .holds (not-false _ (c .before .before .if1 .left))) (c .before .if2 .left)) (c .row-word .ensures .is))
 
 returns-3 : tie.Need-returns-3
 returns-3 c =

@@ -17,11 +17,6 @@ Inv-loop words long rows n₀ n = (n ≤ rows) × ((m : ℕ) → m < n → Stand
 abbrev μ-loop : tie.MeasureT-loop
 μ-loop words long rows n₀ n = rows - n
 
-loop-again : tie.Need-loop-again Inv-loop μ-loop
-loop-again c =
-    let loop = c .before .before .before .loop in
-    (search needs, below-more _ _ (loop .inv .1) (c .before .row-stands .ensures .holds (not-false _ (c .if4 .left))))
-
 returns-5 : tie.Need-returns-5 Inv-loop μ-loop
 returns-5 c =
     let if1 = c .before .before .before .before .before .if1 in
@@ -39,5 +34,6 @@ well-formed-spec =
     (λ c. (search needs, λ m l. absurd (omega arith)))
     (λ c κs. search needs)
     (λ c. never (falls (c .before .before .loop-test .taken) (c .before .row-stands .ensures .fails (not-true _ (c .if4 .taken)))))
-    (λ c. search needs) (λ c. search needs) loop-again (λ c. search needs) (λ c κs. search needs)
-    (λ c. search needs) returns-5)
+    (λ c. search needs) (λ c. search needs)
+    (λ c. (search needs, below-more _ _ (c .before .before .before .loop .inv .1) (c .before .row-stands .ensures .holds (not-false _ (c .if4 .left)))))
+    (λ c. search needs) (λ c κs. search needs) (λ c. search needs) returns-5)

@@ -16,17 +16,14 @@ abbrev μ-loop : tie.MeasureT-loop
 
 returns-2 : tie.Need-returns-2 Inv-loop μ-loop
 returns-2 c =
-    let pre = c .before .before .before .before .before .before .pre in
     let loop = c .before .before .before .before .loop in
-    let loop-test = c .before .before .before .loop-test in
-    let stand = (pre .0 .stand (loop .top - 1) (omega (arith, c .before .before .if1 .left, loop .inv .top-row))) in
-    never (too-large (loop .inv) (loop-test .taken) stand (kid-size (c .before .row-word .ensures .is) stand) (c .if2 .taken))
+    let stand = (c .before .before .before .before .before .before .pre .0 .stand (loop .top - 1) (omega (arith, c .before .before .if1 .left, loop .inv .top-row))) in
+    never (too-large (loop .inv) (c .before .before .before .loop-test .taken) stand (kid-size (c .before .row-word .ensures .is) stand) (c .if2 .taken))
 
 kid-fits-requires : tie.Need-kid-fits-requires Inv-loop μ-loop
 kid-fits-requires c κs =
-    let pre = c .before .before .before .before .before .before .pre in
     let loop = c .before .before .before .before .loop in
-    pre .0 .stand (loop .top - 1) (omega (arith, c .before .before .if1 .left, loop .inv .top-row))
+    c .before .before .before .before .before .before .pre .0 .stand (loop .top - 1) (omega (arith, c .before .before .if1 .left, loop .inv .top-row))
 
 returns-3 : tie.Need-returns-3 Inv-loop μ-loop
 returns-3 c =

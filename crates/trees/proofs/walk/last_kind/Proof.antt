@@ -6,11 +6,6 @@ use Rattle.trees.proofs.Walks.{no-last, has-row-before, last-before}
 use Rattle.trees.proofs.walk.last_kind.Statement.{statement}
 use Rattle.trees.proofs.walk.last_kind.Tie as tie
 
-sub-row-word : tie.Need-sub-row-word
-sub-row-word c =
-    let pre = c .before .before .before .pre in
-    has-row-before (λ e. c .if1 .left (c .before .row-word .ensures .is ∙ e)) (pre)
-
 returns-2 : tie.Need-returns-2
 returns-2 c =
     let pre = c .before .before .before .before .pre in
@@ -21,4 +16,5 @@ last-kind-spec =
     tie.close (tie.spec
     (λ c κs. search needs)
     (λ c. no-last (sym (c .before .row-word .ensures .is) ∙ c .if1 .taken))
-    sub-row-word (λ c κs. search needs) returns-2)
+    (λ c. has-row-before (λ e. c .if1 .left (c .before .row-word .ensures .is ∙ e)) (c .before .before .before .pre))
+    (λ c κs. search needs) returns-2)

@@ -25,11 +25,6 @@ returns-4 c =
     let row-word2 = c .before .before .before .before .before .row-word2 in
     never (too-long (row-word .ensures .is) (row-word2 .ensures .is) (c .before .before .row-word3 .ensures .is) (c .if4 .taken))
 
-kids-stand-requires : tie.Need-kids-stand-requires
-kids-stand-requires c κs =
-    let pre = c .before .before .before .before .before .before .before .before .before .before .pre in
-    (pre, omega (arith, c .before .if3 .left, c .if4 .left))
-
 returns-5 : tie.Need-returns-5
 returns-5 c =
     let row-word = c .before .before .before .before .before .before .before .before .before .row-word in
@@ -47,4 +42,5 @@ row-stands-spec =
     (λ c. never (unlisted (c .before .before .row-word .ensures .is) (sym (c .before .is-listed .ensures) ∙ not-true _ (c .if1 .taken))))
     (λ c κs. search needs) (λ c. search needs) (λ c κs. search needs) returns-2 (λ c κs. search needs)
     (λ c. search needs) returns-3 (λ c. search needs) returns-4 (λ c. search needs) (λ c. search needs)
-    kids-stand-requires returns-5)
+    (λ c κs. ((c .before .before .before .before .before .before .before .before .before .before .pre), omega (arith, c .before .if3 .left, c .if4 .left)))
+    returns-5)
