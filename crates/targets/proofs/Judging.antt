@@ -21,7 +21,6 @@ use Rattle.conversion.specs.Conversion.{Outcome, turned, refused, roles, over, 
 use Rattle.roles.specs.Meaning as means
 use Rattle.targets.specs.Outcome as outcome
 use Rattle.targets.specs.Post.{Subtree, SizeInside, FirstRow, begins-of, PlanAt, Own, Judged, Sums}
-use Rattle.conversion.proofs.RuleHolds.{refused-turned}
 use Rattle.targets.specs.declared.Conversion.{Conversion}
 use Rattle.targets.specs.declared.Conversion.the-variants.{Turned, Refused}
 use Rattle.roles.specs.Plan as code
