@@ -107,7 +107,8 @@ module _ (rows : List ℕ) (root : ℕ) {role : Role} {of : ℕ} (below begins :
             ap (λ (b : ℕ). means.plan b of) (sym (l h .1))
             ∙ e
             ∙ ap (change role)
-            (near-is (h .tree) (reads rows root below begins) (reads-kind h kind-there) (reads-mark h (record { is = refl })) (reads-first h (record { is = refl })) (reads-kids h (record { is = refl })) (l h .0) (l h .1));
+            (near-is (h .tree) (reads rows root below begins) (reads-kind h kind-there) (reads-mark h (record { is = refl })) (reads-first h (record { is = refl }))
+            (reads-kids h (record { is = refl })) (l h .0) (l h .1));
       }
 
   pub plan-none : getD rows (6 * root + 4) 0 ≡ 0 → below ≡ 0 → begins ≡ 0 → means.plan begins of ≡ change role (means.seen (reads rows root below begins)) → PlanAt rows root role of

@@ -48,7 +48,8 @@ lining-more {words} {width = width} {n} {i} {x} h l e a k =
       adds = adds-then (h .adds) a;
       text =
           h .text
-          ∙ rw (p, q, r, line-more words (width * n + i) (width - i - 2), sym e) (sym (append-assoc (h .done) (decimal x ++ (space ∷ [])) (line (words-from words (width * n + i + 1) (suc (width - i - 2))))));
+          ∙ rw (p, q, r, line-more words (width * n + i) (width - i - 2), sym e)
+          (sym (append-assoc (h .done) (decimal x ++ (space ∷ [])) (line (words-from words (width * n + i + 1) (suc (width - i - 2))))));
     }
 
 pub lining-last : {words out₀ out out′ : List ℕ} {width n i x : ℕ} {pen₀ pen pen′ : Pen} → Lining words width n out₀ pen₀ i out pen → width - 1 ≤ i

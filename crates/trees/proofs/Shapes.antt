@@ -167,7 +167,8 @@ module _ {kid : ℕ} (h : 64 ≤ kid) where
   no-set : none-of kid named ≡ true
   unfolding is-left-hand-side is-unary is-binary is-logical is-assignment is-expression is-body is-binding is-parameter is-simple-target is-target
   no-set =
-      rw (past 1 8 refl, past 16 18 refl, past 19 21 refl, other 22 refl, other 23 refl, past 24 26 refl, past 28 29 refl, other 27 refl, past 7 8 refl, past 30 32 refl, other 34 refl, past 40 41 refl, past 46 47 refl, past 42 43 refl)
+      rw (past 1 8 refl, past 16 18 refl, past 19 21 refl, other 22 refl, other 23 refl, past 24 26 refl, past 28 29 refl, other 27 refl, past 7 8 refl)
+      (rw (past 30 32 refl, other 34 refl, past 40 41 refl, past 46 47 refl, past 42 43 refl))
 
   set : (n : ℕ) → getD named n nothing kid ≡ false
   set n = none-at kid named no-set n
@@ -177,7 +178,8 @@ module _ {kid : ℕ} (h : 64 ≤ kid) where
   none kind =
       all-shapes (none-in kid)
       (rw (set 0, set 1, set 2, set 3, set 4, set 5, set 6, set 7, set 8, set 9, set 10)
-      (rw (other 1 refl, other 9 refl, other 10 refl, other 11 refl, other 12 refl, other 13 refl, other 14 refl, other 15 refl, other 30 refl, other 33 refl, other 35 refl, other 36 refl, other 40 refl, other 44 refl, other 45 refl, other 48 refl, other 49 refl, other 50 refl)))
+      (rw (other 1 refl, other 9 refl, other 10 refl, other 11 refl, other 12 refl, other 13 refl, other 14 refl, other 15 refl)
+      (rw (other 30 refl, other 33 refl, other 35 refl, other 36 refl, other 40 refl, other 44 refl, other 45 refl, other 48 refl, other 49 refl, other 50 refl))))
       refl kind
 
   none-front : (kind n : ℕ) → getD (shape-of kind .front) n nothing kid ≡ false
