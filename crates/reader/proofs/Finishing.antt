@@ -13,7 +13,7 @@ use Rattle.rows.specs.Record.{Record, record-words}
 use Rattle.rows.specs.Post.{Cleared, Grown, GrownRecords}
 use Rattle.rows.proofs.Flat.{length-flats}
 use Rattle.rows.proofs.Records.{length-record-words, grown-records-join}
-use Rattle.rows.proofs.Changed.{cleared-all, cleared-rows, cleared-records}
+use Rattle.rows.proofs.Clear.{cleared-all, cleared-rows, cleared-records}
 use Rattle.grammar.specs.Reading.{noted-places, unconverteds, at-end}
 use Rattle.grammar.specs.Lent.{padded, answered, Ready}
 use Rattle.build.specs.declared.cursor.Cursor.{Cursor}

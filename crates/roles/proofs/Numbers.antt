@@ -1,11 +1,10 @@
 -- What a plan says, by its kind and by what it holds.
 -- Assumes nothing.
-use Prim.Native.Nat.{ℕ, _+_, _-_, _<_, _%_}
-use mathlib.Core.Path.{_≡_, refl, ap, _∙_}
+use Prim.Native.Nat.{ℕ, _+_, _-_, _<_}
+use mathlib.Core.Path.{_≡_, ap, _∙_}
 use mathlib.Core.List.{List, [], _∷_}
 use native.Mathlib.Omega.{arith}
 use borrow.Author.Tests.{ne-eqb}
-use Rattle.tokens.specs.Bool.{if_then_else_, _is_}
 use Rattle.rows.specs.Row as row
 use Rattle.rows.specs.Record.{Record, rest-comma, compound-default}
 use Rattle.conversion.specs.Conversion as def

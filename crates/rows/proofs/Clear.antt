@@ -1,13 +1,15 @@
--- Laws of clearing: a list with zeros from one place up to another, one zero more, and all zeros to the end.
+-- Laws of clearing: a list with zeros from one place up to another, one zero more, and all zeros to the end; what is left is what was added.
 -- Assumes nothing.
-use Prim.Native.Nat.{ℕ, suc, _+_, _-_, _≤_, _<_}
+use Prim.Native.Nat.{ℕ, suc, _+_, _-_, _*_, _≤_, _<_}
 use mathlib.Core.Path.{_≡_, refl, sym, ap, _∙_}
 use mathlib.Core.List.{List, [], _∷_, _++_, append-nil, append-assoc}
 use native.Mathlib.Omega.{arith}
 use native.Mathlib.Numerals.{add-one}
 use lib.ListN.{length, take, drop, set, getD, replicate, length-append, length-replicate, length-set, take-append-drop, drop-of-length-le, replicate-append-replicate}
 use lib.Seq.{set-at, drop-cons, length-take-le}
-use Rattle.rows.specs.Post.{Cleared}
+use Rattle.rows.specs.Tree.{Forest, flats}
+use Rattle.rows.specs.Record.{Record, record-words}
+use Rattle.rows.specs.Post.{Cleared, Grown, GrownRecords}
 
 -- the words before a place, then zeros up to another
 pub zeroed : List ℕ → ℕ → ℕ → List ℕ
@@ -65,3 +67,15 @@ clearing-all r₀ from i r h past =
           ∙ append-nil (zeroed r₀ from i)
           ∙ ap (λ (n : ℕ). take from r₀ ++ replicate n 0) all;
     }
+
+-- all words are 0
+pub cleared-all : {r r′ : List ℕ} → Cleared r 0 r′ → r′ ≡ replicate (length r) 0
+cleared-all {r} h = h .text ∙ ap (λ (n : ℕ). replicate n 0) (let e : length r - 0 ≡ length r = omega arith in e)
+
+-- the rows that were added, and then zeros; the same of records
+pub cleared-rows : {r₀ r r′ : List ℕ} {n : ℕ} {ts : Forest} → Grown r₀ 0 r n ts → Cleared r (6 * n) r′ → r′ ≡ flats ts ++ replicate (length r - 6 * n) 0
+cleared-rows {r = r} {n = n} g h = h .text ∙ ap (λ (l : List ℕ). l ++ replicate (length r - 6 * n) 0) (g .text)
+
+pub cleared-records : {r₀ r r′ : List ℕ} {n : ℕ} {records : List Record}
+    → GrownRecords r₀ 0 r n records → Cleared r (2 * n) r′ → r′ ≡ record-words records ++ replicate (length r - 2 * n) 0
+cleared-records {r = r} {n = n} g h = h .text ∙ ap (λ (l : List ℕ). l ++ replicate (length r - 2 * n) 0) (g .text)

@@ -6,4 +6,3 @@ pub mod Parts
 pub mod Tests
 pub mod Subtrees
 pub mod Once
-pub mod Changed

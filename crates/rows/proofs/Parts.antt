@@ -135,19 +135,6 @@ module _ (b : ℕ) {w : List ℕ} {a c k m f e : ℕ} {ts : Forest} (h : Part w 
   pub part-root : row-at w b ≡ row k m f e (count ts) (sizes ts + 1)
   part-root = sym (row-words w b (omega (arith, h .inside))) ∙ back-same (take (6 * sizes ts) (drop (6 * a) w)) _ (flats ts) _ kids-long parts
 
--- each word of a row
-pub kind-word : (w : List ℕ) (n : ℕ) {k m f e j s : ℕ} → row-at w n ≡ row k m f e j s → getD w (6 * n + 0) 0 ≡ k
-unfolding row-at
-kind-word w n h = ap (λ (l : List ℕ). getD l 0 0) h
-
-pub kids-word : (w : List ℕ) (n : ℕ) {k m f e j s : ℕ} → row-at w n ≡ row k m f e j s → getD w (6 * n + 4) 0 ≡ j
-unfolding row-at
-kids-word w n h = ap (λ (l : List ℕ). getD l 4 0) h
-
-pub size-word : (w : List ℕ) (n : ℕ) {k m f e j s : ℕ} → row-at w n ≡ row k m f e j s → getD w (6 * n + 5) 0 ≡ s
-unfolding row-at
-size-word w n h = ap (λ (l : List ℕ). getD l 5 0) h
-
 pub row-of-words : (w : List ℕ) (n : ℕ) {k j s : ℕ} → k ≡ getD w (6 * n + 0) 0 → j ≡ getD w (6 * n + 4) 0 → s ≡ getD w (6 * n + 5) 0
     → row-at w n ≡ row k (getD w (6 * n + 1) 0) (getD w (6 * n + 2) 0) (getD w (6 * n + 3) 0) j s
 unfolding row-at

@@ -5,10 +5,10 @@ use mathlib.Core.Path.{_≡_, refl, sym, ap, _∙_}
 use mathlib.Core.List.{List, [], _∷_, _++_, append-nil, append-assoc}
 use native.Mathlib.Omega.{arith}
 use lib.ListN.{length, take, set, length-set, length-append}
-use lib.Seq.{drop-set-lt, take-take, take-append-le, length-take-le}
+use lib.Seq.{drop-set-lt}
 use Rattle.rows.specs.Record.{Record, says, record-words}
 use Rattle.rows.specs.Post.{PushedRecord, GrownRecords, KeptRecords}
-use Rattle.rows.proofs.Rows.{put}
+use Rattle.rows.proofs.Rows.{put, first-kept}
 
 pub pushed-record : (l : List ℕ) (n number place : ℕ) → 2 * n + 2 ≤ length l
     → PushedRecord l n number place (set (set l (2 * n) number) (2 * n + 1) place)
@@ -63,14 +63,7 @@ kept-records-grown {xs = xs} g h = record { used = h .used; text = h .text ∙ a
 
 pub grown-records-kept : {r₀ r₁ r₂ : List ℕ} {n₀ n₁ : ℕ} {xs : List Record}
     → 2 * n₀ ≤ length r₀ → GrownRecords r₀ n₀ r₁ n₁ xs → KeptRecords r₁ n₁ r₂ → KeptRecords r₀ n₀ r₂
-grown-records-kept {r₀} {r₁} {r₂} {n₀} {n₁} {xs} room g h =
-    record {
-      text =
-          sym (take-take (2 * n₀) (2 * n₁) r₂ (omega arith))
-          ∙ ap (take (2 * n₀)) (h .text ∙ g .text)
-          ∙ take-append-le (2 * n₀) (take (2 * n₀) r₀) (record-words xs) (rw (length-take-le (2 * n₀) r₀ room) (omega arith))
-          ∙ take-take (2 * n₀) (2 * n₀) r₀ (omega arith);
-    }
+grown-records-kept {r₀} {r₁} {r₂} {n₀} {n₁} {xs} room g h = record { text = first-kept r₀ r₁ r₂ (record-words xs) (2 * n₀) (2 * n₁) room (omega (arith, g .used)) (h .text) (g .text) }
 
 -- records were added and are given up
 pub kept-records-past : {r₀ r₁ : List ℕ} {n₀ n₁ : ℕ} {xs : List Record} → 2 * n₀ ≤ length r₀ → GrownRecords r₀ n₀ r₁ n₁ xs → KeptRecords r₀ n₀ r₁

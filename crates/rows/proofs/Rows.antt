@@ -7,7 +7,7 @@ use native.Mathlib.Omega.{arith}
 use native.Mathlib.Nat.{add-assoc}
 use lib.ListN.{length, take, drop, set, length-set}
 use lib.Seq.{take-suc-set, drop-set-lt, take-take, take-append-le, length-take-le}
-use Rattle.rows.specs.Tree.{Forest, node, nil, cons, one, join, count, size, sizes, row, flat, flats}
+use Rattle.rows.specs.Tree.{Tree, Forest, node, nil, cons, one, join, count, size, sizes, row, flat, flats}
 use Rattle.rows.specs.Post.{Pushed, Grown, Kept}
 
 -- six stores in a row
@@ -65,6 +65,22 @@ unfolding join
 join-nil nil = refl
 join-nil (cons t ts) = ap (cons t) (join-nil ts)
 
+-- the last tree of a forest, and those before it
+pub record Next (ts : Forest) : Type 0 where
+  pub rest : Forest
+  pub kid : Tree
+  pub is : ts ≡ join rest (one kid)
+
+next-of : (t : Tree) (ts : Forest) → Next (cons t ts)
+unfolding join
+next-of t nil = record { rest = nil; kid = t; is = refl }
+next-of t (cons u us) = let n = next-of u us in record { rest = cons t (n .rest); kid = n .kid; is = ap (cons t) (n .is) }
+
+pub next : (ts : Forest) → 0 < count ts → Next ts
+unfolding count
+next nil h = absurd (omega arith)
+next (cons t ts) h = next-of t ts
+
 pub grown-none : (r : List ℕ) (n : ℕ) → Grown r n r n nil
 unfolding sizes flats
 grown-none r n = record { used = omega arith; text = sym (append-nil (take (6 * n) r)) }
@@ -110,15 +126,16 @@ kept-kept g h = record { text = h .text ∙ g .text }
 pub kept-grown : {r₀ r₁ r₂ : List ℕ} {n n₂ : ℕ} {ts : Forest} → Kept r₀ n r₁ → Grown r₁ n r₂ n₂ ts → Grown r₀ n r₂ n₂ ts
 kept-grown {ts = ts} g h = record { used = h .used; text = h .text ∙ ap (λ (l : List ℕ). l ++ flats ts) (g .text) }
 
+-- the first a words stay where those up to b stay that begin with them
+pub first-kept : (r₀ r₁ r₂ x : List ℕ) (a b : ℕ) → a ≤ length r₀ → a ≤ b → take b r₂ ≡ take b r₁ → take b r₁ ≡ take a r₀ ++ x → take a r₂ ≡ take a r₀
+first-kept r₀ r₁ r₂ x a b room less h g =
+    sym (take-take a b r₂ less)
+    ∙ ap (take a) (h ∙ g)
+    ∙ take-append-le a (take a r₀) x (rw (length-take-le a r₀ room) (omega arith))
+    ∙ take-take a a r₀ (omega arith)
+
 pub grown-kept : {r₀ r₁ r₂ : List ℕ} {n₀ n₁ : ℕ} {ts : Forest} → 6 * n₀ ≤ length r₀ → Grown r₀ n₀ r₁ n₁ ts → Kept r₁ n₁ r₂ → Kept r₀ n₀ r₂
-grown-kept {r₀} {r₁} {r₂} {n₀} {n₁} {ts} room g h =
-    record {
-      text =
-          sym (take-take (6 * n₀) (6 * n₁) r₂ (omega arith))
-          ∙ ap (take (6 * n₀)) (h .text ∙ g .text)
-          ∙ take-append-le (6 * n₀) (take (6 * n₀) r₀) (flats ts) (rw (length-take-le (6 * n₀) r₀ room) (omega arith))
-          ∙ take-take (6 * n₀) (6 * n₀) r₀ (omega arith);
-    }
+grown-kept {r₀} {r₁} {r₂} {n₀} {n₁} {ts} room g h = record { text = first-kept r₀ r₁ r₂ (flats ts) (6 * n₀) (6 * n₁) room (omega (arith, g .used)) (h .text) (g .text) }
 
 -- rows were added and are given up
 pub kept-past : {r₀ r₁ : List ℕ} {n₀ n₁ : ℕ} {ts : Forest} → 6 * n₀ ≤ length r₀ → Grown r₀ n₀ r₁ n₁ ts → Kept r₀ n₀ r₁

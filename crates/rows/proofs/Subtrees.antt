@@ -8,11 +8,11 @@ use mathlib.Core.List.{List, append-nil}
 use native.Mathlib.Omega.{arith}
 use native.Mathlib.Nat.{zero-add}
 use lib.ListN.{take, drop, getD}
-use Rattle.rows.specs.Tree.{Tree, Forest, node, nil, cons, one, join, count, size, sizes, flat, flats, kind-of, kids-of}
+use Rattle.rows.specs.Tree.{Tree, Forest, node, nil, cons, one, join, count, size, sizes, row, flat, flats, kind-of, mark-of, first-of, end-of, kids-of}
 use Rattle.rows.specs.Shape.{well-formed, all-well-formed, is-shaped}
 use Rattle.rows.specs.Part.{Part, Rooted, subtree, subtree-among}
 use Rattle.rows.proofs.Flat.{flats-injective}
-use Rattle.rows.proofs.Parts.{part-left, part-right, part-kids, part-root, part-whole, kind-word, kids-word, size-word}
+use Rattle.rows.proofs.Parts.{part-left, part-right, part-kids, part-root, part-whole, row-at}
 use Rattle.rows.proofs.Tests.{by-test, and-left, and-right}
 
 -- the same part, with its bounds said otherwise
@@ -57,17 +57,21 @@ mutual
       (λ l. among-well-formed ts (and-right (well-formed t) (all-well-formed ts) h) (row - size t) (omega arith))
 
 -- the words of a tree's root
+root-row : {w : List ℕ} {n : ℕ} (t : Tree) → Rooted w n t → row-at w n ≡ row (kind-of t) (mark-of t) (first-of t) (end-of t) (count (kids-of t)) (size t)
+unfolding kind-of mark-of first-of end-of kids-of size
+root-row {w} {n} (node kind mark first end kids) h = part-root n (h .part) refl
+
 pub root-kind : {w : List ℕ} {n : ℕ} (t : Tree) → Rooted w n t → getD w (6 * n + 0) 0 ≡ kind-of t
-unfolding kind-of
-root-kind {w} {n} (node kind mark first end kids) h = kind-word w n (part-root n (h .part) refl)
+unfolding row-at
+root-kind t h = ap (λ (l : List ℕ). getD l 0 0) (root-row t h)
 
 pub root-kids : {w : List ℕ} {n : ℕ} (t : Tree) → Rooted w n t → getD w (6 * n + 4) 0 ≡ count (kids-of t)
-unfolding kids-of
-root-kids {w} {n} (node kind mark first end kids) h = kids-word w n (part-root n (h .part) refl)
+unfolding row-at
+root-kids t h = ap (λ (l : List ℕ). getD l 4 0) (root-row t h)
 
 pub root-size : {w : List ℕ} {n : ℕ} (t : Tree) → Rooted w n t → getD w (6 * n + 5) 0 ≡ size t
-unfolding size
-root-size {w} {n} (node kind mark first end kids) h = size-word w n (part-root n (h .part) refl)
+unfolding row-at
+root-size t h = ap (λ (l : List ℕ). getD l 5 0) (root-row t h)
 
 -- no other tree is rooted at the row
 pub rooted-once : {w : List ℕ} {n : ℕ} {t u : Tree} → Rooted w n t → Rooted w n u → t ≡ u

@@ -7,7 +7,7 @@ use native.Mathlib.Omega.{arith}
 use native.Mathlib.Decide.{decLt}
 use lib.Dec.{ltb}
 use borrow.Author.Tests.{lt-ltb, le-ltb}
-use Rattle.tokens.specs.Bool.{_or_, _and_, if_then_else_}
+use Rattle.tokens.specs.Bool.{_and_, if_then_else_}
 
 -- what holds of x where m < n, and of y where not, holds of what the test picks
 pub by-test : {A : Type 0} (P : A → Type 0) (m n : ℕ) {x y : A} → (m < n → P x) → (n ≤ m → P y) → P (if ltb m n then x else y)
@@ -27,7 +27,3 @@ and-right false b h = let e : false ≡ true = h in cc
 
 pub and-both : (a b : Bool) → a ≡ true → b ≡ true → (a and b) ≡ true
 and-both a b h k = rw (h, k)
-
-pub or-false : (b : Bool) → (b or false) ≡ b
-or-false true = refl
-or-false false = refl

@@ -13,6 +13,7 @@ use Rattle.rows.specs.Row as row
 use Rattle.rows.specs.Tree.{Tree, Forest, node, nil, cons, one, join, count, flat, kind-of, mark-of, first-of, end-of, kids-of}
 use Rattle.rows.specs.Record.{Record}
 use Rattle.rows.specs.Post.{Word, KindSet}
+use Rattle.rows.proofs.Rows.{Next}
 use Rattle.conversion.specs.Conversion as def
 use Rattle.conversion.specs.Conversion.{Outcome, turned, refused, change, as-any, roles, over, both, convert-as, convert-kids}
 use Rattle.conversion.proofs.RuleHolds.{refused-turned}
@@ -23,7 +24,7 @@ use Rattle.roles.specs.ShortCut.{is-element, named-kind}
 use Rattle.targets.specs.Post.{Subtree, SizeInside, WordInside, FirstRow, near, begins-of, PlanAt, Filled, Made, RowConverted}
 use Rattle.targets.specs.Post.{all-elements, PlainArray, PlainReady, PlainTurned}
 use Rattle.targets.specs.declared.Conversion.the-variants.{Turned, Refused}
-use Rattle.targets.proofs.Flat.{Walk, Next, walk-start, walk-some, walk-next, walk-past, whole-next, root-inside, kid-tree, kid-size, kid-text}
+use Rattle.targets.proofs.Flat.{Walk, walk-start, walk-some, walk-next, walk-past, whole-next, root-inside, kid-tree, kid-size, kid-text}
 use Rattle.targets.proofs.Looking.{reads-kind, reads-size}
 use Rattle.targets.proofs.Records.{filled-none, written-none}
 use Rattle.targets.proofs.Judging.{by-change}

@@ -6,7 +6,7 @@ use mathlib.Core.Bool.{Bool, true, false}
 use mathlib.Core.List.{List, _++_, append-nil}
 use native.Mathlib.Omega.{arith}
 use lib.ListN.{length, take, drop, replicate, take-append-drop}
-use lib.Seq.{length-take-le, drop-append-add, take-append-seam}
+use lib.Seq.{length-take-le, drop-drop, take-at}
 use Rattle.tokens.specs.declared.cause.Cause.{Cause}
 use Rattle.tokens.specs.declared.cause.Cause.the-variants.{Length, RecordRoom, Tree as NoTree, Outside}
 use Rattle.tokens.specs.declared.cause.Answer.{Answer}
@@ -28,7 +28,9 @@ use Rattle.conversion.specs.Entry.{Result, holds, fails, Sized, unchanged, done
 use Rattle.targets.specs.declared.Conversion.{Conversion}
 use Rattle.targets.specs.declared.Conversion.the-variants.{Turned, Refused}
 use Rattle.conversion.proofs.Potentials.{potential-size, pays}
+use Rattle.targets.specs.Outcome as outcome
 use Rattle.targets.proofs.Looking.{reads-size}
+use Rattle.targets.proofs.Judging.{found-turned, found-refused}
 
 size-one : (t : Tree) → sizes (one t) ≡ size t
 unfolding sizes
@@ -38,11 +40,6 @@ flat-one : (t : Tree) → flats (one t) ≡ flat t
 unfolding flats
 flat-one t = append-nil (flat t)
 
-drop-more : (w : List ℕ) (a c : ℕ) → a ≤ length w → drop c (drop a w) ≡ drop (a + c) w
-drop-more w a c h =
-    let e = length-take-le a w h in
-    sym (drop-append-add (take a w) (drop a w) c) ∙ ap (λ (n : ℕ). drop (n + c) (take a w ++ drop a w)) e ∙ ap (drop (a + c)) (take-append-drop a w)
-
 -- the words of a part, between those before it and those after it
 part-text : (w : List ℕ) (a c b : ℕ) (x : List ℕ) → a + c ≡ b → a ≤ length w → take c (drop a w) ≡ x → w ≡ take a w ++ (x ++ drop b w)
 part-text w a c b x e h t =
@@ -50,7 +47,7 @@ part-text w a c b x e h t =
     ∙ ap (λ (l : List ℕ). take a w ++ l)
     (sym (take-append-drop c (drop a w))
     ∙ ap (λ (l : List ℕ). l ++ drop c (drop a w)) t
-    ∙ ap (λ (l : List ℕ). x ++ l) (drop-more w a c h ∙ ap (λ (n : ℕ). drop n w) e))
+    ∙ ap (λ (l : List ℕ). x ++ l) (drop-drop c a w ∙ ap (λ (n : ℕ). drop n w) e))
 
 pub root-text : {w : List ℕ} {n : ℕ} (t : Tree) → Rooted w n t → (w ≡ take (6 * (n + 1 - size t)) w ++ (flat t ++ drop (6 * (n + 1)) w)) × (size t ≤ n + 1) × (6 * (n + 1) ≤ length w)
 root-text {w} {n} t r =
@@ -118,9 +115,7 @@ done-turned words r row t t′ rs f = rw f
 cleared : (r r′ : List ℕ) (rs : List Record) (n : ℕ) → Filled r 0 rs r′ → n ≡ length rs → length r′ ≡ length r
     → take (2 * n) r′ ++ replicate (length r′ - 2 * n) 0 ≡ record-words rs ++ replicate (length r - 2 * length rs) 0
 cleared r r′ rs n f l same =
-    let w : 2 * length rs ≡ length (record-words rs) = sym (length-record-words rs) in
-    let d = drop (2 * (0 + length rs)) r in
-    let t : take (2 * length rs) r′ ≡ record-words rs = ap (take (2 * length rs)) (f .text) ∙ ap (λ (k : ℕ). take k (record-words rs ++ d)) w ∙ take-append-seam (record-words rs) d in
+    let t : take (2 * length rs) r′ ≡ record-words rs = ap (take (2 * length rs)) (f .text) ∙ take-at (record-words rs) _ (2 * length rs) (length-record-words rs) in
     rw (l, same, t)
 
 -- the checks 1, 13 and 14 are passed
@@ -159,58 +154,34 @@ module _ {words : List ℕ} {row : ℕ} (p : Passed words row) where
     by-outcome h q = holds (p .sizes) (holds (p .whole) (holds (p .has-row) (holds (enough h) q)))
 
     module _ {r words′ r′ : List ℕ} {y : Conversion} (h : 2 * size′ ≤ length r) (c : RowConverted words r row def.any 0 words′ r′ y) where
-      pub enter-refused : {cause : Cause} → y ≡ Refused cause → Answered words r row (answer.Refused cause) words′ r′
-      enter-refused {cause} q = go (convert (subtree (p .whole .tree) row)) refl
+      -- what was found is what comes of it
+      found-is : y ≡ outcome.found (convert (subtree (p .whole .tree) row))
+      found-is = go (convert (subtree (p .whole .tree) row)) refl
         where
-          go : (out : Outcome Tree) → convert (subtree (p .whole .tree) row) ≡ out → Answered words r row (answer.Refused cause) words′ r′
-          go (turned t rs) f =
-              let m = c .done there t rs f .0 in
-              let z : Refused cause ≡ Turned (length rs) = sym q ∙ m in
-              let n : _≡_ {A = ℕ} 0 1 = cc in
-              absurd (omega arith)
-          go (refused cause′) f =
-              let m = c .fail there cause′ f in
-              let z : Refused cause ≡ Refused cause′ = sym q ∙ m .0 in
-              let n : cause ≡ cause′ = cc in
-              record { is = by-outcome h (same-result (ap answer.Refused n) (m .1) (m .2) ∙ sym (done-refused words r row _ cause′ f)) }
+          go : (out : Outcome Tree) → convert (subtree (p .whole .tree) row) ≡ out → y ≡ outcome.found out
+          go (turned t rs) f = c .done there t rs f .0
+          go (refused cause) f = c .fail there cause f .0
+
+      pub enter-refused : {cause : Cause} → y ≡ Refused cause → Answered words r row (answer.Refused cause) words′ r′
+      enter-refused {cause} q =
+          let f = found-refused (convert (subtree (p .whole .tree) row)) cause (sym found-is ∙ q) in
+          let m = c .fail there cause f in
+          record { is = by-outcome h (same-result refl (m .1) (m .2) ∙ sym (done-refused words r row _ cause f)) }
 
       -- what was added, and that it is no more than there is room for
       pub enter-few : {n : ℕ} → y ≡ Turned n → 2 * n ≤ length r
-      enter-few {n} q = go (convert (subtree (p .whole .tree) row)) refl
-        where
-          go : (out : Outcome Tree) → convert (subtree (p .whole .tree) row) ≡ out → 2 * n ≤ length r
-          go (turned t rs) f =
-              let m = c .done there t rs f .0 in
-              let z : Turned n ≡ Turned (length rs) = sym q ∙ m in
-              let l : n ≡ length rs = cc in
-              let a = pays (subtree (p .whole .tree) row) def.any t rs f .is in
-              let b = potential-size (subtree (p .whole .tree) row) in
-              let k = enough h in
-              omega arith
-          go (refused cause′) f =
-              let m = c .fail there cause′ f .0 in
-              let z : Turned n ≡ Refused cause′ = sym q ∙ m in
-              let k : _≡_ {A = ℕ} 0 1 = cc in
-              absurd (omega arith)
+      enter-few {n} q =
+          let a = found-turned (convert (subtree (p .whole .tree) row)) n (sym found-is ∙ q) in
+          omega (arith, a .3, pays (subtree (p .whole .tree) row) def.any (a .0) (a .1) (a .2) .is, potential-size (subtree (p .whole .tree) row), enough h)
 
       pub enter-read : {n : ℕ} {r″ : List ℕ} → y ≡ Turned n → length r′ ≡ length r → Cleared r′ (2 * n) r″
           → Answered words r row (Read (record { rows = size′; records = n; abandoned = 0 })) words′ r″
-      enter-read {n} {r″} q same k = go (convert (subtree (p .whole .tree) row)) refl
-        where
-          go : (out : Outcome Tree) → convert (subtree (p .whole .tree) row) ≡ out
-              → Answered words r row (Read (record { rows = size′; records = n; abandoned = 0 })) words′ r″
-          go (refused cause′) f =
-              let m = c .fail there cause′ f .0 in
-              let z : Turned n ≡ Refused cause′ = sym q ∙ m in
-              let k : _≡_ {A = ℕ} 0 1 = cc in
-              absurd (omega arith)
-          go (turned t rs) f =
-              let m = c .done there t rs f in
-              let z : Turned n ≡ Turned (length rs) = sym q ∙ m .0 in
-              let l : n ≡ length rs = cc in
-              record {
-                is =
-                    by-outcome h
-                    (same-result (same-counts sizes-are l) (m .1 .text) (k .text ∙ cleared r r′ rs n (m .1 .filled) l same)
-                    ∙ sym (done-turned words r row _ t rs f));
-              }
+      enter-read {n} q same k =
+          let a = found-turned (convert (subtree (p .whole .tree) row)) n (sym found-is ∙ q) in
+          let m = c .done there (a .0) (a .1) (a .2) .1 in
+          let l = sym (a .3) in
+          record {
+            is =
+                by-outcome h
+                (same-result (same-counts sizes-are l) (m .text) (k .text ∙ cleared r r′ (a .1) n (m .filled) l same) ∙ sym (done-turned words r row _ (a .0) (a .1) (a .2)));
+          }

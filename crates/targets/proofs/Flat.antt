@@ -7,8 +7,9 @@ use native.Mathlib.Omega.{arith}
 use lib.ListN.{length, getD, length-append, List·getD-append}
 use lib.Seq.{getD-append-add}
 use Rattle.rows.specs.Tree.{Tree, Forest, node, nil, cons, one, join, count, size, sizes, row, flat, flats, kids-of}
-use Rattle.rows.proofs.Rows.{sizes-join, flats-join, count-join, join-assoc, join-nil}
+use Rattle.rows.proofs.Rows.{sizes-join, flats-join, count-join, join-assoc, join-nil, Next, next}
 use Rattle.rows.proofs.Flat.{length-flats, some-row}
+use Rattle.trees.proofs.Walks.{some-rows}
 use Rattle.targets.specs.Post.{Subtree}
 
 -- the words of a tree's root
@@ -38,6 +39,9 @@ module _ {rows : List ℕ} {root : ℕ} (h : Subtree rows root) where
   pub root-place : 6 * root ≡ length (h .before ++ flats (kids-of (h .tree)))
   root-place = simp length-append (omega (arith, length-flats (kids-of (h .tree)), size-root (h .tree), h .place))
 
+  pub place-root : 6 * root ≡ length (h .before) + 6 * sizes (kids-of (h .tree))
+  place-root = omega (arith, h .place, size-root (h .tree))
+
   pub root-word : (i : ℕ) → i < 6 → getD rows (6 * root + i) 0 ≡ getD (root-words (h .tree)) i 0
   root-word i small =
       rw root-text (at-seam (h .before ++ flats (kids-of (h .tree))) (root-words (h .tree)) (h .after) (6 * root) i root-place (omega (arith, length-root (h .tree))))
@@ -64,37 +68,16 @@ pub record Walk (before : List ℕ) (kids : Forest) (tail rows : List ℕ) (afte
   pub stop : 6 * end ≡ length before + 6 * sizes front
   pub text : rows ≡ before ++ (flats front ++ tail)
 
--- the last kid that is still to come
-pub record Next (front : Forest) : Type 0 where
-  pub rest : Forest
-  pub kid : Tree
-  pub is : front ≡ join rest (one kid)
-
-next-of : (t : Tree) (ts : Forest) → Next (cons t ts)
-unfolding join
-next-of t nil = record { rest = nil; kid = t; is = refl }
-next-of t (cons u us) = let n = next-of u us in record { rest = cons t (n .rest); kid = n .kid; is = ap (cons t) (n .is) }
-
-pub next : (front : Forest) → 0 < count front → Next front
-unfolding count
-next nil h = absurd (omega arith)
-next (cons t ts) h = next-of t ts
-
 -- trees have rows
 some-trees : (ts : Forest) → 0 < sizes ts → 0 < count ts
 unfolding count sizes
 some-trees nil h = absurd (omega arith)
 some-trees (cons t ts) h = omega arith
 
-pub some-rows : (ts : Forest) → 0 < count ts → 0 < sizes ts
-unfolding count sizes
-some-rows nil h = absurd (omega arith)
-some-rows (cons t ts) h = omega (arith, some-row t)
-
-none-there : (ts : Forest) → sizes ts ≡ 0 → ts ≡ nil
-unfolding sizes
-none-there nil h = refl
-none-there (cons t ts) h = absurd (omega (arith, some-row t))
+pub no-kid : (ts : Forest) → count ts ≡ 0 → ts ≡ nil
+unfolding count
+no-kid nil h = refl
+no-kid (cons t ts) h = absurd (omega arith)
 
 pub no-trees : count nil ≡ 0
 unfolding count
@@ -118,9 +101,6 @@ module _ {before : List ℕ} {kids : Forest} {tail rows : List ℕ} {after end :
   -- there is one more kid
   pub walk-more : after < count kids → Next (w .front)
   walk-more h = next (w .front) (omega (arith, counts))
-
-  pub walk-below : after ≤ count kids
-  walk-below = omega (arith, counts)
 
   module _ (n : Next (w .front)) where
     pub front-size : sizes (w .front) ≡ sizes (n .rest) + size (n .kid)
@@ -175,7 +155,7 @@ module _ {before : List ℕ} {kids : Forest} {tail rows : List ℕ} {after end :
   walk-none e h =
       let s = w .stop in
       let none : sizes (w .front) ≡ 0 = omega arith in
-      none-there (w .front) none
+      no-kid (w .front) (omega (arith, some-rows (w .front)))
 
   -- all are passed then
   pub walk-past : {first : ℕ} → 6 * first ≡ length before → end ≤ first → (w .passed ≡ kids) × (rows ≡ before ++ tail)

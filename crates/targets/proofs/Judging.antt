@@ -10,25 +10,26 @@ use borrow.Author.Tests.{eq-eqb, ne-eqb}
 use lib.ListN.{length, getD, length-append}
 use Rattle.tokens.specs.Bool.{if_then_else_}
 use Rattle.tokens.specs.declared.cause.Cause.{Cause}
-use Rattle.rows.specs.Tree.{Tree, Forest, node, nil, cons, one, count, size, sizes, kids-of}
+use Rattle.rows.specs.Tree.{Tree, Forest, node, nil, cons, one, count, size, sizes, kids-of, mark-of, first-of, end-of}
 use Rattle.rows.specs.Record.{Record}
 use Rattle.rows.specs.Post.{Word}
-use Rattle.rows.proofs.Rows.{sizes-join}
+use Rattle.rows.proofs.Rows.{sizes-join, Next}
+use Rattle.trees.proofs.Walks.{some-rows}
 use Rattle.rows.proofs.Flat.{some-row}
 use Rattle.conversion.specs.Conversion as def
 use Rattle.conversion.specs.Conversion.{Outcome, turned, refused, roles, over, convert-as, convert-kids}
 use Rattle.roles.specs.Meaning as means
 use Rattle.targets.specs.Outcome as outcome
 use Rattle.targets.specs.Post.{Subtree, SizeInside, FirstRow, begins-of, PlanAt, Own, Judged, Sums}
-use Rattle.conversion.proofs.RuleHolds.{refused-turned}
 use Rattle.targets.specs.declared.Conversion.{Conversion}
 use Rattle.targets.specs.declared.Conversion.the-variants.{Turned, Refused}
 use Rattle.roles.specs.Plan as code
 use Rattle.targets.specs.Post.{NameUnder}
 use Rattle.targets.proofs.Near.{convert-near}
+use Rattle.conversion.proofs.Shapes.{cons-parts}
 use Rattle.conversion.proofs.Potentials.{comma-count, pays, potential-size, turned-records}
-use Rattle.targets.proofs.Flat.{Walk, Next, some-rows, walk-start, walk-some, walk-next, walk-past, whole-next, root-inside, kid-tree, kid-size, kid-text, size-root}
-use Rattle.targets.proofs.Looking.{reads-size, no-kid}
+use Rattle.targets.proofs.Flat.{no-kid, place-root, Walk, walk-start, walk-some, walk-next, walk-past, whole-next, root-inside, kid-tree, kid-size, kid-text, size-root}
+use Rattle.targets.proofs.Looking.{reads-size}
 use Rattle.targets.proofs.Plans.{turning, Alone, kept, refuses, alone, few-notes}
 
 -- what comes of a row, by its plan
@@ -42,21 +43,21 @@ pub by-change : {rows : List ℕ} {root : ℕ} {role : def.Role} {of : ℕ} {ch 
     → means.plan (begins-of (h .tree)) of ≡ ch → convert-as (h .tree) role ≡ over ch (h .tree) (convert-kids (kids-of (h .tree)) (roles ch))
 by-change p h e = by-plan p h ∙ ap (λ (x : def.Change). over x (h .tree) (convert-kids (kids-of (h .tree)) (roles x))) e
 
-over-refused : (c : Cause) (t : Tree) (out : Outcome Forest) → outcome.found (over (def.refuse c) t out) ≡ Refused c
-unfolding over
-over-refused c t out = refl
+pub keeps-over : (kind : ℕ) (rs : List Record) (t : Tree) (out : Outcome Forest) → over (def.keep kind rs) t out ≡ turned (node kind (mark-of t) (first-of t) (end-of t) (kids-of t)) rs
+unfolding over kids-of mark-of first-of end-of
+keeps-over kind rs (node k m f e kids) out = refl
 
-over-kept : (k : ℕ) (rs : List Record) (t : Tree) (out : Outcome Forest) → outcome.found (over (def.keep k rs) t out) ≡ Turned (length rs)
+pub refuses-over : (c : Cause) (t : Tree) (out : Outcome Forest) → over (def.refuse c) t out ≡ refused c
 unfolding over
-over-kept k rs (node k′ m f e kids) out = refl
+refuses-over c t out = refl
 
 -- a row whose kids stay, or that is refused
 pub judge-alone : {rows : List ℕ} {root : ℕ} {role : def.Role} {of r : ℕ} → PlanAt rows root role of → Own of r → code.Keep ≤ of % 16 → Judged rows root role r
 judge-alone {rows} {root} {role} {of} {r} p o le = record { is = λ h. go h (alone (begins-of (h .tree)) of le) }
   where
     go : (h : Subtree rows root) → Alone (begins-of (h .tree)) of → outcome.told r ≡ outcome.found (convert-as (h .tree) role)
-    go h (kept q) = o .is _ ∙ ap outcome.own q ∙ sym (ap outcome.found (by-change p h q) ∙ over-kept _ _ (h .tree) _)
-    go h (refuses c q) = o .is _ ∙ ap outcome.own q ∙ sym (ap outcome.found (by-change p h q) ∙ over-refused c (h .tree) _)
+    go h (kept q) = o .is _ ∙ ap outcome.own q ∙ sym (ap outcome.found (by-change p h q ∙ keeps-over _ _ (h .tree) _))
+    go h (refuses c q) = o .is _ ∙ ap outcome.own q ∙ sym (ap outcome.found (by-change p h q ∙ refuses-over c (h .tree) _))
 
 -- judging stands at a kid: those after it are judged
 pub record Here {rows : List ℕ} {root : ℕ} (h : Subtree rows root) (of base end found : ℕ) : Type 0 where
@@ -143,7 +144,7 @@ last-kid root {before} {ts} {end = end} w place = go (count (w .passed)) refl
         let same : end ≡ root = omega arith in
         eq-eqb end root same
     go (suc n) e =
-        let some = some-rows (w .passed) (omega arith) in
+        let some = some-rows (w .passed) in
         let s = w .stop in
         let a = all in
         let other : end ≡ root → ⊥ = λ q. omega arith in
@@ -175,40 +176,25 @@ few-records t of last t′ rs h =
     let p = pays t (means.kid of last) t′ rs h in
     omega (arith, p .is, mild-kid of last, potential-size t, some-row t)
 
-few-both : (x : Outcome Tree) (y : Outcome Forest) (n m : ℕ) (ts′ : Forest) (rs : List Record) → def.both x y ≡ turned ts′ rs
-    → ((t′ : Tree) (ss : List Record) → x ≡ turned t′ ss → length ss ≤ n) → ((us : Forest) (ss : List Record) → y ≡ turned us ss → length ss ≤ m)
-    → length rs ≤ n + m
-unfolding def.both
-few-both (refused c) y n m ts′ rs h p q = absurd (refused-turned h)
-few-both (turned t ss) (refused c) n m ts′ rs h p q = absurd (refused-turned h)
-few-both (turned t ss) (turned us vs) n m ts′ rs h p q =
-    let a = p t ss refl in
-    let b = q us vs refl in
-    let e : length (ss ++ vs) ≤ n + m = simp length-append (omega arith) in
-    rw (sym (turned-records h)) e
-
 few-kids : (ts : Forest) (of : ℕ) (ts′ : Forest) (rs : List Record) → convert-kids ts (means.kids of) ≡ turned ts′ rs → length rs ≤ 2 * sizes ts
 unfolding convert-kids sizes
 few-kids nil of ts′ rs h = let e : length {A = Record} [] ≤ 0 = omega arith in rw (sym (turned-records h)) e
 few-kids (cons t ts) of ts′ rs h =
-    let g = few-both (convert-as t (means.kids of (count ts))) (convert-kids ts (means.kids of)) (2 * size t) (2 * sizes ts) ts′ rs h
-    (λ t′ ss q. few-records t of (eqb (count ts) 0) t′ ss q)
-    (λ us ss q. few-kids ts of us ss q) in
-    omega arith
+    let b = cons-parts t ts (means.kids of) ts′ rs h in
+    let l = few-kids ts of (b .rest) (b .later) (b .rest-is) in
+    omega (arith, ap length (b .records), length-append (b .first) (b .later), few-records t of (eqb (count ts) 0) (b .one) (b .first) (b .one-is))
 
 pub found-turned : {A : Type 0} (x : Outcome A) (n : ℕ) → outcome.found x ≡ Turned n → (a : A) × (rs : List Record) × (x ≡ turned a rs) × (length rs ≡ n)
 found-turned (turned a rs) n e = (a, rs, refl, let f : length rs ≡ n = cc in f)
 found-turned (refused c) n e = let z : _≡_ {A = ℕ} 0 1 = cc in absurd (omega arith)
 
+pub found-refused : {A : Type 0} (x : Outcome A) (c : Cause) → outcome.found x ≡ Refused c → x ≡ refused c
+found-refused (turned a rs) c e = let z : _≡_ {A = ℕ} 0 1 = cc in absurd (omega arith)
+found-refused (refused d) c e = ap refused (let f : d ≡ c = cc in f)
+
 both-turned : (y : Outcome Forest) (b m : ℕ) → outcome.both (outcome.found y) (Turned b) ≡ Turned m → (ts : Forest) × (rs : List Record) × (y ≡ turned ts rs) × (m ≡ length rs + b)
 both-turned (turned ts rs) b m e = (ts, rs, refl, let f : m ≡ length rs + b = cc in f)
 both-turned (refused c) b m e = let z : _≡_ {A = ℕ} 0 1 = cc in absurd (omega arith)
-
-one-more : (t : Tree) (ts : Forest) (each : ℕ → def.Role) (b : ℕ)
-    → outcome.both (outcome.found (convert-as t (each (count ts)))) (outcome.both (outcome.found (convert-kids ts each)) (Turned b))
-    ≡ outcome.both (outcome.found (convert-kids (cons t ts) each)) (Turned b)
-unfolding convert-kids
-one-more t ts each b = found-both (convert-as t (each (count ts))) (convert-kids ts each) b
 
 over-found : (k : ℕ) (before : List Record) (each : ℕ → def.Role) (after : List Record) (t : Tree) (out : Outcome Forest) (n : ℕ) → n ≡ length before + length after
     → outcome.found (over (def.turn k before each after) t out) ≡ outcome.both (outcome.found out) (Turned n)
@@ -220,16 +206,6 @@ over-found k before each after (node k′ m f e kids) (refused c) n h = refl
 nothing-more : (x : Conversion) → x ≡ outcome.both (Turned 0) x
 nothing-more (Turned n) = ap Turned (let e : n ≡ 0 + n = omega arith in e)
 nothing-more (Refused c) = refl
-
-root-rows : {rows : List ℕ} {root : ℕ} (h : Subtree rows root) → 6 * root ≡ length (h .before) + 6 * sizes (kids-of (h .tree))
-root-rows h = omega (arith, h .place, size-root (h .tree))
-
-over-turned : (begins of : ℕ) (t : Tree) (n : ℕ) → n ≡ length (means.before begins of) + length (means.after of)
-    → outcome.found
-    (over (def.turn (means.kind of) (means.before begins of) (means.kids of) (means.after of)) t (convert-kids (kids-of t) (roles (def.turn (means.kind of) (means.before begins of) (means.kids of) (means.after of)))))
-    ≡ outcome.both (outcome.found (convert-kids (kids-of t) (means.kids of))) (Turned n)
-unfolding roles
-over-turned begins of t n h = over-found (means.kind of) (means.before begins of) (means.kids of) (means.after of) t _ n h
 
 -- the records of both are not too many to count
 pub judge-sums : (last : Bool) {rows : List ℕ} {root of found₀ end found first one : ℕ} → Judging rows root of found₀ end found → FirstRow rows root first → first < end
@@ -254,6 +230,7 @@ module _ {rows : List ℕ} {root of found₀ end found first size′ : ℕ} (j :
   next-here : {found′ : ℕ}
       → ((h : Subtree rows root) → outcome.told found′ ≡ outcome.both (outcome.found (convert-as (the-next j f lt h .kid) (means.kids of (count (j .here h .walk .passed))))) (outcome.told found))
       → Judging rows root of found₀ (end - size′) found′
+  unfolding convert-kids
   next-here q =
       record {
         base = j .base;
@@ -269,7 +246,7 @@ module _ {rows : List ℕ} {root of found₀ end found first size′ : ℕ} (j :
               is =
                   q h
                   ∙ ap (outcome.both (outcome.found (convert-as (k .kid) (means.kids of (count (walk .passed)))))) (j .here h .is)
-                  ∙ one-more (k .kid) (walk .passed) (means.kids of) (j .base);
+                  ∙ found-both (convert-as (k .kid) (means.kids of (count (walk .passed)))) (convert-kids (walk .passed) (means.kids of)) (j .base);
             };
       }
 
@@ -281,7 +258,7 @@ module _ {rows : List ℕ} {root of found₀ end found first size′ : ℕ} (j :
       q
       ∙ ap (λ (x : Conversion). outcome.both x (outcome.told found))
       (o .is (the-kid j f lt h)
-      ∙ ap (λ (b : Bool). outcome.found (convert-as (the-next j f lt h .kid) (means.kid of b))) (l ∙ last-kid root (j .here h .walk) (root-rows h))))
+      ∙ ap (λ (b : Bool). outcome.found (convert-as (the-next j f lt h .kid) (means.kid of b))) (l ∙ last-kid root (j .here h .walk) (place-root h))))
 
   -- a kid that turns by itself has no record
   pub judge-pass : {at : ℕ} → NameUnder rows (end - 1) of at → at < end → Judging rows root of found₀ (end - size′) found
@@ -294,6 +271,7 @@ module _ {rows : List ℕ} {root of found₀ end found first size′ : ℕ} (j :
 
 pub judge-ends : {rows : List ℕ} {root : ℕ} {role : def.Role} {of found₀ end found first : ℕ} → PlanAt rows root role of → of % 16 < code.Keep → Own of found₀
     → Judging rows root of found₀ end found → FirstRow rows root first → end ≤ first → Judged rows root role found
+unfolding roles
 judge-ends {of = of} {found = found} p lt o j f ge =
     record {
       is = λ h.
@@ -305,7 +283,7 @@ judge-ends {of = of} {found = found} p lt o j f ge =
           let n : j .base ≡ length (means.before b of) + length (means.after of) = cc in
           at .is
           ∙ ap (λ (ts : Forest). outcome.both (outcome.found (convert-kids ts (means.kids of))) (Turned (j .base))) all
-          ∙ sym (ap outcome.found (by-change p h (turning b of lt)) ∙ over-turned b of (h .tree) (j .base) n);
+          ∙ sym (ap outcome.found (by-change p h (turning b of lt)) ∙ over-found (means.kind of) (means.before b of) (means.kids of) (means.after of) (h .tree) _ (j .base) n);
     }
 
 pub same-found : {rows : List ℕ} {root of found₀ end found found′ : ℕ} → found′ ≡ found → Judging rows root of found₀ end found → Judging rows root of found₀ end found′

@@ -12,4 +12,3 @@ mod Elements
 mod Converting
 mod Entering
 pub mod Once
-mod Reading

@@ -16,6 +16,7 @@ use Rattle.rows.specs.Record.{Record, rest-argument}
 use Rattle.conversion.specs.Conversion.{Outcome, turned, refused, Role, Change, refuse, keep, turn, only, is-array-or-object, is-reference, last-of, inner-kind, inner-kinds, array-argument, object-argument, seen, as-simple, as-any, as-value, as-element, as-last-element, as-property, as-last-property, as-name, change, roles, over, both, convert-as, convert-kids}
 use Rattle.targets.specs.Post.{near}
 use Rattle.conversion.proofs.RuleHolds.{by-test, both-true, one-kid, refused-turned}
+use Rattle.conversion.proofs.Shapes.{cons-parts}
 
 -- a change that is carried out
 data Carried (kids : Forest) : Change → Type 0 where
@@ -37,16 +38,6 @@ carried (turn kind before each after) k m f e kids t′ rs h = go (convert-kids 
         → Carried kids (turn kind before each after)
     go (refused c) q h = absurd (refused-turned h)
     go (turned kids′ records) q h = goes kids′ records q
-
-first-turned : (t : Tree) (ts : Forest) (each : ℕ → Role) (ts′ : Forest) (rs : List Record) → convert-kids (cons t ts) each ≡ turned ts′ rs
-    → (t′ : Tree) × (rs′ : List Record) × (convert-as t (each (count ts)) ≡ turned t′ rs′)
-unfolding convert-kids both
-first-turned t ts each ts′ rs h = go (convert-as t (each (count ts))) refl h
-  where
-    go : (out : Outcome Tree) → convert-as t (each (count ts)) ≡ out → both out (convert-kids ts each) ≡ turned ts′ rs
-        → (t′ : Tree) × (rs′ : List Record) × (convert-as t (each (count ts)) ≡ turned t′ rs′)
-    go (refused c) q h = absurd (refused-turned h)
-    go (turned t′ rs′) q h = (t′, rs′, q)
 
 -- a simple target is a reference, through Parens
 inner-simple : (k m f e : ℕ) (kids : Forest)
@@ -75,7 +66,7 @@ mutual
   simple-references : (ts ts′ : Forest) (rs : List Record) → convert-kids ts (only Role.simple) ≡ turned ts′ rs → eqb (count ts) 1 ≡ true
       → is-reference (inner-kinds ts) ≡ true
   simple-references nil ts′ rs h one = one
-  simple-references (cons t ts) ts′ rs h one = let q = first-turned t ts (only Role.simple) ts′ rs h in simple-reference t (q .0) (q .1) (q .2)
+  simple-references (cons t ts) ts′ rs h one = let q = cons-parts t ts (only Role.simple) ts′ rs h in simple-reference t (q .one) (q .first) (q .one-is)
 
 -- any target is an Array or Object itself, or through Parens a reference
 data Argument (t : Tree) : Type 0 where
@@ -130,8 +121,8 @@ only-argument kids ts′ rs h single = go (one-kid kids single)
   where
     go : (t : Tree) × (kids ≡ one t) → Argument (last-of kids)
     go q =
-        let r = first-turned (q .0) nil (only Role.any) ts′ rs (rw (q .1) at h) in
-        rw (q .1) (argument (q .0) (r .0) (r .1) (r .2))
+        let r = cons-parts (q .0) nil (only Role.any) ts′ rs (rw (q .1) at h) in
+        rw (q .1) (argument (q .0) (r .one) (r .first) (r .one-is))
 
 -- records before the kids that are the same wherever the kids are converted
 same-before : (k m f e : ℕ) (kids : Forest) (kind : ℕ) (before before′ : List Record) (each : ℕ → Role) (after : List Record)

@@ -5,7 +5,7 @@ use mathlib.Core.Path.{_≡_, refl, sym, ap, _∙_}
 use mathlib.Core.List.{List, [], _∷_, _++_, append-assoc}
 use native.Mathlib.Omega.{arith}
 use lib.ListN.{length, take, drop, set, length-append, length-set, take-append-drop}
-use lib.Seq.{length-take-le, drop-append-seam, take-append-le, set-split, take-suc-set, drop-set-lt}
+use lib.Seq.{length-take-le, drop-at, take-take, take-append-le, set-split, take-suc-set, drop-set-lt}
 use Rattle.rows.specs.Record.{Record, says, record-words}
 use Rattle.rows.proofs.Records.{record-words-append}
 use Rattle.targets.specs.Post.{Filled, Written, NoteFits}
@@ -17,17 +17,9 @@ filled-none r start =
     let e : 2 * (start + 0) ≡ 2 * start = omega arith in
     record { text = sym (ap (λ (n : ℕ). take (2 * start) r ++ drop n r) e ∙ take-append-drop (2 * start) r) }
 
--- of what was written from m on: the words before an earlier place, and those from m on
+-- of what was written from m on: the words before an earlier place
 before-part : (r₀ x : List ℕ) (n m : ℕ) → n ≤ m → m ≤ length r₀ → take n (take m r₀ ++ x) ≡ take n r₀
-before-part r₀ x n m h l =
-    let e = length-take-le m r₀ l in
-    let f : n ≤ length (take m r₀) = omega arith in
-    take-append-le n (take m r₀) x f ∙ sym (ap (take n) (sym (take-append-drop m r₀)) ∙ take-append-le n (take m r₀) (drop m r₀) f)
-
-after-part : (r₀ x : List ℕ) (m : ℕ) → m ≤ length r₀ → drop m (take m r₀ ++ x) ≡ x
-after-part r₀ x m l =
-    let e = length-take-le m r₀ l in
-    ap (λ (k : ℕ). drop k (take m r₀ ++ x)) (sym e) ∙ drop-append-seam (take m r₀) x
+before-part r₀ x n m h l = let e = length-take-le m r₀ l in take-append-le n (take m r₀) x (omega arith) ∙ take-take n m r₀ h
 
 -- records in front of those that are written
 pub filled-more : {r₀ r₁ r₂ : List ℕ} {start middle : ℕ} {rs ss : List Record} → Filled r₀ middle ss r₁ → Filled r₁ start rs r₂ → start + length rs ≡ middle
@@ -36,7 +28,7 @@ filled-more {r₀} {r₁} {r₂} {start} {middle} {rs} {ss} f g e h =
     let low : 2 * start ≤ 2 * middle = omega arith in
     let a : take (2 * start) r₁ ≡ take (2 * start) r₀ = ap (take (2 * start)) (f .text) ∙ before-part r₀ _ (2 * start) (2 * middle) low h in
     let b : drop (2 * (start + length rs)) r₁ ≡ record-words ss ++ drop (2 * (middle + length ss)) r₀ =
-    ap (λ (n : ℕ). drop (2 * n) r₁) e ∙ ap (drop (2 * middle)) (f .text) ∙ after-part r₀ _ (2 * middle) h in
+    ap (λ (n : ℕ). drop (2 * n) r₁) e ∙ ap (drop (2 * middle)) (f .text) ∙ drop-at (take (2 * middle) r₀) _ (2 * middle) (length-take-le (2 * middle) r₀ h) in
     let n : 2 * (start + length (rs ++ ss)) ≡ 2 * (middle + length ss) = simp length-append (omega arith) in
     record { text = g .text ∙ rw (a, b, n, record-words-append rs ss, append-assoc) refl }
 

@@ -13,7 +13,8 @@ use Rattle.tokens.specs.Bool.{if_then_else_, _and_, _or_}
 use Rattle.rows.specs.Row as row
 use Rattle.rows.specs.Tree.{Tree, Forest, node, nil, cons, one, join, count, size, sizes, flat, flats, kind-of, mark-of, first-of, end-of, kids-of}
 use Rattle.rows.specs.Post.{Word, KindSet, RowInside}
-use Rattle.rows.proofs.Rows.{sizes-join, flats-join, count-join}
+use Rattle.rows.specs.Record.{Record}
+use Rattle.rows.proofs.Rows.{sizes-join, flats-join, count-join, Next}
 use Rattle.conversion.specs.Conversion.{turned, is-reference, Role, any, simple, element, last-element, property, last-property, value, name, same, each, only, as-simple, as-any, as-value, as-element, as-last-element, as-property, as-last-property, as-name, change, roles, over, seen, both, convert-as, convert-kids}
 use Rattle.targets.specs.Post.{Subtree, WordInside, TurnedRow}
 use Rattle.conversion.proofs.RuleHolds.{by-test, both-true, one-kid}
@@ -22,81 +23,11 @@ use Rattle.roles.specs.Meaning.{commas, kid, aim}
 use Rattle.roles.specs.ShortCut.{is-value, is-element, is-initialized, ends-in-target, named-kind}
 use Rattle.targets.specs.Post.{Named, NameAt, NameBelow, NameUnder, NameInside, NameSet, named-at}
 use Rattle.conversion.proofs.Potentials.{turned-is, turned-records}
-use Rattle.targets.proofs.Flat.{root-words, root-text, root-inside, Walk, Next, walk-start, walk-more, walk-next, kid-tree, kid-size, kid-text, whole-next}
-use Rattle.targets.proofs.Looking.{reads-kind, reads-kids, reads-size, no-kid}
+use Rattle.targets.proofs.Flat.{no-kid, place-root, root-words, root-text, root-inside, Walk, walk-start, walk-more, walk-next, kid-tree, kid-size, kid-text, whole-next}
+use Rattle.targets.proofs.Looking.{reads-kind, reads-kids, reads-size}
 use Rattle.targets.proofs.Records.{filled-none}
-use Rattle.targets.proofs.Turning.{root-set, same-kids, place-root, more-flat, Step, step-turned}
+use Rattle.targets.proofs.Turning.{root-set, same-kids, more-flat, Step, step-turned}
 use Rattle.conversion.proofs.Shapes.{SameShape}
-
-false-true : {A : Type 0} → false ≡ true → A
-false-true e = let z : _≡_ {A = ℕ} 0 1 = cc in absurd (omega arith)
-
--- a name becomes a TargetName in this role; a Member or an Index a target; an Assign a TargetDefault; a Hole stays
-abbrev takes-name : Role → Bool
-takes-name any = true
-takes-name simple = true
-takes-name element = true
-takes-name (last-element comma) = true
-takes-name property = false
-takes-name (last-property comma) = false
-takes-name value = true
-takes-name name = true
-takes-name same = false
-
-abbrev takes-member : Role → Bool
-takes-member any = true
-takes-member simple = true
-takes-member element = true
-takes-member (last-element comma) = true
-takes-member property = false
-takes-member (last-property comma) = false
-takes-member value = true
-takes-member name = false
-takes-member same = false
-
-abbrev takes-default : Role → Bool
-takes-default any = false
-takes-default simple = false
-takes-default element = true
-takes-default (last-element comma) = true
-takes-default property = false
-takes-default (last-property comma) = false
-takes-default value = true
-takes-default name = false
-takes-default same = false
-
-abbrev takes-hole : Role → Bool
-takes-hole any = false
-takes-hole simple = false
-takes-hole element = true
-takes-hole (last-element comma) = true
-takes-hole property = false
-takes-hole (last-property comma) = false
-takes-hole value = false
-takes-hole name = false
-takes-hole same = false
-
--- in a role that takes names, a row of this kind gets another kind and no record
-abbrev is-kept : Role → ℕ → Bool
-is-kept role kind =
-    if eqb kind row.Identifier then true
-    else if eqb kind row.Member then takes-member role
-    else if eqb kind row.Index then takes-member role
-    else if eqb kind row.Assign then takes-default role
-    else if eqb kind row.Hole then takes-hole role
-    else false
-
--- the role of an object's property
-abbrev is-property : Role → Bool
-is-property any = false
-is-property simple = false
-is-property element = false
-is-property (last-element comma) = false
-is-property property = true
-is-property (last-property comma) = true
-is-property value = false
-is-property name = false
-is-property same = false
 
 -- a tree with another kind at its root, or other kids
 abbrev with-kind : ℕ → Tree → Tree
@@ -105,67 +36,48 @@ with-kind kind t = node kind (mark-of t) (first-of t) (end-of t) (kids-of t)
 abbrev with-kids : Tree → Forest → Tree
 with-kids t kids = node (kind-of t) (mark-of t) (first-of t) (end-of t) kids
 
--- a name becomes a TargetName in each role that takes names
-name-turned : (t : Tree) (role : Role) → kind-of t ≡ row.Identifier → takes-name role ≡ true → convert-as t role ≡ turned (with-kind row.TargetName t) []
-unfolding convert-as change as-any as-simple as-value as-element as-last-element as-name seen over kind-of mark-of first-of end-of kids-of
-name-turned (node k m f e kids) any i t = rw i
-name-turned (node k m f e kids) simple i t = rw i
-name-turned (node k m f e kids) element i t = rw i
-name-turned (node k m f e kids) (last-element comma) i t = rw i
-name-turned (node k m f e kids) property i t = false-true t
-name-turned (node k m f e kids) (last-property comma) i t = false-true t
-name-turned (node k m f e kids) value i t = rw i
-name-turned (node k m f e kids) name i t = rw i
-name-turned (node k m f e kids) same i t = false-true t
+-- what holds of each kind that a test names holds of a kind that passes it
+abbrev Yes : Bool → Type 0
+Yes b = b ≡ true
 
--- a Member or an Index becomes one of the targets, an Assign a TargetDefault
-member-turned : (t : Tree) (role : Role) → kind-of t ≡ row.Member → takes-member role ≡ true → convert-as t role ≡ turned (with-kind row.TargetMember t) []
-unfolding convert-as change as-any as-simple as-value as-element as-last-element as-name seen over kind-of mark-of first-of end-of kids-of
-member-turned (node k m f e kids) any i t = rw i
-member-turned (node k m f e kids) simple i t = rw i
-member-turned (node k m f e kids) element i t = rw i
-member-turned (node k m f e kids) (last-element comma) i t = rw i
-member-turned (node k m f e kids) property i t = false-true t
-member-turned (node k m f e kids) (last-property comma) i t = false-true t
-member-turned (node k m f e kids) value i t = rw i
-member-turned (node k m f e kids) name i t = false-true t
-member-turned (node k m f e kids) same i t = false-true t
+either : {R : Type 0} (a b : Bool) → Yes (a or b) → (Yes a → R) → (Yes b → R) → R
+either true b h f g = f refl
+either false b h f g = g h
 
-index-turned : (t : Tree) (role : Role) → kind-of t ≡ row.Index → takes-member role ≡ true → convert-as t role ≡ turned (with-kind row.TargetIndex t) []
-unfolding convert-as change as-any as-simple as-value as-element as-last-element as-name seen over kind-of mark-of first-of end-of kids-of
-index-turned (node k m f e kids) any i t = rw i
-index-turned (node k m f e kids) simple i t = rw i
-index-turned (node k m f e kids) element i t = rw i
-index-turned (node k m f e kids) (last-element comma) i t = rw i
-index-turned (node k m f e kids) property i t = false-true t
-index-turned (node k m f e kids) (last-property comma) i t = false-true t
-index-turned (node k m f e kids) value i t = rw i
-index-turned (node k m f e kids) name i t = false-true t
-index-turned (node k m f e kids) same i t = false-true t
+module _ (P : ℕ → Type 0) (k : ℕ) where
+  this : (a : ℕ) → P a → Yes (eqb k a) → P k
+  this a p e = rw (eqb-true k a e) p
 
-default-turned : (t : Tree) (role : Role) → kind-of t ≡ row.Assign → takes-default role ≡ true → convert-as t role ≡ turned (with-kind row.TargetDefault t) []
-unfolding convert-as change as-any as-simple as-value as-element as-last-element as-name seen over kind-of mark-of first-of end-of kids-of
-default-turned (node k m f e kids) any i t = false-true t
-default-turned (node k m f e kids) simple i t = false-true t
-default-turned (node k m f e kids) element i t = rw i
-default-turned (node k m f e kids) (last-element comma) i t = rw i
-default-turned (node k m f e kids) property i t = false-true t
-default-turned (node k m f e kids) (last-property comma) i t = false-true t
-default-turned (node k m f e kids) value i t = rw i
-default-turned (node k m f e kids) name i t = false-true t
-default-turned (node k m f e kids) same i t = false-true t
+  by-reference : Yes (is-reference k) → P row.Identifier → P row.Member → P row.Index → P k
+  by-reference h a b c = either (eqb k row.Identifier) _ h (this _ a) (λ h. either (eqb k row.Member) _ h (this _ b) (this _ c))
 
-hole-turned : (t : Tree) (role : Role) → kind-of t ≡ row.Hole → takes-hole role ≡ true → convert-as t role ≡ turned (with-kind row.Hole t) []
+  by-value : Yes (is-value k) → P row.Assign → P row.Identifier → P row.Member → P row.Index → P k
+  by-value h d a b c = by-test Yes (eqb k row.Assign) h (λ e _. this _ d e) (λ _ h. by-reference h a b c)
+
+  by-element : Yes (is-element k) → P row.Hole → P row.Assign → P row.Identifier → P row.Member → P row.Index → P k
+  by-element h i d a b c = by-test Yes (eqb k row.Hole) h (λ e _. this _ i e) (λ _ h. by-value h d a b c)
+
+-- in this role the row gets another kind and no record
+abbrev Kept : Tree → Role → Type 0
+Kept t role = convert-as t role ≡ turned (with-kind (named-kind (kind-of t)) t) []
+
+name-kept : (t : Tree) → kind-of t ≡ row.Identifier → Kept t name
 unfolding convert-as change as-any as-simple as-value as-element as-last-element as-name seen over kind-of mark-of first-of end-of kids-of
-hole-turned (node k m f e kids) any i t = false-true t
-hole-turned (node k m f e kids) simple i t = false-true t
-hole-turned (node k m f e kids) element i t = rw i
-hole-turned (node k m f e kids) (last-element comma) i t = rw i
-hole-turned (node k m f e kids) property i t = false-true t
-hole-turned (node k m f e kids) (last-property comma) i t = false-true t
-hole-turned (node k m f e kids) value i t = false-true t
-hole-turned (node k m f e kids) name i t = false-true t
-hole-turned (node k m f e kids) same i t = false-true t
+name-kept (node k m f e kids) i = rw i
+
+reference-kept : (t : Tree) (simply : Bool) → Yes (is-reference (kind-of t)) → Kept t (if simply then simple else any)
+unfolding convert-as change as-any as-simple as-value as-element as-last-element as-name seen over kind-of mark-of first-of end-of kids-of
+reference-kept (node k m f e kids) true h = by-reference (λ k. Kept (node k m f e kids) simple) k h refl refl refl
+reference-kept (node k m f e kids) false h = by-reference (λ k. Kept (node k m f e kids) any) k h refl refl refl
+
+value-kept : (t : Tree) → Yes (is-value (kind-of t)) → Kept t value
+unfolding convert-as change as-any as-simple as-value as-element as-last-element as-name seen over kind-of mark-of first-of end-of kids-of
+value-kept (node k m f e kids) h = by-value (λ k. Kept (node k m f e kids) value) k h refl refl refl refl
+
+element-kept : (t : Tree) (last : Bool) (comma : List Record) → Yes (is-element (kind-of t)) → Kept t (if last then last-element comma else element)
+unfolding convert-as change as-any as-simple as-value as-element as-last-element as-name seen over kind-of mark-of first-of end-of kids-of
+element-kept (node k m f e kids) true comma h = by-element (λ k. Kept (node k m f e kids) (last-element comma)) k h refl refl refl refl refl
+element-kept (node k m f e kids) false comma h = by-element (λ k. Kept (node k m f e kids) element) k h refl refl refl refl refl
 
 -- a key or an initializer stays
 same-turned : (t : Tree) → convert-as t same ≡ turned t []
@@ -179,50 +91,33 @@ kids-property a b b′ v = rw (same-turned a, v)
 
 kids-shorthand : (b : Tree) → kind-of b ≡ row.Identifier → convert-kids (one b) (only name) ≡ turned (one (with-kind row.TargetName b)) []
 unfolding convert-kids both count
-kids-shorthand b i = rw (name-turned b name i refl)
+kids-shorthand b i = rw (name-kept b i, i)
 
 kids-initialized : (b a : Tree) → kind-of b ≡ row.Identifier → convert-kids (cons b (one a)) (each name same) ≡ turned (cons (with-kind row.TargetName b) (one a)) []
 unfolding convert-kids both count
-kids-initialized b a i = rw (same-turned a, name-turned b name i refl)
+kids-initialized b a i = rw (same-turned a, name-kept b i, i)
 
-property-turned : (t : Tree) (role : Role) (a b b′ : Tree) → is-property role ≡ true → kind-of t ≡ row.Property → kids-of t ≡ cons a (one b) → convert-as b value ≡ turned b′ []
-    → convert-as t role ≡ turned (with-kind row.TargetProperty (with-kids t (cons a (one b′)))) []
-unfolding convert-as change as-property as-last-property seen over roles count kind-of mark-of first-of end-of kids-of
-property-turned (node k m f e kids) any a b b′ p i q v = false-true p
-property-turned (node k m f e kids) simple a b b′ p i q v = false-true p
-property-turned (node k m f e kids) element a b b′ p i q v = false-true p
-property-turned (node k m f e kids) (last-element comma) a b b′ p i q v = false-true p
-property-turned (node k m f e kids) property a b b′ p i q v = rw (i, q) (rw (kids-property a b b′ v))
-property-turned (node k m f e kids) (last-property comma) a b b′ p i q v = rw (i, q) (rw (kids-property a b b′ v))
-property-turned (node k m f e kids) value a b b′ p i q v = false-true p
-property-turned (node k m f e kids) name a b b′ p i q v = false-true p
-property-turned (node k m f e kids) same a b b′ p i q v = false-true p
+-- a property, the last one or not, over such kids
+abbrev as-one : Bool → List Record → Role
+as-one last comma = if last then last-property comma else property
 
-shorthand-turned : (t : Tree) (role : Role) (b : Tree) → is-property role ≡ true → kind-of t ≡ row.Shorthand → kids-of t ≡ one b → kind-of b ≡ row.Identifier
-    → convert-as t role ≡ turned (with-kind row.TargetShorthand (with-kids t (one (with-kind row.TargetName b)))) []
+property-turned : (t : Tree) (last : Bool) (comma : List Record) (a b b′ : Tree) → kind-of t ≡ row.Property → kids-of t ≡ cons a (one b) → convert-as b value ≡ turned b′ []
+    → convert-as t (as-one last comma) ≡ turned (with-kind row.TargetProperty (with-kids t (cons a (one b′)))) []
 unfolding convert-as change as-property as-last-property seen over roles count kind-of mark-of first-of end-of kids-of
-shorthand-turned (node k m f e kids) any b p i q n = false-true p
-shorthand-turned (node k m f e kids) simple b p i q n = false-true p
-shorthand-turned (node k m f e kids) element b p i q n = false-true p
-shorthand-turned (node k m f e kids) (last-element comma) b p i q n = false-true p
-shorthand-turned (node k m f e kids) property b p i q n = rw (i, q) (rw (kids-shorthand b n))
-shorthand-turned (node k m f e kids) (last-property comma) b p i q n = rw (i, q) (rw (kids-shorthand b n))
-shorthand-turned (node k m f e kids) value b p i q n = false-true p
-shorthand-turned (node k m f e kids) name b p i q n = false-true p
-shorthand-turned (node k m f e kids) same b p i q n = false-true p
+property-turned (node k m f e kids) true comma a b b′ i q v = rw (i, q) (rw (kids-property a b b′ v))
+property-turned (node k m f e kids) false comma a b b′ i q v = rw (i, q) (rw (kids-property a b b′ v))
 
-initialized-turned : (t : Tree) (role : Role) (b a : Tree) → is-property role ≡ true → kind-of t ≡ row.ShorthandInit → kids-of t ≡ cons b (one a) → kind-of b ≡ row.Identifier
-    → convert-as t role ≡ turned (with-kind row.TargetShorthandInit (with-kids t (cons (with-kind row.TargetName b) (one a)))) []
+shorthand-turned : (t : Tree) (last : Bool) (comma : List Record) (b : Tree) → kind-of t ≡ row.Shorthand → kids-of t ≡ one b → kind-of b ≡ row.Identifier
+    → convert-as t (as-one last comma) ≡ turned (with-kind row.TargetShorthand (with-kids t (one (with-kind row.TargetName b)))) []
 unfolding convert-as change as-property as-last-property seen over roles count kind-of mark-of first-of end-of kids-of
-initialized-turned (node k m f e kids) any b a p i q n = false-true p
-initialized-turned (node k m f e kids) simple b a p i q n = false-true p
-initialized-turned (node k m f e kids) element b a p i q n = false-true p
-initialized-turned (node k m f e kids) (last-element comma) b a p i q n = false-true p
-initialized-turned (node k m f e kids) property b a p i q n = rw (i, q) (rw (kids-initialized b a n))
-initialized-turned (node k m f e kids) (last-property comma) b a p i q n = rw (i, q) (rw (kids-initialized b a n))
-initialized-turned (node k m f e kids) value b a p i q n = false-true p
-initialized-turned (node k m f e kids) name b a p i q n = false-true p
-initialized-turned (node k m f e kids) same b a p i q n = false-true p
+shorthand-turned (node k m f e kids) true comma b i q n = rw (i, q) (rw (kids-shorthand b n))
+shorthand-turned (node k m f e kids) false comma b i q n = rw (i, q) (rw (kids-shorthand b n))
+
+initialized-turned : (t : Tree) (last : Bool) (comma : List Record) (b a : Tree) → kind-of t ≡ row.ShorthandInit → kids-of t ≡ cons b (one a) → kind-of b ≡ row.Identifier
+    → convert-as t (as-one last comma) ≡ turned (with-kind row.TargetShorthandInit (with-kids t (cons (with-kind row.TargetName b) (one a)))) []
+unfolding convert-as change as-property as-last-property seen over roles count kind-of mark-of first-of end-of kids-of
+initialized-turned (node k m f e kids) true comma b a i q n = rw (i, q) (rw (kids-initialized b a n))
+initialized-turned (node k m f e kids) false comma b a i q n = rw (i, q) (rw (kids-initialized b a n))
 
 -- the words with another kind at the root of a subtree
 kind-set : {rows : List ℕ} {root : ℕ} (h : Subtree rows root) (kind : ℕ) → set rows (6 * root) kind ≡ h .before ++ (flat (with-kind kind (h .tree)) ++ h .after)
@@ -276,73 +171,23 @@ none-below = record { is = λ held last. no-name }
 pub none-under : {rows : List ℕ} {root of : ℕ} → NameUnder rows root of (root + 1)
 none-under = record { is = λ last. no-name }
 
--- a row that keeps its kids
-kept-turned : (t : Tree) (role : Role) → takes-name role ≡ true → is-kept role (kind-of t) ≡ true
-    → convert-as t role ≡ turned (with-kind (named-kind (kind-of t)) t) []
-kept-turned t role takes kept =
-    by-test Yes (eqb (kind-of t) row.Identifier) kept
-    (λ k _. let i = eqb-true (kind-of t) _ k in name-turned t role i takes ∙ ap (λ (n : ℕ). turned (with-kind (named-kind n) t) []) (sym i))
-    (λ _ y. by-test Yes (eqb (kind-of t) row.Member) y
-    (λ k m. let i = eqb-true (kind-of t) _ k in member-turned t role i m ∙ ap (λ (n : ℕ). turned (with-kind (named-kind n) t) []) (sym i))
-    (λ _ y. by-test Yes (eqb (kind-of t) row.Index) y
-    (λ k m. let i = eqb-true (kind-of t) _ k in index-turned t role i m ∙ ap (λ (n : ℕ). turned (with-kind (named-kind n) t) []) (sym i))
-    (λ _ y. by-test Yes (eqb (kind-of t) row.Assign) y
-    (λ k d. let i = eqb-true (kind-of t) _ k in default-turned t role i d ∙ ap (λ (n : ℕ). turned (with-kind (named-kind n) t) []) (sym i))
-    (λ _ y. by-test Yes (eqb (kind-of t) row.Hole) y
-    (λ k d. let i = eqb-true (kind-of t) _ k in hole-turned t role i d ∙ ap (λ (n : ℕ). turned (with-kind (named-kind n) t) []) (sym i))
-    (λ _ y. false-true y)))))
-  where
-    Yes : Bool → Type 0
-    Yes b = b ≡ true
-
--- what the code asks of a kind is that a row of it is kept
-any-tests : (a b c d e : Bool) → (a or b or c) ≡ true
-    → (if a then true else if b then true else if c then true else if d then false else if e then false else false) ≡ true
-any-tests true b c d e h = refl
-any-tests false true c d e h = refl
-any-tests false false true d e h = refl
-any-tests false false false d e h = false-true h
-
-value-tests : (a b c d e : Bool) → (if d then true else a or b or c) ≡ true
-    → (if a then true else if b then true else if c then true else if d then true else if e then false else false) ≡ true
-value-tests true b c d e h = refl
-value-tests false true c d e h = refl
-value-tests false false true d e h = refl
-value-tests false false false true e h = refl
-value-tests false false false false e h = false-true h
-
-element-tests : (a b c d e : Bool) → (if e then true else if d then true else a or b or c) ≡ true
-    → (if a then true else if b then true else if c then true else if d then true else if e then true else false) ≡ true
-element-tests true b c d e h = refl
-element-tests false true c d e h = refl
-element-tests false false true d e h = refl
-element-tests false false false true e h = refl
-element-tests false false false false true h = refl
-element-tests false false false false false h = false-true h
-
-kept-as-any : (k : ℕ) → is-reference k ≡ true → is-kept any k ≡ true
-kept-as-any k h = any-tests (eqb k row.Identifier) (eqb k row.Member) (eqb k row.Index) (eqb k row.Assign) (eqb k row.Hole) h
-
-kept-as-value : (k : ℕ) → is-value k ≡ true → is-kept value k ≡ true
-kept-as-value k h = value-tests (eqb k row.Identifier) (eqb k row.Member) (eqb k row.Index) (eqb k row.Assign) (eqb k row.Hole) h
-
-kept-as-element : (k : ℕ) → is-element k ≡ true → is-kept element k ≡ true
-kept-as-element k h = element-tests (eqb k row.Identifier) (eqb k row.Member) (eqb k row.Index) (eqb k row.Assign) (eqb k row.Hole) h
+-- the kind that it gets, by its word
+kept-at : {rows : List ℕ} {root kind : ℕ} (role : Role) (h : Subtree rows root) → Word rows root 0 kind → Kept (h .tree) role
+    → convert-as (h .tree) role ≡ turned (with-kind (named-at rows root) (h .tree)) []
+kept-at role h w k = k ∙ ap (λ (n : ℕ). turned (with-kind (named-kind n) (h .tree)) []) (sym (reads-kind h w) ∙ w .is)
 
 -- the row itself is all there is to convert
-kept-here : {rows : List ℕ} {root kind : ℕ} (role : Role) → takes-name role ≡ true → Word rows root 0 kind → is-kept role kind ≡ true → NameAt rows root role root
+kept-here : {rows : List ℕ} {root kind : ℕ} (role : Role) → Word rows root 0 kind → ((t : Tree) → kind-of t ≡ kind → Kept t role) → NameAt rows root role root
 unfolding mark-of first-of end-of kids-of
-kept-here {rows} {root} {kind} role t w y =
+kept-here {rows} {root} {kind} role w kept =
     record {
       is = λ le h.
-          let here : kind-of (h .tree) ≡ kind = sym (reads-kind h w) in
           let n = named-at rows root in
-          let n-is : named-kind (kind-of (h .tree)) ≡ n = ap named-kind (here ∙ w .is) in
           let t₁ = with-kind n (h .tree) in
           let place : 6 * (root + 1) ≡ length (h .before) + 6 * size t₁ = rw (kind-size (h .tree) n) (h .place) in
           record {
-            made = with-kind n (h .tree);
-            is = kept-turned (h .tree) role t (ap (is-kept role) here ∙ y) ∙ ap (λ (k : ℕ). turned (with-kind k (h .tree)) []) n-is;
+            made = t₁;
+            is = kept-at role h w (kept (h .tree) (sym (reads-kind h w)));
             text = kind-set (record { before = h .before; tree = t₁; after = h .after; text = kind-set h n; place = place }) n;
           };
     }
@@ -350,18 +195,13 @@ kept-here {rows} {root} {kind} role t w y =
 -- so of an element
 pub element-turned : (t : Tree) (last : Bool) → is-element (kind-of t) ≡ true → convert-as t (kid code.Array last) ≡ turned (with-kind (named-kind (kind-of t)) t) []
 unfolding kid
-element-turned t true e = kept-turned t (last-element []) refl (kept-as-element (kind-of t) e)
-element-turned t false e = kept-turned t element refl (kept-as-element (kind-of t) e)
+element-turned t last e = element-kept t last [] e
 
 -- so of a reference, whatever is aimed at
 pub reference-turned : {rows : List ℕ} {root kind : ℕ} (simply : Bool) (h : Subtree rows root) → Word rows root 0 kind → is-reference kind ≡ true
     → convert-as (h .tree) (aim simply) ≡ turned (with-kind (named-at rows root) (h .tree)) []
-reference-turned {rows} {root} {kind} true h w e =
-    kept-turned (h .tree) simple refl (ap (is-kept simple) (sym (reads-kind h w)) ∙ kept-as-any kind e)
-    ∙ ap (λ (k : ℕ). turned (with-kind (named-kind k) (h .tree)) []) (sym (reads-kind h w) ∙ w .is)
-reference-turned {rows} {root} {kind} false h w e =
-    kept-turned (h .tree) any refl (ap (is-kept any) (sym (reads-kind h w)) ∙ kept-as-any kind e)
-    ∙ ap (λ (k : ℕ). turned (with-kind (named-kind k) (h .tree)) []) (sym (reads-kind h w) ∙ w .is)
+reference-turned true h w e = kept-at simple h w (reference-kept (h .tree) true (ap is-reference (sym (reads-kind h w)) ∙ e))
+reference-turned false h w e = kept-at any h w (reference-kept (h .tree) false (ap is-reference (sym (reads-kind h w)) ∙ e))
 
 pub one-set : {rows : List ℕ} {root : ℕ} (h : Subtree rows root) → set rows (6 * root) (named-at rows root) ≡ h .before ++ (flat (with-kind (named-at rows root) (h .tree)) ++ h .after)
 one-set {rows} {root} h = kind-set h (named-at rows root)
@@ -369,24 +209,16 @@ one-set {rows} {root} h = kind-set h (named-at rows root)
 -- an element of an array; a simple target, or any
 pub element-here : {rows : List ℕ} {root of kind : ℕ} → of % 16 ≡ code.Array → Word rows root 0 kind → is-element kind ≡ true → NameUnder rows root of root
 unfolding kid
-element-here {rows} {root} {of} {kind} k w e = record { is = λ last. rw k (go last) }
-  where
-    go : (last : Bool) → NameAt rows root (if last then last-element (commas (of / 16)) else element) root
-    go true = kept-here (last-element (commas (of / 16))) refl w (kept-as-element kind e)
-    go false = kept-here element refl w (kept-as-element kind e)
+element-here {of = of} k w e = record { is = λ last. rw k (kept-here _ w (λ t i. element-kept t last (commas (of / 16)) (ap is-element i ∙ e))) }
 
 pub reference-here : {rows : List ℕ} {root of kind : ℕ} → code.Paren ≤ of % 16 → Word rows root 0 kind → is-reference kind ≡ true → NameUnder rows root of root
 unfolding kid
-reference-here {rows} {root} {of} {kind} le w e =
+reference-here {of = of} le w e =
     record {
       is = λ last.
           rw (ne-eqb (of % 16) code.Array (λ z. omega arith), ne-eqb (of % 16) code.Object (λ z. omega arith), ne-eqb (of % 16) code.Property (λ z. omega arith), ne-eqb (of % 16) code.Shorthand (λ z. omega arith), ne-eqb (of % 16) code.ShorthandInit (λ z. omega arith))
-          (go (eqb (of % 16) code.Paren));
+          (kept-here _ w (λ t i. reference-kept t (eqb (of % 16) code.Paren) (ap is-reference i ∙ e)));
     }
-  where
-    go : (b : Bool) → NameAt rows root (if b then simple else any) root
-    go true = kept-here simple refl w (kept-as-any kind e)
-    go false = kept-here any refl w (kept-as-any kind e)
 
 pub property-here : {rows : List ℕ} {root of at : ℕ} → of % 16 ≡ code.Object → NameBelow rows root at → NameUnder rows root of at
 unfolding kid
@@ -495,10 +327,6 @@ module _ {rows : List ℕ} {root kids : ℕ} (h : Subtree rows root) (wn : Word 
     unfolding join
     first-is = whole-next past-last first-kid ∙ ap (λ (f : Forest). join f (cons (first-kid .kid) (one (last-kid (of-two two) .kid)))) first-alone
 
-a-property : (held : ℕ) (last : Bool) → is-property (if last then last-property (commas held) else property) ≡ true
-a-property held true = refl
-a-property held false = refl
-
 -- the name of a shorthand with an initializer
 pub named-first : {rows : List ℕ} {root kind kids s s′ x : ℕ} {r : Bool} → Word rows root 0 kind → Word rows root 4 kids → r ≡ is-initialized kind kids → r ≡ true
     → Word rows (root - 1) 5 s → s′ ≡ s → Word rows (root - s′ - 1) 0 x → x ≡ row.Identifier → NameBelow rows root (root - s′ - 1)
@@ -523,7 +351,7 @@ named-first {rows} {root} {kind} {kids} {s′ = s′} wk wn e t ws es wx i =
                 ∙ ap (λ (l : List ℕ). (h .before ++ flats nil) ++ (flat (with-kind row.TargetName name) ++ l)) (sym (more-flat init nil R)) in
                 record {
                   made = _;
-                  is = initialized-turned (h .tree) _ name init (a-property held last) (sym (reads-kind h wk) ∙ b .0) q k;
+                  is = initialized-turned (h .tree) last (commas held) name init (sym (reads-kind h wk) ∙ b .0) q k;
                   text = rw (kind-is, below-is) (two-set h nil (one init) name (root - s′ - 1) row.TargetName row.TargetShorthandInit q text);
                 };
           };
@@ -531,8 +359,8 @@ named-first {rows} {root} {kind} {kids} {s′ = s′} wk wn e t ws es wx i =
 
 -- the value of a property, or the name of a shorthand
 module _ {rows : List ℕ} {root kind kids x : ℕ} (wk : Word rows root 0 kind) (wn : Word rows root 4 kids) (wx : Word rows (root - 1) 0 x)
-    (role : Role) (p : is-property role ≡ true) (h : Subtree rows root) where
-  last-here : Ends kind kids x → Named rows root role (root - 1) h
+    (closes : Bool) (comma : List Record) (h : Subtree rows root) where
+  last-here : Ends kind kids x → Named rows root (as-one closes comma) (root - 1) h
   unfolding join flats count
   last-here (key-value k n v) =
       let last = last-kid h wn (of-two n) in
@@ -546,14 +374,14 @@ module _ {rows : List ℕ} {root kind kids x : ℕ} (wk : Word rows root 0 kind)
       let below = named-at rows (root - 1) in
       let below-is : named-kind (kind-of (last .kid)) ≡ below = ap named-kind (sym (reads-kind tree wx) ∙ wx .is) in
       let turns : convert-as (last .kid) value ≡ turned (with-kind below (last .kid)) [] =
-      kept-turned (last .kid) value refl (ap (is-kept value) (sym (reads-kind tree wx)) ∙ kept-as-value x v)
+      value-kept (last .kid) (ap is-value (sym (reads-kind tree wx)) ∙ v)
       ∙ ap (λ (k : ℕ). turned (with-kind k (last .kid)) []) below-is in
       let text =
       kind-set tree below
       ∙ ap (λ (f : Forest). (h .before ++ flats f) ++ (flat (with-kind below (last .kid)) ++ (root-words (h .tree) ++ h .after))) (a .1) in
       record {
         made = _;
-        is = property-turned (h .tree) role (a .0) (last .kid) _ p (sym (reads-kind h wk) ∙ k) q turns;
+        is = property-turned (h .tree) closes comma (a .0) (last .kid) _ (sym (reads-kind h wk) ∙ k) q turns;
         text = rw kind-is (two-set h (one (a .0)) nil (last .kid) (root - 1) below row.TargetProperty q text);
       }
   last-here (shorthand k n i) =
@@ -570,14 +398,14 @@ module _ {rows : List ℕ} {root kind kids x : ℕ} (wk : Word rows root 0 kind)
       ∙ ap (λ (f : Forest). (h .before ++ flats f) ++ (flat (with-kind row.TargetName (last .kid)) ++ (root-words (h .tree) ++ h .after))) none in
       record {
         made = _;
-        is = shorthand-turned (h .tree) role (last .kid) p (sym (reads-kind h wk) ∙ k) q (sym (reads-kind tree wx) ∙ i);
+        is = shorthand-turned (h .tree) closes comma (last .kid) (sym (reads-kind h wk) ∙ k) q (sym (reads-kind tree wx) ∙ i);
         text = rw (kind-is, below-is) (two-set h nil nil (last .kid) (root - 1) row.TargetName row.TargetShorthand q text);
       }
 
 pub named-last : {rows : List ℕ} {root kind kids x : ℕ} {r : Bool} → Word rows root 0 kind → Word rows root 4 kids → Word rows (root - 1) 0 x → r ≡ ends-in-target kind kids x
     → r ≡ true → NameBelow rows root (root - 1)
 named-last {kind = kind} {kids = kids} {x = x} wk wn wx e t =
-    record { is = λ held last. record { is = λ le h. last-here wk wn wx _ (a-property held last) h (ends kind kids x (sym e ∙ t)) } }
+    record { is = λ held last. record { is = λ le h. last-here wk wn wx last (commas held) h (ends kind kids x (sym e ∙ t)) } }
 
 -- the places that are looked at are there
 pub last-low : {rows : List ℕ} {root kids : ℕ} → Subtree rows root → Word rows root 4 kids → (kids ≡ 0 → ⊥) → 1 ≤ root

@@ -8,7 +8,7 @@ use mathlib.Core.Path.{_≡_, refl, sym, ap, _∙_}
 use mathlib.Core.List.{List, [], _∷_, _++_, append-assoc}
 use native.Mathlib.Omega.{arith}
 use lib.Dec.{eqb}
-use borrow.Author.Tests.{eqb-true, eq-eqb}
+use borrow.Author.Tests.{eqb-true, eqb-false}
 use lib.ListN.{length, getD, set, length-append, length-set}
 use lib.Seq.{set-append-seam}
 use Rattle.tokens.specs.declared.cause.Cause.{Cause}
@@ -16,7 +16,7 @@ use Rattle.rows.specs.Tree.{Tree, Forest, node, nil, cons, one, join, count, si
 use Rattle.rows.specs.Record.{Record}
 use Rattle.rows.specs.Post.{Word, KindSet, RowInside}
 use Rattle.rows.proofs.Flat.{length-flats}
-use Rattle.rows.proofs.Rows.{sizes-join, flats-join, count-join}
+use Rattle.rows.proofs.Rows.{sizes-join, flats-join, count-join, Next}
 use Rattle.conversion.specs.Conversion as def
 use Rattle.conversion.specs.Conversion.{Outcome, turned, refused, roles, over, convert-as, convert-kids}
 use Rattle.roles.specs.Meaning as means
@@ -25,10 +25,10 @@ use Rattle.targets.specs.Post.{all-elements}
 use Rattle.roles.specs.ShortCut.{is-element}
 use Rattle.conversion.proofs.RuleHolds.{refused-turned}
 use Rattle.conversion.proofs.Potentials.{turned-is, turned-records}
-use Rattle.targets.proofs.Flat.{root-words, flat-root, root-text, root-inside, size-root, Walk, Next, walk-start, walk-some, walk-next, walk-none, walk-past, kid-tree, kid-size, whole-next}
+use Rattle.targets.proofs.Flat.{place-root, root-words, flat-root, root-text, root-inside, size-root, Walk, walk-start, walk-some, walk-next, walk-none, walk-past, kid-tree, kid-size, whole-next}
 use Rattle.targets.proofs.Looking.{reads-kind, reads-size, last-begins, kid-before}
 use Rattle.targets.proofs.Records.{filled-none, filled-more}
-use Rattle.targets.proofs.Judging.{by-change, last-kid}
+use Rattle.targets.proofs.Judging.{by-change, keeps-over, refuses-over, last-kid}
 use Rattle.roles.specs.Plan as code
 use Rattle.targets.proofs.Plans.{turning, Alone, kept, refuses, alone, before-length, right-before}
 use Rattle.targets.proofs.Wrong.{wrong-kid}
@@ -108,19 +108,8 @@ root-set (node k m f e ts) kids kind before after rows rows′ root s text place
     ∙ set-append-seam (before ++ flats kids) k r kind
     ∙ rw (s .many, s .rows) (simp append-assoc)
 
-keeps-over : (kind : ℕ) (rs : List Record) (t : Tree) (out : Outcome Forest) → over (def.keep kind rs) t out ≡ turned (node kind (mark-of t) (first-of t) (end-of t) (kids-of t)) rs
-unfolding over kids-of mark-of first-of end-of
-keeps-over kind rs (node k m f e kids) out = refl
-
-refuses-over : (c : Cause) (t : Tree) (out : Outcome Forest) → over (def.refuse c) t out ≡ refused c
-unfolding over
-refuses-over c t out = refl
-
 pub same-kids : (ts : Forest) → SameShape ts ts
 same-kids ts = record { many = refl; rows = refl }
-
-pub place-root : {rows : List ℕ} {root : ℕ} (h : Subtree rows root) → 6 * root ≡ length (h .before) + 6 * sizes (kids-of (h .tree))
-place-root h = omega (arith, h .place, size-root (h .tree))
 
 -- a row whose kids stay is given its kind, and its record is written; of one that is refused nothing is asked
 pub turn-alone : {rows r : List ℕ} {root end result : ℕ} {rows′ r′ : List ℕ} {role : def.Role} {of : ℕ} → PlanAt rows root role of → code.Keep ≤ of % 16
@@ -411,18 +400,11 @@ same-last u u′ (cons t ts) each ts′ rs e h =
     let b = cons-parts t ts each ts′ rs h in
     rw (b .made) (same-last t (b .one) ts each (b .rest) (b .later) (same-first t (each (count ts)) (b .one) (b .first) (b .one-is)) (b .rest-is))
 
-no-both : true ≡ false → ⊥
-no-both e = let z : _≡_ {A = ℕ} 0 1 = cc in absurd (omega arith)
-
 -- what is known of a row whose kids are turned
 record Over {rows₀ : List ℕ} {root : ℕ} (h : Subtree rows₀ root) (ts : Forest) (rs : List Record) (r₀ : List ℕ) (start₀ : ℕ) (rows r : List ℕ) (start : ℕ) : Type 0 where
   text : rows ≡ h .before ++ (flats ts ++ (root-words (h .tree) ++ h .after))
   begins : start + length rs ≡ start₀
   filled : Filled r₀ start rs r
-
-same-over : {rows₀ r₀ : List ℕ} {root start₀ : ℕ} {rows r : List ℕ} {start : ℕ} {h : Subtree rows₀ root} {ts us : Forest} {rs ss : List Record} → turned ts rs ≡ turned us ss
-    → Over h ts rs r₀ start₀ rows r start → Over h us ss r₀ start₀ rows r start
-same-over e o = rw (turned-is e, turned-records e) at o
 
 module _ {rows₀ r₀ : List ℕ} {root of start₀ : ℕ} {rows r : List ℕ} {start stop first : ℕ} (t : Turning rows₀ root r₀ of start₀ rows r start stop)
     (f : FirstRow rows root first) (ge : stop ≤ first) where
@@ -431,7 +413,8 @@ module _ {rows₀ r₀ : List ℕ} {root of start₀ : ℕ} {rows r : List ℕ} 
       let a = t .here h k in
       let d = walk-past (a .walk) (f .is (current h a)) ge in
       let b = sym (a .is) ∙ ap (λ (ts : Forest). convert-kids ts (means.kids of)) (d .0) ∙ k .is in
-      same-over b (record { text = d .1; begins = a .begins; filled = a .filled })
+      let o : Over h (a .done) (a .notes) r₀ start₀ rows r start = record { text = d .1; begins = a .begins; filled = a .filled } in
+      rw (turned-is b, turned-records b) at o
 
   -- the last kid begins where it did
   begins-same : (h : Subtree rows₀ root) (k : Kindly h of) → 0 < count (kids-of (h .tree)) → begins-before rows root ≡ begins-of (h .tree)
@@ -441,7 +424,7 @@ module _ {rows₀ r₀ : List ℕ} {root of start₀ : ℕ} {rows r : List ℕ} 
       let e = walk-none (a .walk) (f .is (current h a)) ge in
       let d = walk-past (a .walk) (f .is (current h a)) ge .0 in
       let n = now-shape h a .many in
-      last-begins (current h a) (omega arith)
+      last-begins (current h a) (omega arith) (record { is = refl })
       ∙ ap (λ (g : Forest). first-of (def.last-of (join g (a .done)))) e
       ∙ same-last (node 0 0 0 0 nil) (node 0 0 0 0 nil) (a .walk .passed) (means.kids of) (a .done) (a .notes) refl (a .is)
       ∙ ap (λ (ts : Forest). first-of (def.last-of ts)) d
@@ -452,7 +435,7 @@ module _ {rows₀ r₀ : List ℕ} {root of start₀ : ℕ} {rows r : List ℕ} 
     where
       go : (b : Bool) → eqb (of % 16) code.WrongRest ≡ b → means.before (begins-before rows root) of ≡ means.before (begins-of (h .tree)) of
       go true q = ap (λ (n : ℕ). means.before n of) (begins-same h k (wrong-kid p (eqb-true (of % 16) code.WrongRest q) h))
-      go false q = right-before (begins-before rows root) (begins-of (h .tree)) of (λ e. no-both (sym (eq-eqb (of % 16) code.WrongRest e) ∙ q))
+      go false q = right-before (begins-before rows root) (begins-of (h .tree)) of (eqb-false (of % 16) code.WrongRest q)
 
   -- the row can be finished
   pub finish-fits : {role : def.Role} → PlanAt rows₀ root role of → KidsReady rows₀ root of start₀ → FinishFits rows root of (length r) start
@@ -473,9 +456,6 @@ same-made : {before after r₀ rows r : List ℕ} {t u : Tree} {start end : ℕ}
     → (start + length ss ≡ end) × Made before after r₀ u start ss rows r → (start + length rs ≡ end) × Made before after r₀ t start rs rows r
 same-made e f m = rw (e, f) m
 
-same-written : {r₀ r : List ℕ} {end start : ℕ} {rs ss : List Record} → rs ≡ ss → Written r₀ end rs r start → Written r₀ end ss r start
-same-written e w = rw e at w
-
 pub turn-ends : {rows₀ rₑ r₀ : List ℕ} {root : ℕ} {role : def.Role} {of end start₀ : ℕ} {rows r : List ℕ} {start stop first : ℕ} {rows′ r′ : List ℕ} {result : ℕ}
     → PlanAt rows₀ root role of → of % 16 < code.Keep → Written rₑ end (means.after of) r₀ start₀ → 2 * end ≤ length rₑ → length r₀ ≡ length rₑ
     → Turning rows₀ root r₀ of start₀ rows r start stop → FirstRow rows root first → stop ≤ first → Finished rows r root of start rows′ r′ result
@@ -486,7 +466,7 @@ turn-ends {rₑ = rₑ} {root = root} {of = of} {end = end} {start₀ = start₀
           let c = accepted p lt h t′ rs a in
           let k : Kindly h of = record { made = c .kids; records = c .notes; is = c .is } in
           let o = all-turned t f ge h k in
-          let wₙ = same-written (before-same t f ge p h k) (w .notes) in
+          let wₙ = rw (before-same t f ge p h k) at (w .notes) in
           let ba = wₐ .begins in
           let bo = o .begins in
           let bn = wₙ .begins in

@@ -48,23 +48,16 @@ lining-more {words} {width = width} {n} {i} {x} h l e a k =
       adds = adds-then (h .adds) a;
       text =
           h .text
-          ∙ ap (λ (left : ℕ). h .done ++ line (words-from words (width * n + i) left)) p
-          ∙ ap (λ (l : List ℕ). h .done ++ l) (line-more words (width * n + i) (width - i - 2))
-          ∙ ap (λ (y : ℕ). h .done ++ ((decimal y ++ (space ∷ [])) ++ line (words-from words (width * n + i + 1) (suc (width - i - 2))))) (sym e)
-          ∙ sym (append-assoc (h .done) (decimal x ++ (space ∷ [])) (line (words-from words (width * n + i + 1) (suc (width - i - 2)))))
-          ∙ rw (sym q, sym r) refl;
+          ∙ rw (p, q, r, line-more words (width * n + i) (width - i - 2), sym e)
+          (sym (append-assoc (h .done) (decimal x ++ (space ∷ [])) (line (words-from words (width * n + i + 1) (suc (width - i - 2))))));
     }
 
 pub lining-last : {words out₀ out out′ : List ℕ} {width n i x : ℕ} {pen₀ pen pen′ : Pen} → Lining words width n out₀ pen₀ i out pen → width - 1 ≤ i
     → x ≡ getD words (width * n + i) 0 → Adds (decimal x ++ (newline ∷ [])) out pen out′ pen′ → Adds (line-of words width n) out₀ pen₀ out′ pen′
 lining-last {words} {width = width} {n} {i} {x} h l e a =
     let p : width - i ≡ 1 = omega (arith, h .inside) in
-    adds-as
-    (sym
-    (h .text
-    ∙ ap (λ (left : ℕ). h .done ++ line (words-from words (width * n + i) left)) p
-    ∙ ap (λ (l : List ℕ). h .done ++ l) (line-last words (width * n + i) ∙ ap (λ (y : ℕ). decimal y ++ (newline ∷ [])) (sym e))))
-    (adds-then (h .adds) a)
+    let text : line-of words width n ≡ h .done ++ (decimal x ++ (newline ∷ [])) = h .text ∙ rw (p, line-last words (width * n + i), sym e) in
+    adds-as (sym text) (adds-then (h .adds) a)
 
 -- the lines of the first groups were added
 pub record Listing (words : List ℕ) (width count : ℕ) (out₀ : List ℕ) (pen₀ : Pen) (n : ℕ) (out : List ℕ) (pen : Pen) : Type 0 where
@@ -98,9 +91,7 @@ listing-more {words} {width = width} {count} {n} h l a k =
       adds = adds-then (h .adds) a;
       text =
           h .text
-          ∙ ap (λ (left : ℕ). h .done ++ lines-from words width n left) p
-          ∙ ap (λ (l : List ℕ). h .done ++ l) (lines-more words width n (count - (n + 1)))
-          ∙ sym (append-assoc (h .done) (line-of words width n) (lines-from words width (n + 1) (count - (n + 1))));
+          ∙ rw (p, lines-more words width n (count - (n + 1))) (sym (append-assoc (h .done) (line-of words width n) (lines-from words width (n + 1) (count - (n + 1)))));
     }
 
 -- all lines, or as many as the buffer has room for
@@ -108,9 +99,8 @@ pub listing-all : {words out₀ out : List ℕ} {width count n : ℕ} {pen₀ pe
     → Adds (lines-from words width 0 count) out₀ pen₀ out pen
 listing-all {words} {width = width} {count} {n} h l =
     let p : count - n ≡ 0 = omega arith in
-    adds-as
-    (sym (h .text ∙ ap (λ (left : ℕ). h .done ++ lines-from words width n left) p ∙ ap (λ (l : List ℕ). h .done ++ l) (lines-none words width n) ∙ append-nil (h .done)))
-    (h .adds)
+    let text : lines-from words width 0 count ≡ h .done = h .text ∙ rw (p, lines-none words width n) (append-nil (h .done)) in
+    adds-as (sym text) (h .adds)
 
 pub listing-full : {words out₀ out : List ℕ} {width count n : ℕ} {pen₀ pen : Pen} → Listing words width count out₀ pen₀ n out pen → pen .full ≡ true
     → Adds (lines-from words width 0 count) out₀ pen₀ out pen

@@ -13,8 +13,7 @@ use Rattle.tokens.specs.Bool.{_or_, if_then_else_}
 use Rattle.rows.specs.Mask.{bits, mask, cells, Cell}
 use Rattle.rows.specs.Shape.{Shape, exactly, is-left-hand-side, is-unary, is-binary, is-logical, is-assignment, is-expression, is-body, is-binding, is-parameter, is-simple-target, is-target, only, nothing, shape-of}
 use Rattle.trees.proofs.Masks.{numbers}
-use Rattle.trees.proofs.Shapes.{all-below, all-shapes}
-use Rattle.trees.proofs.Beyond.{beyond}
+use Rattle.trees.proofs.Shapes.{beyond, all-below, all-shapes}
 
 -- the number at a place of a kind's line
 abbrev pub number-at : ℕ → ℕ → ℕ

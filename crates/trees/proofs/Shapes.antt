@@ -1,19 +1,29 @@
--- Laws of the table of shapes: what its numbers say of a kid at a place.
+-- Laws of the table of shapes: what its numbers say of a kid at a place. Past the table, a kind over 50 has no kids, and none over 63 may be one.
 -- Assumes nothing.
 use Prim.Native.Nat.{ℕ, zero, suc, _+_, _-_, _≤_, _<_}
 use mathlib.Core.Path.{_≡_, refl, sym, ap, _∙_}
-use mathlib.Core.Bool.{Bool, true, false}
-use mathlib.Core.List.{List, [], map}
+use mathlib.Core.Bool.{Bool, true, false, not}
+use mathlib.Core.List.{List, [], _∷_, map}
 use native.Mathlib.Omega.{arith}
 use native.Mathlib.Nat.{zero-add}
-use lib.Dec.{eqb, leb}
+use lib.Dec.{eqb, leb, ltb}
 use lib.ListN.{length, getD}
-use borrow.Author.Tests.{lt-ltb, le-ltb, le-leb, lt-leb, leb-true, eq-eqb, ne-eqb}
-use Rattle.tokens.specs.Bool.{_or_, _and_}
+use borrow.Author.Tests.{not-true, lt-ltb, le-ltb, le-leb, lt-leb, leb-true, eq-eqb, ne-eqb}
+use Rattle.tokens.specs.Bool.{_or_, _and_, _is_, if_then_else_, between}
+use Rattle.rows.specs.Row as row
 use Rattle.rows.specs.Mask.{has, mask, cells, Cell}
-use Rattle.rows.specs.Shape.{Shape, exactly, nothing, may-be, least, shape-of}
+use Rattle.rows.specs.Shape.{Shape, exactly, is-left-hand-side, is-unary, is-binary, is-logical, is-assignment, is-expression, is-body, is-binding, is-parameter, is-simple-target, is-target, only, nothing, may-be, may-end, fits, least, shape-of}
 use Rattle.trees.proofs.Masks.{has-mask, numbers, at-place}
-use Rattle.trees.proofs.Beyond.{beyond}
+use Rattle.rows.proofs.Tests.{and-left, and-right}
+
+-- a kind over 50 has no kids
+pub beyond : (kind : ℕ) → 51 ≤ kind → shape-of kind ≡ exactly []
+unfolding shape-of
+beyond kind h =
+    rw (no 4 refl, no 5 refl, no 6 refl, no 7 refl, no 8 refl, no 10 refl, no 15 refl, no 11 refl, no 12 refl, no 13 refl, no 16 refl, no 46 refl, no 17 refl, no 47 refl, no 18 refl, no 19 refl, no 20 refl, no 21 refl, no 22 refl, no 23 refl, no 24 refl, no 25 refl, no 26 refl, no 27 refl, no 28 refl, no 29 refl, no 31 refl, no 32 refl, no 33 refl, no 34 refl, no 35 refl, no 36 refl, no 41 refl, no 42 refl, no 43 refl, no 44 refl, no 45 refl, no 48 refl, no 49 refl, no 50 refl)
+  where
+    no : (k : ℕ) → leb k 50 ≡ true → eqb kind k ≡ false
+    no k e = ne-eqb kind k (omega (arith, leb-true k 50 e))
 
 -- what a test says of each number below n, if it says so of all of them together
 pub all-below : (f : ℕ → Bool) (n : ℕ) → map f (numbers n 0) ≡ map (λ (k : ℕ). true) (numbers n 0) → (k : ℕ) → k < n → f k ≡ true
@@ -119,3 +129,82 @@ module _ {s : Shape} {f e m before after kid : ℕ} (x : Cell s 0 f) (h : f ≤ 
   pub closing : {c : ℕ} → has m kid ≡ false → after ≡ e → Cell s 5 c → has c kid ≡ may-be s before after kid
   unfolding cells
   closing {c} t n w = ap (λ (i : ℕ). has i kid) (w .is) ∙ has-mask (s .closing) kid k ∙ sym (between-them kid x h y g ∙ rw (sym many-has, t, eq-eqb after e n))
+
+-- no set of these has the kind; no set of a shape has it
+abbrev none-of : ℕ → List (ℕ → Bool) → Bool
+none-of kid [] = true
+none-of kid (kinds ∷ sets) = not (kinds kid) and none-of kid sets
+
+abbrev none-in : ℕ → Shape → Bool
+none-in kid s = none-of kid (s .front) and none-of kid (s .ending) and none-of kid (s .many ∷ s .closing ∷ [])
+
+-- the sets that have a name
+abbrev named : List (ℕ → Bool)
+named = is-left-hand-side ∷ is-unary ∷ is-binary ∷ is-logical ∷ is-assignment ∷ is-expression ∷ is-body ∷ is-binding ∷ is-parameter ∷ is-simple-target ∷ is-target ∷ []
+
+none-at : (kid : ℕ) (sets : List (ℕ → Bool)) → none-of kid sets ≡ true → (n : ℕ) → getD sets n nothing kid ≡ false
+unfolding nothing
+none-at kid [] h n = refl
+none-at kid (kinds ∷ sets) h zero = not-true (kinds kid) (and-left _ _ h)
+none-at kid (kinds ∷ sets) h (suc n) = none-at kid sets (and-right (not (kinds kid)) _ h) n
+
+and-none : (a : Bool) → (a and false) ≡ false
+and-none true = refl
+and-none false = refl
+
+if-none : (a : Bool) {b c : Bool} → b ≡ false → c ≡ false → (if a then b else c) ≡ false
+if-none true p q = p
+if-none false p q = q
+
+module _ {kid : ℕ} (h : 64 ≤ kid) where
+  other : (k : ℕ) → leb k 63 ≡ true → eqb kid k ≡ false
+  other k e = ne-eqb kid k (omega (arith, leb-true k 63 e))
+
+  past : (a b : ℕ) → leb b 63 ≡ true → between a b kid ≡ false
+  past a b e = rw (lt-leb kid b (omega (arith, leb-true b 63 e))) (and-none (leb a kid))
+
+  -- it is in no set that has a name, and in none of the table's
+  no-set : none-of kid named ≡ true
+  unfolding is-left-hand-side is-unary is-binary is-logical is-assignment is-expression is-body is-binding is-parameter is-simple-target is-target
+  no-set =
+      rw (past 1 8 refl, past 16 18 refl, past 19 21 refl, other 22 refl, other 23 refl, past 24 26 refl, past 28 29 refl, other 27 refl, past 7 8 refl)
+      (rw (past 30 32 refl, other 34 refl, past 40 41 refl, past 46 47 refl, past 42 43 refl))
+
+  set : (n : ℕ) → getD named n nothing kid ≡ false
+  set n = none-at kid named no-set n
+
+  none : (kind : ℕ) → none-in kid (shape-of kind) ≡ true
+  unfolding numbers only nothing shape-of
+  none kind =
+      all-shapes (none-in kid)
+      (rw (set 0, set 1, set 2, set 3, set 4, set 5, set 6, set 7, set 8, set 9, set 10)
+      (rw (other 1 refl, other 9 refl, other 10 refl, other 11 refl, other 12 refl, other 13 refl, other 14 refl, other 15 refl)
+      (rw (other 30 refl, other 33 refl, other 35 refl, other 36 refl, other 40 refl, other 44 refl, other 45 refl, other 48 refl, other 49 refl, other 50 refl))))
+      refl kind
+
+  none-front : (kind n : ℕ) → getD (shape-of kind .front) n nothing kid ≡ false
+  none-front kind n = none-at kid (shape-of kind .front) (and-left _ _ (none kind)) n
+
+  none-after : (kind : ℕ) → (none-of kid (shape-of kind .ending) and none-of kid (shape-of kind .many ∷ shape-of kind .closing ∷ [])) ≡ true
+  none-after kind = and-right (none-of kid (shape-of kind .front)) _ (none kind)
+
+  none-many : (kind n : ℕ) → getD (shape-of kind .many ∷ shape-of kind .closing ∷ []) n nothing kid ≡ false
+  none-many kind n = none-at kid (shape-of kind .many ∷ shape-of kind .closing ∷ []) (and-right (none-of kid (shape-of kind .ending)) _ (none-after kind)) n
+
+  -- so it does not fit anywhere
+  nowhere : (kind before after : ℕ) → may-be (shape-of kind) before after kid ≡ false
+  unfolding may-be
+  nowhere kind before after =
+      let s = shape-of kind in
+      if-none (ltb before (length (s .front))) (none-front kind before)
+      (if-none (ltb after (length (s .ending))) (none-at kid (s .ending) (and-left _ _ (none-after kind)) after)
+      (rw (none-many kind 0, none-many kind 1) (and-none (after is length (s .ending)))))
+
+  pub no-kid : (kind before after last : ℕ) → false ≡ fits kind before after kid last
+  unfolding fits
+  no-kid kind before after last = rw (nowhere kind before after)
+
+  -- nor is it the last kid of a Property: it is no parameter and no AssignmentExpression
+  pub no-end : (kind : ℕ) → false ≡ may-end kind row.Property kid
+  unfolding may-end shape-of
+  no-end kind = sym (if-none (kind is row.BindingObject) (none-many row.Arrow 0) (none-front row.Spread 0))

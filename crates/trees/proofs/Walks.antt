@@ -13,8 +13,8 @@ use Rattle.tokens.specs.Bool.{_and_}
 use Rattle.rows.specs.Tree.{Tree, Forest, node, nil, cons, one, join, count, size, sizes, row, kind-of, kids-of}
 use Rattle.rows.specs.Shape.{well-formed, all-well-formed, is-shaped, is-listed, all-fit, fits, last-kind, least, shape-of}
 use Rattle.rows.specs.Part.{Part, Rooted}
-use Rattle.rows.specs.Part.{Decides, Stands, KidsStand, LastKind, KidFits}
-use Rattle.rows.proofs.Rows.{sizes-join, count-join, join-nil, join-assoc}
+use Rattle.rows.specs.Stands.{Decides, Stands, KidsStand, LastKind, KidFits}
+use Rattle.rows.proofs.Rows.{sizes-join, count-join, join-nil, join-assoc, Next, next}
 use Rattle.rows.proofs.Flat.{some-row}
 use Rattle.rows.proofs.Parts.{part-none, part-join, part-left, part-right, part-kids, part-node, row-of-words}
 use Rattle.rows.proofs.Subtrees.{part-at, rooted, rooted-once, root-kind, root-kids, root-size}
@@ -32,24 +32,6 @@ some-rows (cons t ts) = omega (arith, some-row t, some-rows ts)
 count-cons : (t : Tree) (ts : Forest) → count (cons t ts) ≡ count ts + 1
 unfolding count
 count-cons t ts = refl
-
--- a forest that is not empty has a last tree
-record Ended (ts : Forest) : Type 0 where
-  front : Forest
-  last : Tree
-  is : ts ≡ join front (one last)
-
-ended : (t : Tree) (ts : Forest) → Ended (cons t ts)
-unfolding join
-ended t nil = record { front = nil; last = t; is = refl }
-ended t (cons u us) =
-    let e : Ended (cons u us) = ended u us in
-    record { front = cons t (e .front); last = e .last; is = ap (cons t) (e .is) }
-
-some-ended : (ts : Forest) → 0 < count ts → Ended ts
-unfolding count
-some-ended nil h = absurd (omega arith)
-some-ended (cons t ts) h = ended t ts
 
 last-kind-join : (k : ℕ) (ts : Forest) (u : Tree) → last-kind k (join ts (one u)) ≡ kind-of u
 unfolding last-kind join
@@ -97,13 +79,13 @@ has-row-before {w} {n} e s =
     omega (arith, c, e, some-rows (kids-of t), root-sizes t, root-small (s .root))
 
 pub last-before : {w : List ℕ} {n x : ℕ} → (getD w (6 * n + 4) 0 ≡ 0 → ⊥) → 0 < n → x ≡ getD w (6 * (n - 1) + 0) 0 → LastKind w n x
-last-before {w} {n} {x} e pos d = record { is = λ t h. go t h (some-ended (kids-of t) (omega (arith, root-kids t h, e))) }
+last-before {w} {n} {x} e pos d = record { is = λ t h. go t h (next (kids-of t) (omega (arith, root-kids t h, e))) }
   where
-    go : (t : Tree) → Rooted w n t → Ended (kids-of t) → x ≡ last-kind 0 (kids-of t)
+    go : (t : Tree) → Rooted w n t → Next (kids-of t) → x ≡ last-kind 0 (kids-of t)
     go t h f =
-        let p : Part w (n + 1 - size t) n (join (f .front) (one (f .last))) = subst (λ (ts : Forest). Part w (n + 1 - size t) n ts) (f .is) (root-part t h) in
-        let r : Rooted w (n - 1) (f .last) = last-rooted (f .front) (f .last) (part-at refl (let q : n ≡ n - 1 + 1 = omega arith in q) p) in
-        d ∙ root-kind (f .last) r ∙ sym (last-kind-join 0 (f .front) (f .last)) ∙ ap (last-kind 0) (sym (f .is))
+        let p : Part w (n + 1 - size t) n (join (f .rest) (one (f .kid))) = subst (λ (ts : Forest). Part w (n + 1 - size t) n ts) (f .is) (root-part t h) in
+        let r : Rooted w (n - 1) (f .kid) = last-rooted (f .rest) (f .kid) (part-at refl (let q : n ≡ n - 1 + 1 = omega arith in q) p) in
+        d ∙ root-kind (f .kid) r ∙ sym (last-kind-join 0 (f .rest) (f .kid)) ∙ ap (last-kind 0) (sym (f .is))
 
 -- what the walk over the kids knows: the last kids, and that any forest that may stand there ends in so many trees from here on
 pub record Rest (w : List ℕ) (low top after : ℕ) (ts : Forest) : Type 0 where
@@ -140,7 +122,7 @@ walk-none {w} {kind} {kids} {low} {row} l room =
     }
 
 -- the next kid, where there is one, is the tree that the row just below roots
-record Next (w : List ℕ) (low top after : ℕ) (ts : Forest) (t : Tree) : Type 0 where
+record Found (w : List ℕ) (low top after : ℕ) (ts : Forest) (t : Tree) : Type 0 where
   front : Forest
   back : Forest
   is : ts ≡ join front (cons t back)
@@ -151,25 +133,25 @@ record Next (w : List ℕ) (low top after : ℕ) (ts : Forest) (t : Tree) : Type
 front-rows : {w : List ℕ} {low top after : ℕ} {ts : Forest} (r : Rest w low top after ts) → after < count ts → 0 < count (r .front)
 front-rows {w} {low} {top} {after} {ts} r l = omega (arith, ap count (r .is), count-join (r .front) (r .back), r .number)
 
-next-kid : {w : List ℕ} {low top after : ℕ} {ts : Forest} {t : Tree} → Rest w low top after ts → after < count ts → Rooted w (top - 1) t → Next w low top after ts t
+next-kid : {w : List ℕ} {low top after : ℕ} {ts : Forest} {t : Tree} → Rest w low top after ts → after < count ts → Rooted w (top - 1) t → Found w low top after ts t
 unfolding sizes join
-next-kid {w} {low} {top} {after} {ts} {t} r l h = go (some-ended (r .front) (front-rows r l))
+next-kid {w} {low} {top} {after} {ts} {t} r l h = go (next (r .front) (front-rows r l))
   where
-    go : Ended (r .front) → Next w low top after ts t
+    go : Next (r .front) → Found w low top after ts t
     go e =
-        let p : Part w low top (join (e .front) (one (e .last))) = subst (λ (us : Forest). Part w low top us) (e .is) (r .part) in
-        let n : sizes (join (e .front) (one (e .last))) ≡ sizes (e .front) + (size (e .last) + 0) = sizes-join (e .front) (one (e .last)) in
-        let pos : 0 < size (e .last) = some-row (e .last) in
+        let p : Part w low top (join (e .rest) (one (e .kid))) = subst (λ (us : Forest). Part w low top us) (e .is) (r .part) in
+        let n : sizes (join (e .rest) (one (e .kid))) ≡ sizes (e .rest) + (size (e .kid) + 0) = sizes-join (e .rest) (one (e .kid)) in
+        let pos : 0 < size (e .kid) = some-row (e .kid) in
         let u : top ≡ top - 1 + 1 = omega (arith, p .used) in
-        let same : e .last ≡ t = rooted-once (last-rooted (e .front) (e .last) (part-at refl u p)) h in
-        let sz : size (e .last) ≡ size t = ap size same in
+        let same : e .kid ≡ t = rooted-once (last-rooted (e .rest) (e .kid) (part-at refl u p)) h in
+        let sz : size (e .kid) ≡ size t = ap size same in
         record {
-          front = e .front;
+          front = e .rest;
           back = r .back;
-          is = r .is ∙ ap (λ (us : Forest). join us (r .back)) (e .is) ∙ join-assoc (e .front) (one (e .last)) (r .back) ∙ ap (λ (v : Tree). join (e .front) (cons v (r .back))) same;
+          is = r .is ∙ ap (λ (us : Forest). join us (r .back)) (e .is) ∙ join-assoc (e .rest) (one (e .kid)) (r .back) ∙ ap (λ (v : Tree). join (e .rest) (cons v (r .back))) same;
           number = r .number;
           small = omega (arith, p .used);
-          part = part-left (e .front) (one (e .last)) p (omega (arith, p .used));
+          part = part-left (e .rest) (one (e .kid)) p (omega (arith, p .used));
         }
 
 -- one kid more
@@ -177,7 +159,7 @@ module _ {w : List ℕ} {kind kids low row top after s : ℕ} (v : Walked w kind
   rest-more : (ts : Forest) → Part w low row ts → count ts ≡ kids → Rest w low (top - s) (after + 1) ts
   unfolding count
   rest-more ts p c =
-      let n : Next w low top after ts (z .tree) = next-kid (v .rest ts p c) (rw c l) (z .root) in
+      let n : Found w low top after ts (z .tree) = next-kid (v .rest ts p c) (rw c l) (z .root) in
       record {
         front = n .front;
         back = cons (z .tree) (n .back);
@@ -214,12 +196,12 @@ module _ {w : List ℕ} {kind kids low row top after s : ℕ} (v : Walked w kind
   -- a kid that reaches too low, or may not stand there
   pub too-large : top - low < s → KidsStand w kind kids low row → ⊥
   too-large d k =
-      let n : Next w low top after (k .trees) (z .tree) = next-kid (v .rest (k .trees) (k .part) (k .number)) (rw (k .number) l) (z .root) in
+      let n : Found w low top after (k .trees) (z .tree) = next-kid (v .rest (k .trees) (k .part) (k .number)) (rw (k .number) l) (z .root) in
       omega (arith, n .small)
 
   pub misplaced : fits kind (kids - 1 - after) after (kind-of (z .tree)) (last-kind 0 (kids-of (z .tree))) ≡ false → KidsStand w kind kids low row → ⊥
   misplaced f k =
-      let n : Next w low top after (k .trees) (z .tree) = next-kid (v .rest (k .trees) (k .part) (k .number)) (rw (k .number) l) (z .root) in
+      let n : Found w low top after (k .trees) (z .tree) = next-kid (v .rest (k .trees) (k .part) (k .number)) (rw (k .number) l) (z .root) in
       let g : all-fit kind 0 (join (n .front) (cons (z .tree) (n .back))) ≡ true = subst (λ (ts : Forest). all-fit kind 0 ts ≡ true) (n .is) (k .fit) in
       let c : count (k .trees) ≡ count (n .front) + count (cons (z .tree) (n .back)) = ap count (n .is) ∙ count-join (n .front) (cons (z .tree) (n .back)) in
       let a : 0 + count (n .front) ≡ kids - 1 - after = omega (arith, c, count-cons (z .tree) (n .back), n .number, k .number) in

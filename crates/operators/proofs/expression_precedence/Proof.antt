@@ -46,27 +46,12 @@ above : (k : ℕ) → 63 ≤ k → k < 256 → 0 ≡ expression-level k
 unfolding expression-level level
 above k low high = in-range (λ i. 0) 63 (replicate 193 0) tt k low (omega arith)
 
-returns : tie.Need-returns
-returns c = below (c .before .args .k) (search needs)
-
-level-at-requires : tie.Need-level-at-requires
-level-at-requires c κs = search needs
-
-returns-2 : tie.Need-returns-2
-returns-2 c = c .level-at .ensures ∙ looser (c .before .before .before .args .k) (search needs) (search needs)
-
-sub-level-at : tie.Need-sub-level-at
-sub-level-at c = search needs
-
-level-at-requires-2 : tie.Need-level-at-requires-2
-level-at-requires-2 c κs = search needs
-
-returns-3 : tie.Need-returns-3
-returns-3 c = c .level-at2 .ensures ∙ tighter (c .before .before .before .before .args .k) (search needs) (search needs)
-
-returns-4 : tie.Need-returns-4
-returns-4 c = above (c .before .before .before .args .k) (search needs) (search needs)
-
 pub expression-precedence-spec : {M : Type 1} → statement M
 expression-precedence-spec =
-    tie.close (tie.spec returns level-at-requires returns-2 sub-level-at level-at-requires-2 returns-3 returns-4)
+    tie.close (tie.spec
+    (λ c. below (c .before .args .k) (search needs))
+    (λ c κs. search needs)
+    (λ c. c .level-at .ensures ∙ looser (c .before .before .before .args .k) (search needs) (search needs))
+    (λ c. search needs) (λ c κs. search needs)
+    (λ c. c .level-at2 .ensures ∙ tighter (c .before .before .before .before .args .k) (search needs) (search needs))
+    (λ c. above (c .before .before .before .args .k) (search needs) (search needs)))

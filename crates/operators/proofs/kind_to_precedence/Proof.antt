@@ -23,12 +23,6 @@ table =
 abbrev right : ℕ → ℕ → Bool
 right k x = eqb x (level k)
 
-wide-requires : tie.Need-wide-requires
-wide-requires c κs = search needs
-
-array-read-result : tie.Need-array-read-result
-array-read-result c = search needs
-
 returns : tie.Need-returns
 unfolding level
 returns c =
@@ -37,4 +31,4 @@ returns c =
     eqb→eq (getD table k 0) (level k) (entry right table tt k short) ∙ ap level (c .wide .ensures)
 
 pub kind-to-precedence-spec : {M : Type 1} → statement M
-kind-to-precedence-spec = tie.close (tie.spec wide-requires array-read-result returns)
+kind-to-precedence-spec = tie.close (tie.spec (λ c κs. search needs) (λ c. search needs) returns)

@@ -4,11 +4,5 @@ use borrow.Author.Tests.{ne-eqb}
 use Rattle.roles.proofs.is_initialized.Statement.{statement}
 use Rattle.roles.proofs.is_initialized.Tie as tie
 
-returns : tie.Need-returns
-returns c = rw (c .if1 .taken)
-
-returns-2 : tie.Need-returns-2
-returns-2 c = rw (ne-eqb _ _ (c .if1 .left))
-
 pub is-initialized-spec : {M : Type 1} → statement M
-is-initialized-spec = tie.close (tie.spec returns returns-2)
+is-initialized-spec = tie.close (tie.spec (λ c. rw (c .if1 .taken)) (λ c. rw (ne-eqb _ _ (c .if1 .left))))

@@ -4,18 +4,8 @@ use borrow.Author.Tests.{ne-eqb}
 use Rattle.roles.proofs.is_reference.Statement.{statement}
 use Rattle.roles.proofs.is_reference.Tie as tie
 
-returns : tie.Need-returns
-returns c = rw (c .match .keys1)
-
-returns-2 : tie.Need-returns-2
-returns-2 c = rw (c .match .keys2)
-
-returns-3 : tie.Need-returns-3
-returns-3 c = rw (c .match .keys3)
-
-returns-4 : tie.Need-returns-4
-returns-4 c =
-    rw (ne-eqb _ _ (c .match .rest .0 .0 .1), ne-eqb _ _ (c .match .rest .0 .1), ne-eqb _ _ (c .match .rest .1))
-
 pub is-reference-spec : {M : Type 1} → statement M
-is-reference-spec = tie.close (tie.spec returns returns-2 returns-3 returns-4)
+is-reference-spec =
+    tie.close (tie.spec
+    (λ c. rw (c .match .keys1)) (λ c. rw (c .match .keys2)) (λ c. rw (c .match .keys3))
+    (λ c. rw (ne-eqb _ _ (c .match .rest .0 .0 .1), ne-eqb _ _ (c .match .rest .0 .1), ne-eqb _ _ (c .match .rest .1))))

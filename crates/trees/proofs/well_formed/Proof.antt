@@ -17,44 +17,6 @@ Inv-loop words long rows n₀ n = (n ≤ rows) × ((m : ℕ) → m < n → Stand
 abbrev μ-loop : tie.MeasureT-loop
 μ-loop words long rows n₀ n = rows - n
 
-returns : tie.Need-returns Inv-loop μ-loop
-returns c = never (no-words (c .if1 .taken))
-
-returns-2 : tie.Need-returns-2 Inv-loop μ-loop
-returns-2 c = never (too-many (c .if2 .taken))
-
-returns-3 : tie.Need-returns-3 Inv-loop μ-loop
-returns-3 c = never (no-multiple (c .if3 .taken))
-
-loop-holds : tie.Need-loop-holds Inv-loop μ-loop
-loop-holds c = (search needs, λ m l. absurd (omega arith))
-
-row-stands-requires : tie.Need-row-stands-requires Inv-loop μ-loop
-row-stands-requires c κs = search needs
-
-returns-4 : tie.Need-returns-4 Inv-loop μ-loop
-returns-4 c = never (falls (c .before .before .loop-test .taken) (c .before .row-stands .ensures .fails (not-true _ (c .if4 .taken))))
-
-add-n : tie.Need-add-n Inv-loop μ-loop
-add-n c = search needs
-
-loop-less : tie.Need-loop-less Inv-loop μ-loop
-loop-less c = search needs
-
-loop-again : tie.Need-loop-again Inv-loop μ-loop
-loop-again c =
-    let loop = c .before .before .before .loop in
-    (search needs, below-more _ _ (loop .inv .1) (c .before .row-stands .ensures .holds (not-false _ (c .if4 .left))))
-
-sub-row-word : tie.Need-sub-row-word Inv-loop μ-loop
-sub-row-word c = search needs
-
-row-word-requires : tie.Need-row-word-requires Inv-loop μ-loop
-row-word-requires c κs = search needs
-
-cast-result : tie.Need-cast-result Inv-loop μ-loop
-cast-result c = search needs
-
 returns-5 : tie.Need-returns-5 Inv-loop μ-loop
 returns-5 c =
     let if1 = c .before .before .before .before .before .if1 in
@@ -63,4 +25,15 @@ returns-5 c =
     last-says (if1 .left) (if2 .left) (if3 .left) (c .row-word .ensures .is) (λ m l. c .before .before .loop .inv .1 m (omega (arith, c .before .loop-test .left)))
 
 pub well-formed-spec : {M : Type 1} → statement M
-well-formed-spec = tie.close (tie.spec Inv-loop μ-loop returns returns-2 returns-3 loop-holds row-stands-requires returns-4 add-n loop-less loop-again sub-row-word row-word-requires cast-result returns-5)
+well-formed-spec =
+    tie.close (tie.spec
+    Inv-loop μ-loop
+    (λ c. never (no-words (c .if1 .taken)))
+    (λ c. never (too-many (c .if2 .taken)))
+    (λ c. never (no-multiple (c .if3 .taken)))
+    (λ c. (search needs, λ m l. absurd (omega arith)))
+    (λ c κs. search needs)
+    (λ c. never (falls (c .before .before .loop-test .taken) (c .before .row-stands .ensures .fails (not-true _ (c .if4 .taken)))))
+    (λ c. search needs) (λ c. search needs)
+    (λ c. (search needs, below-more _ _ (c .before .before .before .loop .inv .1) (c .before .row-stands .ensures .holds (not-false _ (c .if4 .left)))))
+    (λ c. search needs) (λ c κs. search needs) (λ c. search needs) returns-5)

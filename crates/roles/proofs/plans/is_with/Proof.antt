@@ -4,11 +4,8 @@ use borrow.Author.Tests.{eq-eqb, ne-eqb}
 use Rattle.roles.proofs.plans.is_with.Statement.{statement}
 use Rattle.roles.proofs.plans.is_with.Tie as tie
 
-returns : tie.Need-returns
-returns c = rw (eq-eqb _ _ (c .before .if1 .taken))
-
-returns-2 : tie.Need-returns-2
-returns-2 c = rw (ne-eqb _ _ (c .if1 .left))
-
 pub is-with-spec : {M : Type 1} → statement M
-is-with-spec = tie.close (tie.spec returns returns-2)
+is-with-spec =
+    tie.close (tie.spec
+    (λ c. rw (eq-eqb _ _ (c .before .if1 .taken)))
+    (λ c. rw (ne-eqb _ _ (c .if1 .left))))

@@ -5,21 +5,6 @@ use borrow.Author.Needs.{needs}
 use Rattle.trees.proofs.shape.front.Statement.{statement}
 use Rattle.trees.proofs.shape.front.Tie as tie
 
-third-requires : tie.Need-third-requires
-third-requires c κs = search needs
-
-returns : tie.Need-returns
-returns c = front-3 (c .before .before .args .kind) (c .before .third .ensures) (c .if1 .taken)
-
-second-requires : tie.Need-second-requires
-second-requires c κs = search needs
-
-returns-2 : tie.Need-returns-2
-returns-2 c = front-2 (c .before .before .before .before .args .kind) (c .before .before .before .third .ensures) (c .before .before .if1 .left) (c .before .second .ensures) (c .if2 .taken)
-
-first-requires : tie.Need-first-requires
-first-requires c κs = search needs
-
 returns-3 : tie.Need-returns-3
 returns-3 c =
     front-1 (c .before .before .before .before .before .before .args .kind) (c .before .before .before .before .before .third .ensures) (c .before .before .before .before .if1 .left) (c .before .before .before .second .ensures) (c .before .before .if2 .left) (c .before .first .ensures) (c .if3 .taken)
@@ -29,4 +14,10 @@ returns-4 c =
     front-0 (c .before .before .before .before .before .before .args .kind) (c .before .before .before .before .before .third .ensures) (c .before .before .before .before .if1 .left) (c .before .before .before .second .ensures) (c .before .before .if2 .left) (c .before .first .ensures) (c .if3 .left)
 
 pub front-spec : {M : Type 1} → statement M
-front-spec = tie.close (tie.spec third-requires returns second-requires returns-2 first-requires returns-3 returns-4)
+front-spec =
+    tie.close (tie.spec
+    (λ c κs. search needs)
+    (λ c. front-3 (c .before .before .args .kind) (c .before .third .ensures) (c .if1 .taken))
+    (λ c κs. search needs)
+    (λ c. front-2 (c .before .before .before .before .args .kind) (c .before .before .before .third .ensures) (c .before .before .if1 .left) (c .before .second .ensures) (c .if2 .taken))
+    (λ c κs. search needs) returns-3 returns-4)

@@ -15,21 +15,11 @@ and-true : (b : Bool) → b ≡ (b and true)
 and-true true = refl
 and-true false = refl
 
-returns : tie.Need-returns
-unfolding is-listed
-returns c = let k : ℕ = c .before .args .kind in rw (le-leb 1 k (omega arith), lt-leb k 36 (omega arith), le-leb 40 k (omega arith), lt-leb k 50 (omega arith))
-
-returns-2 : tie.Need-returns-2
-unfolding is-listed
-returns-2 c = rw (c .if2 .taken)
-
-returns-3 : tie.Need-returns-3
-unfolding is-listed
-returns-3 c = let k : ℕ = c .before .before .before .args .kind in rw (le-leb 1 k (omega arith), le-leb k 36 (omega arith))
-
-returns-4 : tie.Need-returns-4
-unfolding is-listed
-returns-4 c = let k : ℕ = c .before .before .before .args .kind in rw (le-leb 1 k (omega arith), lt-leb k 36 (omega arith), le-leb k 50 (omega arith)) (and-true (leb 40 k))
-
 pub is-listed-spec : {M : Type 1} → statement M
-is-listed-spec = tie.close (tie.spec returns returns-2 returns-3 returns-4)
+unfolding is-listed
+is-listed-spec =
+    tie.close (tie.spec
+    (λ c. let k : ℕ = c .before .args .kind in rw (le-leb 1 k (omega arith), lt-leb k 36 (omega arith), le-leb 40 k (omega arith), lt-leb k 50 (omega arith)))
+    (λ c. rw (c .if2 .taken))
+    (λ c. let k : ℕ = c .before .before .before .args .kind in rw (le-leb 1 k (omega arith), le-leb k 36 (omega arith)))
+    (λ c. let k : ℕ = c .before .before .before .args .kind in rw (le-leb 1 k (omega arith), lt-leb k 36 (omega arith), le-leb k 50 (omega arith)) (and-true (leb 40 k))))

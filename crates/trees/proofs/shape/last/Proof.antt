@@ -1,8 +1,7 @@
 -- `shapes::last` meets its contract: each arm has the number that the definition gives, and each other kind has none.
 -- Assumes nothing.
-use Prim.Native.Nat.{ℕ}
 use mathlib.Core.Path.{refl}
-use mathlib.Core.List.{List, [], _∷_}
+use mathlib.Core.List.{[], _∷_}
 use Rattle.rows.specs.Mask.{bits, mask, cells}
 use Rattle.rows.specs.Shape.{is-left-hand-side, is-unary, is-binary, is-logical, is-assignment, is-expression, is-body, is-binding, is-parameter, is-simple-target, is-target, only, nothing, shape-of}
 use Rattle.trees.proofs.Masks.{numbers}
@@ -10,16 +9,10 @@ use Rattle.trees.proofs.Columns.{at-key, at-rest}
 use Rattle.trees.proofs.shape.last.Statement.{statement}
 use Rattle.trees.proofs.shape.last.Tie as tie
 
--- the kinds that have a number there
-abbrev kinds : List ℕ
-kinds = 6 ∷ 8 ∷ 28 ∷ 29 ∷ []
-
 pub last-spec : {M : Type 1} → statement M
 unfolding numbers bits mask cells is-left-hand-side is-unary is-binary is-logical is-assignment is-expression is-body is-binding is-parameter is-simple-target is-target only nothing shape-of
 last-spec =
     tie.close (tie.spec
-    (λ c. at-key (c .match .keys1) refl)
-    (λ c. at-key (c .match .keys2) refl)
-    (λ c. at-key (c .match .keys3) refl)
+    (λ c. at-key (c .match .keys1) refl) (λ c. at-key (c .match .keys2) refl) (λ c. at-key (c .match .keys3) refl)
     (λ c. at-key (c .match .keys4) refl)
-    (λ c. at-rest 7 kinds (c .before .args .kind) refl refl (c .match .rest)))
+    (λ c. at-rest 7 (6 ∷ 8 ∷ 28 ∷ 29 ∷ []) (c .before .args .kind) refl refl (c .match .rest)))

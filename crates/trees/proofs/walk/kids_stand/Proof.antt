@@ -14,46 +14,16 @@ Inv-loop words row kind kids low top₀ after₀ top after = Walked words kind k
 abbrev μ-loop : tie.MeasureT-loop
 μ-loop words row kind kids low top₀ after₀ top after = kids - after
 
-loop-holds : tie.Need-loop-holds Inv-loop μ-loop
-loop-holds c = walk-none (c .before .pre .1) (omega (arith, c .before .pre .0 .inside))
-
-returns : tie.Need-returns Inv-loop μ-loop
-returns c = never (none-left (c .before .before .loop .inv) (c .before .loop-test .taken) (c .if1 .taken))
-
-sub-row-word : tie.Need-sub-row-word Inv-loop μ-loop
-sub-row-word c = search needs
-
-row-word-requires : tie.Need-row-word-requires Inv-loop μ-loop
-row-word-requires c κs = search needs
-
-cast-size : tie.Need-cast-size Inv-loop μ-loop
-cast-size c = search needs
-
-sub-if2 : tie.Need-sub-if2 Inv-loop μ-loop
-sub-if2 c = search needs
-
 returns-2 : tie.Need-returns-2 Inv-loop μ-loop
 returns-2 c =
-    let pre = c .before .before .before .before .before .before .pre in
     let loop = c .before .before .before .before .loop in
-    let loop-test = c .before .before .before .loop-test in
-    let stand = (pre .0 .stand (loop .top - 1) (omega (arith, c .before .before .if1 .left, loop .inv .top-row))) in
-    never (too-large (loop .inv) (loop-test .taken) stand (kid-size (c .before .row-word .ensures .is) stand) (c .if2 .taken))
-
-sub-kid-fits : tie.Need-sub-kid-fits Inv-loop μ-loop
-sub-kid-fits c = search needs
-
-sub-kid-fits-2 : tie.Need-sub-kid-fits-2 Inv-loop μ-loop
-sub-kid-fits-2 c = search needs
-
-sub-kid-fits-3 : tie.Need-sub-kid-fits-3 Inv-loop μ-loop
-sub-kid-fits-3 c = search needs
+    let stand = (c .before .before .before .before .before .before .pre .0 .stand (loop .top - 1) (omega (arith, c .before .before .if1 .left, loop .inv .top-row))) in
+    never (too-large (loop .inv) (c .before .before .before .loop-test .taken) stand (kid-size (c .before .row-word .ensures .is) stand) (c .if2 .taken))
 
 kid-fits-requires : tie.Need-kid-fits-requires Inv-loop μ-loop
 kid-fits-requires c κs =
-    let pre = c .before .before .before .before .before .before .pre in
     let loop = c .before .before .before .before .loop in
-    pre .0 .stand (loop .top - 1) (omega (arith, c .before .before .if1 .left, loop .inv .top-row))
+    c .before .before .before .before .before .before .pre .0 .stand (loop .top - 1) (omega (arith, c .before .before .if1 .left, loop .inv .top-row))
 
 returns-3 : tie.Need-returns-3 Inv-loop μ-loop
 returns-3 c =
@@ -65,15 +35,6 @@ returns-3 c =
     let stand = (pre .0 .stand (loop .top - 1) (omega (arith, if1 .left, loop .inv .top-row))) in
     never (misplaced (loop .inv) (loop-test .taken) stand (kid-size (row-word .ensures .is) stand) (told (c .before .kid-fits .ensures) (not-true _ (c .if3 .taken)) stand))
 
-sub-top : tie.Need-sub-top Inv-loop μ-loop
-sub-top c = omega (arith, c .before .before .if2 .left)
-
-add-after : tie.Need-add-after Inv-loop μ-loop
-add-after c = search needs
-
-loop-less : tie.Need-loop-less Inv-loop μ-loop
-loop-less c = search needs
-
 loop-again : tie.Need-loop-again Inv-loop μ-loop
 loop-again c =
     let pre = c .before .before .before .before .before .before .before .before .pre in
@@ -84,8 +45,14 @@ loop-again c =
     let stand = (pre .0 .stand (loop .top - 1) (omega (arith, if1 .left, loop .inv .top-row))) in
     walk-more (loop .inv) (loop-test .taken) stand (kid-size (row-word .ensures .is) stand) (if1 .left) (c .before .before .if2 .left) (told (c .before .kid-fits .ensures) (not-false _ (c .if3 .left)) stand)
 
-returns-4 : tie.Need-returns-4 Inv-loop μ-loop
-returns-4 c = walk-end (c .before .loop .inv) (c .loop-test .left)
-
 pub kids-stand-spec : {M : Type 1} → statement M
-kids-stand-spec = tie.close (tie.spec Inv-loop μ-loop loop-holds returns sub-row-word row-word-requires cast-size sub-if2 returns-2 sub-kid-fits sub-kid-fits-2 sub-kid-fits-3 kid-fits-requires returns-3 sub-top add-after loop-less loop-again returns-4)
+kids-stand-spec =
+    tie.close (tie.spec
+    Inv-loop μ-loop
+    (λ c. walk-none (c .before .pre .1) (omega (arith, c .before .pre .0 .inside)))
+    (λ c. never (none-left (c .before .before .loop .inv) (c .before .loop-test .taken) (c .if1 .taken)))
+    (λ c. search needs) (λ c κs. search needs) (λ c. search needs) (λ c. search needs) returns-2
+    (λ c. search needs) (λ c. search needs) (λ c. search needs) kid-fits-requires returns-3
+    (λ c. omega (arith, c .before .before .if2 .left))
+    (λ c. search needs) (λ c. search needs) loop-again
+    (λ c. walk-end (c .before .loop .inv) (c .loop-test .left)))

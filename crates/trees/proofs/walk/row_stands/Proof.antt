@@ -8,34 +8,10 @@ use Rattle.trees.proofs.Walks.{unlisted, too-few, no-size, too-long, by
 use Rattle.trees.proofs.walk.row_stands.Statement.{statement}
 use Rattle.trees.proofs.walk.row_stands.Tie as tie
 
-row-word-requires : tie.Need-row-word-requires
-row-word-requires c κs = search needs
-
-is-listed-requires : tie.Need-is-listed-requires
-is-listed-requires c κs = search needs
-
-returns : tie.Need-returns
-returns c = never (unlisted (c .before .before .row-word .ensures .is) (sym (c .before .is-listed .ensures) ∙ not-true _ (c .if1 .taken)))
-
-row-word-requires-2 : tie.Need-row-word-requires-2
-row-word-requires-2 c κs = search needs
-
-cast-kids : tie.Need-cast-kids
-cast-kids c = search needs
-
-is-enough-requires : tie.Need-is-enough-requires
-is-enough-requires c κs = search needs
-
 returns-2 : tie.Need-returns-2
 returns-2 c =
     let row-word = c .before .before .before .before .before .row-word in
     never (too-few (row-word .ensures .is) (c .before .before .row-word2 .ensures .is) (sym (c .before .is-enough .ensures) ∙ not-true _ (c .if2 .taken)))
-
-row-word-requires-3 : tie.Need-row-word-requires-3
-row-word-requires-3 c κs = search needs
-
-cast-size : tie.Need-cast-size
-cast-size c = search needs
 
 returns-3 : tie.Need-returns-3
 returns-3 c =
@@ -43,25 +19,11 @@ returns-3 c =
     let row-word2 = c .before .before .before .before .row-word2 in
     never (no-size (row-word .ensures .is) (row-word2 .ensures .is) (c .before .row-word3 .ensures .is) (c .if3 .taken))
 
-add-if4 : tie.Need-add-if4
-add-if4 c = search needs
-
 returns-4 : tie.Need-returns-4
 returns-4 c =
     let row-word = c .before .before .before .before .before .before .before .before .row-word in
     let row-word2 = c .before .before .before .before .before .row-word2 in
     never (too-long (row-word .ensures .is) (row-word2 .ensures .is) (c .before .before .row-word3 .ensures .is) (c .if4 .taken))
-
-add-kids-stand : tie.Need-add-kids-stand
-add-kids-stand c = search needs
-
-sub-kids-stand : tie.Need-sub-kids-stand
-sub-kids-stand c = search needs
-
-kids-stand-requires : tie.Need-kids-stand-requires
-kids-stand-requires c κs =
-    let pre = c .before .before .before .before .before .before .before .before .before .before .pre in
-    (pre, omega (arith, c .before .if3 .left, c .if4 .left))
 
 returns-5 : tie.Need-returns-5
 returns-5 c =
@@ -74,4 +36,11 @@ returns-5 c =
     by-kids (row-word .ensures .is) (row-word2 .ensures .is) (row-word3 .ensures .is) (sym (is-enough .ensures) ∙ not-false _ (if2 .left)) (c .before .before .if3 .left) (c .before .if4 .left) (pre .inside) (c .kids-stand .ensures)
 
 pub row-stands-spec : {M : Type 1} → statement M
-row-stands-spec = tie.close (tie.spec row-word-requires is-listed-requires returns row-word-requires-2 cast-kids is-enough-requires returns-2 row-word-requires-3 cast-size returns-3 add-if4 returns-4 add-kids-stand sub-kids-stand kids-stand-requires returns-5)
+row-stands-spec =
+    tie.close (tie.spec
+    (λ c κs. search needs) (λ c κs. search needs)
+    (λ c. never (unlisted (c .before .before .row-word .ensures .is) (sym (c .before .is-listed .ensures) ∙ not-true _ (c .if1 .taken))))
+    (λ c κs. search needs) (λ c. search needs) (λ c κs. search needs) returns-2 (λ c κs. search needs)
+    (λ c. search needs) returns-3 (λ c. search needs) returns-4 (λ c. search needs) (λ c. search needs)
+    (λ c κs. ((c .before .before .before .before .before .before .before .before .before .before .pre), omega (arith, c .before .if3 .left, c .if4 .left)))
+    returns-5)
