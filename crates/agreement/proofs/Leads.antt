@@ -220,28 +220,18 @@ module _ {N N′ : Type 0} {Sim : N → N′ → Type 0} {Left : Out N′ → Ty
   no : {loose : Bool} (cause : Cause) → Leads sheet Sim Left loose Whatever (refuse cause) (refuse cause)
   no cause = lead-refuse fails cause
 
-  -- a part, and what follows
-  follow : {loose loose′ : Bool} {Q : Meaning} {r : Reading N} {r′ : Reading N′} {next : Part → Reading N} {next′ : Part → Reading N′} → Leads sheet Sim Left loose Q r r′
-      → ((part : Part) (records : List Record) → Q (part .end) (part .trees) records → Leads sheet Sim Left loose′ Whatever (next part) (next′ part))
-      → (loose ≡ true → (part : Part) → Dead sheet (part .end) → Halts sheet loose′ (next part))
-      → Leads sheet Sim Left loose′ Whatever (r >>= next) (r′ >>= next′)
-  follow a k d = lead-follow stays a k d
-
   -- a part that ends before no such token, and what follows
   then-on : {loose : Bool} {Q : Meaning} {r : Reading N} {r′ : Reading N′} {next : Part → Reading N} {next′ : Part → Reading N′} → Leads sheet Sim Left false Q r r′
       → ((part : Part) (records : List Record) → Q (part .end) (part .trees) records → Leads sheet Sim Left loose Whatever (next part) (next′ part))
       → Leads sheet Sim Left loose Whatever (r >>= next) (r′ >>= next′)
   then-on a k = lead-follow stays a k (λ o part d. let y : _≡_ {A = ℕ} 0 1 = cc in absurd (omega arith))
 
-  argument-led : (at : ℕ) (dots : Bool) → token sheet at is Dot3 ≡ dots → 32 * (length (sheet .kinds) - at) + 11 ≤ n
-      → Leads sheet Sim Left true (Bound (reads sheet at 0 0)) (ask (if dots then spread at else assignment at)) (ask′ (if dots then spread at else assignment at))
-  argument-led at true e le = asked (spread at) (omega (arith, inside sheet at (λ k. k is Dot3) refl e))
-  argument-led at false e le = asked (assignment at) (omega arith)
-
-  property-or-spread-led : (at : ℕ) (dots : Bool) → token sheet at is Dot3 ≡ dots → 32 * (length (sheet .kinds) - at) + 11 ≤ n
-      → Leads sheet Sim Left true (λ end trees records. (at + 1 ≤ end) × (end ≤ length (sheet .kinds))) (ask (if dots then spread at else property at)) (ask′ (if dots then spread at else property at))
-  property-or-spread-led at true e le = known (asked (spread at) (omega (arith, inside sheet at (λ k. k is Dot3) refl e))) (λ end trees records b. (omega arith, omega arith))
-  property-or-spread-led at false e le = known (asked (property at) (omega arith)) (λ end trees records b. (omega arith, omega arith))
+  -- a spread from its `...` on, or what else the list is of
+  argument-led : (at : ℕ) (dots : Bool) (other : Job) → token sheet at is Dot3 ≡ dots → 32 * (length (sheet .kinds) - at) + 11 ≤ n
+      → Leads sheet Sim Left true (λ end trees records. (at + 1 ≤ end) × (end ≤ length (sheet .kinds))) (ask other) (ask′ other)
+      → Leads sheet Sim Left true (λ end trees records. (at + 1 ≤ end) × (end ≤ length (sheet .kinds))) (ask (if dots then spread at else other)) (ask′ (if dots then spread at else other))
+  argument-led at true other e le a = known (asked (spread at) (omega (arith, inside sheet at (λ k. k is Dot3) refl e))) (λ end trees records b. (omega arith, omega arith))
+  argument-led at false other e le a = a
 
   -- 15.3 and 15.9
   parenthesized-head-led : (at : ℕ) → 32 * (length (sheet .kinds) - at) + 4 ≤ n + 1 → Leads sheet Sim Left false Whatever (parenthesized-head-of sheet ask at) (parenthesized-head-of sheet ask′ at)
@@ -262,12 +252,12 @@ module _ {N N′ : Type 0} {Sim : N → N′ → Type 0} {Left : Out N′ → Ty
   unfolding step expression-of sequence-of value-of after-binary is-assignment-operator assign-of conditional-of binary-of operators-of unary-of is-unary-operator is-update-operator postfix-of left-hand-side-of links-of arguments-of primary-of parenthesized-of spread-of elements-of properties-of property-of shorthand-of key-of binding-of binding-element-of binding-rest-of binding-elements-of binding-properties-of binding-property-of binding-shorthand-of head-of parameters-of body-of
   -- 13.16
   step-led A B assigns (expression at) r =
-      follow (asked (assignment at) (omega arith))
+      lead-follow stays (asked (assignment at) (omega arith))
       (λ part rs b. lead-token _ _ (λ t. last (sequence at (part .end) (part .end) (part .trees)) (omega arith)) (lead-yield _ _))
       (λ o part d. rw (dead-is sheet (part .end) Comma d refl) (halts-yield refl _ _ d))
   step-led A B assigns (sequence first comma at so-far) r =
       lead-token _ _
-      (λ t. follow (asked (assignment (at + 1)) (omega arith)) (λ part rs b. last (sequence first comma (part .end) (join so-far (part .trees))) (omega arith))
+      (λ t. lead-follow stays (asked (assignment (at + 1)) (omega arith)) (λ part rs b. last (sequence first comma (part .end) (join so-far (part .trees))) (omega arith))
       (λ o part d. h .quiet first comma (part .end) (join so-far (part .trees)) (omega arith) d))
       (lead-yield _ _)
   step-led A B assigns (assignment at) r = assigns at r
@@ -284,10 +274,10 @@ module _ {N N′ : Type 0} {Sim : N → N′ → Type 0} {Left : Out N′ → Ty
       (λ _. lead-token _ _ (λ t. last (conditional at (left .end) (tree left)) (omega arith)) (lead-yield _ _)))))
   step-led A B assigns (assign first at left) r =
       then-on (lead-convert fails (if token sheet at is Eq then any else simple) at left)
-      (λ target rs b. follow (asked (assignment (at + 1)) (omega arith)) (λ right more c. lead-yield _ _) (λ o right d. halts-yield refl _ _ d))
+      (λ target rs b. lead-follow stays (asked (assignment (at + 1)) (omega arith)) (λ right more c. lead-yield _ _) (λ o right d. halts-yield refl _ _ d))
   step-led A B assigns (conditional first at left) r =
-      follow (asked (assignment (at + 1)) (omega arith))
-      (λ if-true rs b. lead-token _ _ (λ t. follow (asked (assignment (if-true .end + 1)) (omega arith)) (λ if-false more c. lead-yield _ _) (λ o if-false d. halts-yield refl _ _ d)) (no _))
+      lead-follow stays (asked (assignment (at + 1)) (omega arith))
+      (λ if-true rs b. lead-token _ _ (λ t. lead-follow stays (asked (assignment (if-true .end + 1)) (omega arith)) (λ if-false more c. lead-yield _ _) (λ o if-false d. halts-yield refl _ _ d)) (no _))
       (λ o if-true d. rw (dead-is sheet (if-true .end) Colon d refl) (halts-refuse _))
   -- 13.6 to 13.13
   step-led A B assigns (binary floor at) r = then-on (asked (unary at) (omega arith)) (λ left rs b. last (operators floor at (left .end) (tree left)) (omega arith))
@@ -315,7 +305,7 @@ module _ {N N′ : Type 0} {Sim : N → N′ → Type 0} {Left : Out N′ → Ty
       lead-token _ _
       (λ t. lead-test (is-word (token sheet (at + 1))) (λ w. last (links first (at + 2) (node Row.Member (at + 1) first (at + 2) (one left))) (omega arith)) (λ _. no _))
       (lead-token _ _
-      (λ t. follow (asked (expression (at + 1)) (omega arith))
+      (λ t. lead-follow stays (asked (expression (at + 1)) (omega arith))
       (λ inner rs b. lead-token _ _ (λ t. last (links first (inner .end + 1) (node Row.Index first first (inner .end + 1) (cons left (inner .trees)))) (omega arith)) (no _))
       (λ o inner d. rw (dead-is sheet (inner .end) RBrack d refl) (halts-refuse _)))
       (lead-token _ _
@@ -323,7 +313,7 @@ module _ {N N′ : Type 0} {Sim : N → N′ → Type 0} {Left : Out N′ → Ty
       (lead-yield _ _)))
   step-led A B assigns (arguments first at so-far) r =
       lead-token _ _ (λ t. lead-yield _ _)
-      (follow (argument-led at (token sheet at is Dot3) refl (omega arith))
+      (lead-follow stays (argument-led at (token sheet at is Dot3) (assignment at) refl (omega arith) (known (asked (assignment at) (omega arith)) (λ end trees records b. (omega arith, omega arith))))
       (λ argument rs b. lead-token _ _ (λ t. last (arguments first (argument .end + 1) (join so-far (argument .trees))) (omega arith))
       (lead-token _ _ (λ t. lead-yield _ _) (no _)))
       (λ o argument d. rw (dead-is sheet (argument .end) Comma d refl, dead-is sheet (argument .end) RParen d refl) (halts-refuse _)))
@@ -333,37 +323,37 @@ module _ {N N′ : Type 0} {Sim : N → N′ → Type 0} {Left : Out N′ → Ty
       (λ _. lead-token _ _ (λ t. lead-yield _ _)
       (lead-test (is-literal (token sheet at)) (λ t. lead-yield _ _)
       (λ _. lead-token _ _
-      (λ t. follow (asked (expression (at + 1)) (omega arith)) (λ inner rs b. lead-token _ _ (λ t. lead-yield _ _) (no _))
+      (λ t. lead-follow stays (asked (expression (at + 1)) (omega arith)) (λ inner rs b. lead-token _ _ (λ t. lead-yield _ _) (no _))
       (λ o inner d. rw (dead-is sheet (inner .end) RParen d refl) (halts-refuse _)))
       (lead-token _ _ (λ t. last (elements at (at + 1) Row.Array nil) (omega arith))
       (lead-token _ _ (λ t. last (properties at (at + 1) Row.Object nil) (omega arith)) (no _))))))
   step-led A B assigns (elements first at kind so-far) r =
       lead-token _ _ (λ t. lead-yield _ _)
       (lead-token _ _ (λ t. last (elements first (at + 1) Row.Array (join so-far (one (leaf Row.Hole at)))) (omega arith))
-      (follow (argument-led at (token sheet at is Dot3) refl (omega arith))
+      (lead-follow stays (argument-led at (token sheet at is Dot3) (assignment at) refl (omega arith) (known (asked (assignment at) (omega arith)) (λ end trees records b. (omega arith, omega arith))))
       (λ element rs b. lead-token _ _
       (λ t. last (elements first (element .end + 1) (if token sheet at is Dot3 then Row.ArrayRestComma else Row.Array) (join so-far (element .trees))) (omega arith))
       (lead-token _ _ (λ t. lead-yield _ _) (no _)))
       (λ o element d. rw (dead-is sheet (element .end) Comma d refl, dead-is sheet (element .end) RBrack d refl) (halts-refuse _))))
   step-led A B assigns (properties first at kind so-far) r =
       lead-token _ _ (λ t. lead-yield _ _)
-      (follow (property-or-spread-led at (token sheet at is Dot3) refl (omega arith))
+      (lead-follow stays (argument-led at (token sheet at is Dot3) (property at) refl (omega arith) (known (asked (property at) (omega arith)) (λ end trees records b. (omega arith, omega arith))))
       (λ part rs b. lead-token _ _
       (λ t. last (properties first (part .end + 1) (if token sheet at is Dot3 then Row.ObjectRestComma else Row.Object) (join so-far (part .trees))) (omega arith))
       (lead-token _ _ (λ t. lead-yield _ _) (no _)))
       (λ o part d. rw (dead-is sheet (part .end) Comma d refl, dead-is sheet (part .end) RCurly d refl) (halts-refuse _)))
   step-led A B assigns (property at) r =
       lead-test (is-name (token sheet at) and not (token sheet (at + 1) is Colon))
-      (λ _. lead-token _ _ (λ t. follow (asked (assignment (at + 2)) (omega arith)) (λ initializer rs b. lead-yield _ _) (λ o initializer d. halts-yield refl _ _ d)) (lead-yield _ _))
+      (λ _. lead-token _ _ (λ t. lead-follow stays (asked (assignment (at + 2)) (omega arith)) (λ initializer rs b. lead-yield _ _) (λ o initializer d. halts-yield refl _ _ d)) (lead-yield _ _))
       (λ _. then-on (asked (key at) (omega arith))
-      (λ name rs b. lead-token _ _ (λ t. follow (asked (assignment (name .end + 1)) (omega arith)) (λ content more c. lead-yield _ _) (λ o content d. halts-yield refl _ _ d)) (no _)))
+      (λ name rs b. lead-token _ _ (λ t. lead-follow stays (asked (assignment (name .end + 1)) (omega arith)) (λ content more c. lead-yield _ _) (λ o content d. halts-yield refl _ _ d)) (no _)))
   step-led A B assigns (key at) r =
       lead-test (is-word (token sheet at) or token sheet at is Str or token sheet at is Number) (λ t. lead-yield _ _)
       (λ _. lead-token _ _
-      (λ t. follow (asked (assignment (at + 1)) (omega arith)) (λ inner rs b. lead-token _ _ (λ t. lead-yield _ _) (no _))
+      (λ t. lead-follow stays (asked (assignment (at + 1)) (omega arith)) (λ inner rs b. lead-token _ _ (λ t. lead-yield _ _) (no _))
       (λ o inner d. rw (dead-is sheet (inner .end) RBrack d refl) (halts-refuse _)))
       (no _))
-  step-led A B assigns (spread at) r = follow (asked (assignment (at + 1)) (omega arith)) (λ argument rs b. lead-yield _ _) (λ o argument d. halts-yield refl _ _ d)
+  step-led A B assigns (spread at) r = lead-follow stays (asked (assignment (at + 1)) (omega arith)) (λ argument rs b. lead-yield _ _) (λ o argument d. halts-yield refl _ _ d)
   -- 14.3.3
   step-led A B assigns (binding at) r =
       lead-test (is-name (token sheet at)) (λ t. lead-yield _ _)
@@ -371,36 +361,36 @@ module _ {N N′ : Type 0} {Sim : N → N′ → Type 0} {Left : Out N′ → Ty
       (lead-token _ _ (λ t. last (binding-properties at (at + 1) nil) (omega arith)) (no _)))
   step-led A B assigns (binding-element at) r =
       then-on (asked (binding at) (omega arith))
-      (λ target rs b. lead-token _ _ (λ t. follow (asked (assignment (target .end + 1)) (omega arith)) (λ initializer more c. lead-yield _ _) (λ o initializer d. halts-yield refl _ _ d)) (lead-yield _ _))
+      (λ target rs b. lead-token _ _ (λ t. lead-follow stays (asked (assignment (target .end + 1)) (omega arith)) (λ initializer more c. lead-yield _ _) (λ o initializer d. halts-yield refl _ _ d)) (lead-yield _ _))
   step-led A B assigns (binding-elements first at so-far) r =
       lead-token _ _ (λ t. lead-yield _ _)
       (lead-token _ _ (λ t. last (binding-elements first (at + 1) (join so-far (one (leaf Row.Hole at)))) (omega arith))
       (lead-token _ _
-      (λ t. follow (asked (binding-rest at) (omega arith)) (λ rest rs b. lead-token _ _ (λ t. lead-yield _ _) (no _))
+      (λ t. lead-follow stays (asked (binding-rest at) (omega arith)) (λ rest rs b. lead-token _ _ (λ t. lead-yield _ _) (no _))
       (λ o rest d. rw (dead-is sheet (rest .end) RBrack d refl) (halts-refuse _)))
-      (follow (asked (binding-element at) (omega arith))
+      (lead-follow stays (asked (binding-element at) (omega arith))
       (λ element rs b. lead-token _ _ (λ t. last (binding-elements first (element .end + 1) (join so-far (element .trees))) (omega arith))
       (lead-token _ _ (λ t. lead-yield _ _) (no _)))
       (λ o element d. rw (dead-is sheet (element .end) Comma d refl, dead-is sheet (element .end) RBrack d refl) (halts-refuse _)))))
   step-led A B assigns (binding-properties first at so-far) r =
       lead-token _ _ (λ t. lead-yield _ _)
       (lead-token _ _
-      (λ t. follow (asked (binding-rest at) (omega arith))
+      (λ t. lead-follow stays (asked (binding-rest at) (omega arith))
       (λ rest rs b. lead-token _ _
       (λ t. lead-test (kind-of (argument-of (tree rest)) is Row.BindingName) (λ _. lead-yield _ _) (λ _. no _))
       (no _))
       (λ o rest d. rw (dead-is sheet (rest .end) RCurly d refl) (halts-refuse _)))
-      (follow (asked (binding-property at) (omega arith))
+      (lead-follow stays (asked (binding-property at) (omega arith))
       (λ part rs b. lead-token _ _ (λ t. last (binding-properties first (part .end + 1) (join so-far (part .trees))) (omega arith))
       (lead-token _ _ (λ t. lead-yield _ _) (no _)))
       (λ o part d. rw (dead-is sheet (part .end) Comma d refl, dead-is sheet (part .end) RCurly d refl) (halts-refuse _))))
   step-led A B assigns (binding-property at) r =
       lead-test (is-name (token sheet at) and not (token sheet (at + 1) is Colon))
-      (λ _. lead-token _ _ (λ t. follow (asked (assignment (at + 2)) (omega arith)) (λ initializer rs b. lead-yield _ _) (λ o initializer d. halts-yield refl _ _ d)) (lead-yield _ _))
+      (λ _. lead-token _ _ (λ t. lead-follow stays (asked (assignment (at + 2)) (omega arith)) (λ initializer rs b. lead-yield _ _) (λ o initializer d. halts-yield refl _ _ d)) (lead-yield _ _))
       (λ _. then-on (asked (key at) (omega arith))
-      (λ name rs b. lead-token _ _ (λ t. follow (asked (binding-element (name .end + 1)) (omega arith)) (λ content more c. lead-yield _ _) (λ o content d. halts-yield refl _ _ d)) (no _)))
+      (λ name rs b. lead-token _ _ (λ t. lead-follow stays (asked (binding-element (name .end + 1)) (omega arith)) (λ content more c. lead-yield _ _) (λ o content d. halts-yield refl _ _ d)) (no _)))
   step-led A B assigns (binding-rest at) r =
-      follow (asked (binding-element (at + 1)) (omega arith)) (λ argument rs b. lead-say stays _ (lead-yield _ _)) (λ o argument d. halts-say _ (halts-yield refl _ _ d))
+      lead-follow stays (asked (binding-element (at + 1)) (omega arith)) (λ argument rs b. lead-say stays _ (lead-yield _ _)) (λ o argument d. halts-say _ (halts-yield refl _ _ d))
   step-led A B assigns (head at) r =
       lead-token _ _
       (λ t. lead-test (not (break-before sheet (at + 1))) (λ _. parenthesized-head-led (at + 1) (omega arith)) (λ _. no _))
@@ -408,27 +398,25 @@ module _ {N N′ : Type 0} {Sim : N → N′ → Type 0} {Left : Out N′ → Ty
   step-led A B assigns (parameters at so-far) r =
       lead-token _ _ (λ t. lead-yield _ _)
       (lead-token _ _
-      (λ t. follow (asked (binding-rest at) (omega arith)) (λ rest rs b. lead-token _ _ (λ t. lead-yield _ _) (no _))
+      (λ t. lead-follow stays (asked (binding-rest at) (omega arith)) (λ rest rs b. lead-token _ _ (λ t. lead-yield _ _) (no _))
       (λ o rest d. rw (dead-is sheet (rest .end) RParen d refl) (halts-refuse _)))
-      (follow (asked (binding-element at) (omega arith))
+      (lead-follow stays (asked (binding-element at) (omega arith))
       (λ parameter rs b. lead-token _ _ (λ t. last (parameters (parameter .end + 1) (join so-far (parameter .trees))) (omega arith))
       (lead-token _ _ (λ t. lead-yield _ _) (no _)))
       (λ o parameter d. rw (dead-is sheet (parameter .end) Comma d refl, dead-is sheet (parameter .end) RParen d refl) (halts-refuse _))))
   step-led A B assigns (body kind first at so-far) r =
       lead-say stays _ (lead-test (not (token sheet (at + 1) is LCurly))
-      (λ _. follow (asked (assignment (at + 1)) (omega arith)) (λ inner rs b. lead-yield _ _) (λ o inner d. halts-yield refl _ _ d))
+      (λ _. lead-follow stays (asked (assignment (at + 1)) (omega arith)) (λ inner rs b. lead-yield _ _) (λ o inner d. halts-yield refl _ _ d))
       (λ _. no _))
 
 -- a Sequence ends where nothing may follow
-sequence-halts : {N : Type 0} (sheet : Sheet) (ask : Asks N) (first comma at : ℕ) (so-far : Forest) → Dead sheet at → Halts sheet true (sequence-of sheet ask first comma at so-far)
-unfolding sequence-of
-sequence-halts sheet ask first comma at so-far d = rw (dead-is sheet at Comma d refl) (halts-yield refl at _ d)
-
 sequence-quiet : {N : Type 0} (policy : Policy N) (sheet : Sheet) (steps : ℕ) (first comma at : ℕ) (so-far : Forest) → 1 ≤ steps → Dead sheet at
     → Halts sheet true (read policy sheet steps (sequence first comma at so-far))
-unfolding read step
+unfolding read step sequence-of
 sequence-quiet policy sheet zero first comma at so-far l d = absurd (omega arith)
-sequence-quiet policy sheet (suc steps) first comma at so-far l d = record { with = λ m. sequence-halts sheet (read policy sheet steps) first comma at so-far d .with m }
+sequence-quiet policy sheet (suc steps) first comma at so-far l d =
+    let h : Halts sheet true (sequence-of sheet (read policy sheet steps) first comma at so-far) = rw (dead-is sheet at Comma d refl) (halts-yield refl at _ d) in
+    record { with = λ m. h .with m }
 
 -- THE TWO READERS, from what is special to their policies
 module _ {N N′ : Type 0} {Sim : N → N′ → Type 0} {Left : Out N′ → Type 0} (sheet : Sheet) (stays : Stays sheet Sim Left)

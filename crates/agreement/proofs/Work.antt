@@ -31,7 +31,7 @@ use Rattle.grammar.specs.Binding.{binding-of, binding-element-of, binding-rest-
 use Rattle.grammar.specs.Arrow.{Way, pass, attempt, commit, Policy, by-way, choose, noting, arrow-of, assignment-of, parenthesized-head-of, head-of, parameters-of, body-of}
 use Rattle.grammar.specs.Step.{step}
 use Rattle.laws.specs.Settles.{place-of, rank, looked-at}
-use Rattle.laws.proofs.Good.{Stands, Ends, ends-done, ends-fail, ends-stuck, Answers, inside, and-left, and-right}
+use Rattle.laws.proofs.Good.{Meaning, Stands, Ends, ends-done, ends-fail, ends-stuck, Reads, Answers, inside, and-left, and-right, both}
 use Rattle.laws.proofs.Bounds.{limits, Bound, step-bound}
 use Rattle.laws.proofs.Rel.{operator-inside, async-inside}
 use Rattle.laws.proofs.Balanced.{side-of, Side, Balanced, none, skip, name-flat, word-flat, operator-flat, flat}
@@ -207,7 +207,7 @@ module _ {N : Type 0} {P : ℕ → Counted N → Type 0} {F : Counted N → Type
       go (turned t′ records) = costs-done end (one t′) records m refl p
       go (refused cause) = costs-fail cause m refl f
 
-  so : {m : Counted N} {Q : ℕ → Counted N → Type 0} {G : Counted N → Type 0} {reading : Reading (Counted N)} → Spends m Q G reading
+  pub so : {m : Counted N} {Q : ℕ → Counted N → Type 0} {G : Counted N → Type 0} {reading : Reading (Counted N)} → Spends m Q G reading
       → ((end : ℕ) (m′ : Counted N) → Q end m′ → P end m′) → ((m′ : Counted N) → G m′ → F m′) → Spends m P F reading
   so {m} {Q} {G} s p f = record { with = go (s .with) }
     where
@@ -271,11 +271,7 @@ module _ {N : Type 0} (sheet : Sheet) {ask : Asks (Counted N)} (h : Near sheet a
   into : {at k : ℕ} → Stands sheet at k → side-of k ≡ 1 → scope sheet (at + 1) ≤ scope sheet at
   into {at} t e = scope-in sheet at (record { goes = side t .goes ∙ e }) (t .here)
 
-  -- an assignment operator stands before the end; so do the tokens of an async arrow of one name, none of which is a bracket
-  operator-stands : (at : ℕ) → is-assignment-operator (token sheet at) ≡ true → at < length (sheet .kinds)
-  unfolding is-assignment-operator
-  operator-stands at t = inside sheet at is-assignment-operator refl t
-
+  -- the tokens of an async arrow of one name stand before the end, and none of them is a bracket
   async-level : (at : ℕ) → is-async-name sheet at ≡ true → scope sheet at ≡ scope sheet (at + 2 + 1)
   unfolding is-async-name
   async-level at t =
@@ -285,16 +281,14 @@ module _ {N : Type 0} (sheet : Sheet) {ask : Asks (Counted N)} (h : Near sheet a
       lv (skip (flat (λ k. k is Async) refl refl refl refl refl refl (and-left (token sheet at is Async) _ t))
       (skip (name-flat (and-left (is-name (token sheet (at + 1))) _ named)) (two at (skip (flat (λ k. k is Arrow) refl refl refl refl refl refl rest) none)))) (omega arith)
 
-  word-stands : (at : ℕ) → is-word (token sheet at) ≡ true → at < length (sheet .kinds)
-  unfolding is-word
-  word-stands at t = inside sheet at is-word refl t
-
-  argued-spread : (at : ℕ) → token sheet at is Dot3 ≡ true → (m : Counted N) → Spends m (Done sheet (spread at) m) (Lost sheet (spread at) m) (ask (spread at))
-      → Spends m (Argued sheet at m) (Unargued sheet at m) (ask (spread at))
-  argued-spread at e m s =
+  -- a spread from its `...` on, or what else the list is of
+  argument-costs : (at : ℕ) (dots : Bool) (other : Job) → token sheet at is Dot3 ≡ dots → (m : Counted N) → Spends m (Argued sheet at m) (Unargued sheet at m) (ask other)
+      → Spends m (Argued sheet at m) (Unargued sheet at m) (ask (if dots then spread at else other))
+  argument-costs at true other e m s =
       let i = inside sheet at (λ k. k is Dot3) refl e in
       let flat-there = past (flat (λ k. k is Dot3) refl refl refl refl refl refl e) i in
-      so s (λ end m₂ c. omega (arith, lv (c .shape) (c .inside))) (λ m₂ c. omega arith)
+      so (asked (spread at) (omega arith) m) (λ end m₂ c. omega (arith, lv (c .shape) (c .inside))) (λ m₂ c. omega arith)
+  argument-costs at false other e m s = s
 
   converted-still : (role : Role) (at : ℕ) (t : Tree) (m : Counted N) {F : Counted N → Type 0} → F m → Spends m (Still sheet m at) F (converted role at t)
   converted-still role at t m f = converts role at t (record { there = refl; same-steps = refl; same-due = refl }) f
@@ -302,7 +296,7 @@ module _ {N : Type 0} (sheet : Sheet) {ask : Asks (Counted N)} (h : Near sheet a
   -- 13.15 and 13.14
   after-binary-costs : (at : ℕ) (left : Part) (m m₁ : Counted N) → Done sheet (binary 0 at) (tick m) (left .end) m₁
       → Spends m₁ (Paid sheet (value at) m) (Lost sheet (value at) m) (after-binary sheet ask at left)
-  unfolding after-binary side-of
+  unfolding after-binary side-of is-assignment-operator
   after-binary-costs at left m m₁ b =
       let level = lv (b .shape) (b .inside) in
       test (kind-of (tree left) is Row.Identifier and token sheet (left .end) is Arrow)
@@ -311,35 +305,12 @@ module _ {N : Type 0} (sheet : Sheet) {ask : Asks (Counted N)} (h : Near sheet a
       let flat-there = past (flat (λ k. k is Arrow) refl refl refl refl refl refl arrow) i in
       so (asked (body Row.Arrow at (left .end) (one (leaf Row.BindingName at))) (omega arith) m₁) (λ end m₂ c. omega arith) (λ m₂ c. omega arith))
       (λ _. test (is-assignment-operator (token sheet (left .end)))
-      (λ t. let i = operator-stands (left .end) t in
+      (λ t. let i = inside sheet (left .end) is-assignment-operator refl t in
       let flat-there = past (assignment-flat t) i in
       so (asked (assign at (left .end) (tree left)) (omega arith) m₁) (λ end m₂ c. omega arith) (λ m₂ c. omega arith))
       (λ _. token-test sheet _ _
       (λ t. so (asked (conditional at (left .end) (tree left)) (omega arith) m₁) (λ end m₂ c. omega arith) (λ m₂ c. omega (arith, on t refl)))
       (yields _ _ (omega arith))))
-
-  -- 13.5 and 13.4
-  unary-stands : (at : ℕ) → is-unary-operator (token sheet at) ≡ true → at < length (sheet .kinds)
-  unfolding is-unary-operator
-  unary-stands at t = inside sheet at is-unary-operator refl t
-
-  update-stands : (at : ℕ) → is-update-operator (token sheet at) ≡ true → at < length (sheet .kinds)
-  unfolding is-update-operator
-  update-stands at t = inside sheet at is-update-operator refl t
-
-  argument-costs : (at : ℕ) (dots : Bool) → token sheet at is Dot3 ≡ dots → at ≤ length (sheet .kinds) → (m : Counted N)
-      → Spends m (Argued sheet at m) (Unargued sheet at m) (ask (if dots then spread at else assignment at))
-  argument-costs at true e l m = argued-spread at e m (asked (spread at) (omega (arith, inside sheet at (λ k. k is Dot3) refl e)) m)
-  argument-costs at false e l m = so (asked (assignment at) (omega arith) m) (λ end m₂ c. omega (arith, lv (c .shape) (c .inside))) (λ m₂ c. omega arith)
-
-  property-or-spread-costs : (at : ℕ) (dots : Bool) → token sheet at is Dot3 ≡ dots → at ≤ length (sheet .kinds) → (m : Counted N)
-      → Spends m (Argued sheet at m) (Unargued sheet at m) (ask (if dots then spread at else property at))
-  property-or-spread-costs at true e l m = argued-spread at e m (asked (spread at) (omega (arith, inside sheet at (λ k. k is Dot3) refl e)) m)
-  property-or-spread-costs at false e l m = so (asked (property at) (omega arith) m) (λ end m₂ c. omega (arith, lv (c .shape) (c .inside))) (λ m₂ c. omega arith)
-
-  name-stands : (at : ℕ) → is-name (token sheet at) ≡ true → at < length (sheet .kinds)
-  unfolding is-name
-  name-stands at t = inside sheet at is-name refl t
 
   -- a shorthand: its name, and an initializer after `=`
   shorthand-level : (at : ℕ) → is-name (token sheet at) ≡ true → Stands sheet (at + 1) Eq → scope sheet at ≡ scope sheet (at + 2)
@@ -409,7 +380,7 @@ module _ {N : Type 0} (sheet : Sheet) {ask : Asks (Counted N)} (h : Near sheet a
 
   -- every production
   step-costs : (policy : Policy N) (job : Job) → Here sheet job → (m : Counted N) → Spends (tick m) (Paid sheet job m) (Lost sheet job m) (step (counting policy) sheet ask job)
-  unfolding step expression-of sequence-of side-of value-of assign-of conditional-of binary-of operators-of unary-of postfix-of left-hand-side-of links-of arguments-of primary-of parenthesized-of spread-of elements-of properties-of property-of shorthand-of key-of binding-of binding-element-of binding-rest-of binding-elements-of binding-properties-of binding-property-of binding-shorthand-of parameters-of body-of head-of assignment-of
+  unfolding step expression-of sequence-of side-of value-of assign-of conditional-of binary-of operators-of unary-of postfix-of left-hand-side-of links-of arguments-of primary-of parenthesized-of spread-of elements-of properties-of property-of shorthand-of key-of binding-of binding-element-of binding-rest-of binding-elements-of binding-properties-of binding-property-of binding-shorthand-of parameters-of body-of head-of assignment-of is-unary-operator is-update-operator is-word
   -- 13.16
   step-costs policy (expression at) here m =
       follows (asked (assignment at) (omega arith) (tick m)) (λ m′ c. omega arith)
@@ -459,10 +430,10 @@ module _ {N : Type 0} (sheet : Sheet) {ask : Asks (Counted N)} (h : Near sheet a
       (λ _. yields _ _ (omega arith))
   step-costs policy (unary at) here m =
       test (is-unary-operator (token sheet at))
-      (λ t. let i = unary-stands at t in let flat-there = past (unary-flat t) i in
+      (λ t. let i = inside sheet at is-unary-operator refl t in let flat-there = past (unary-flat t) i in
       follows (asked (unary (at + 1)) (omega arith) (tick m)) (λ m′ c. omega arith) (λ operand m₁ b. yields _ _ (omega arith)))
       (λ _. test (is-update-operator (token sheet at))
-      (λ t. let i = update-stands at t in let flat-there = past (update-flat t) i in
+      (λ t. let i = inside sheet at is-update-operator refl t in let flat-there = past (update-flat t) i in
       follows (asked (unary (at + 1)) (omega arith) (tick m)) (λ m′ c. omega arith)
       (λ operand m₁ b. follows (converted-still simple (operand .end) (tree operand) m₁ {F = Lost sheet (unary at) m} (omega (arith, lv (b .shape) (b .inside), up (operand .end)))) (λ m′ c. c)
       (λ target m₂ c. yields _ _ (omega arith))))
@@ -480,7 +451,7 @@ module _ {N : Type 0} (sheet : Sheet) {ask : Asks (Counted N)} (h : Near sheet a
   step-costs policy (links first at left) here m =
       token-test sheet _ _
       (λ t. test (is-word (token sheet (at + 1)))
-      (λ w. let i = word-stands (at + 1) w in
+      (λ w. let i = inside sheet (at + 1) is-word refl w in
       so (asked (links first (at + 2) (node Row.Member (at + 1) first (at + 2) (one left))) (omega arith) (tick m)) (λ end m₂ c. omega arith)
       (λ m₂ c. omega (arith, lv (skip (record { goes = side t .goes }) (skip (word-flat w) (two at none))) (omega arith))))
       (λ _. refuses _ (omega (arith, up at))))
@@ -496,7 +467,8 @@ module _ {N : Type 0} (sheet : Sheet) {ask : Asks (Counted N)} (h : Near sheet a
       (yields _ _ (omega arith))))
   step-costs policy (arguments first at so-far) here m =
       token-test sheet _ _ (λ t. yields _ _ (omega arith))
-      (follows (argument-costs at (token sheet at is Dot3) refl (omega arith) (tick m)) (λ m′ c. omega arith)
+      (follows (argument-costs at (token sheet at is Dot3) (assignment at) refl (tick m)
+      (so (asked (assignment at) (omega arith) (tick m)) (λ end m₂ c. omega (arith, lv (c .shape) (c .inside))) (λ m₂ c. omega arith))) (λ m′ c. omega arith)
       (λ argument m₁ b. token-test sheet _ _
       (λ t. so (asked (arguments first (argument .end + 1) (join so-far (argument .trees))) (omega arith) m₁) (λ end m₂ c. omega arith) (λ m₂ c. omega (arith, on t refl)))
       (token-test sheet _ _ (λ t. yields _ _ (omega arith)) (refuses _ (omega (arith, up (argument .end)))))))
@@ -515,14 +487,16 @@ module _ {N : Type 0} (sheet : Sheet) {ask : Asks (Counted N)} (h : Near sheet a
       token-test sheet _ _ (λ t. yields _ _ (omega arith))
       (token-test sheet _ _
       (λ t. so (asked (elements first (at + 1) Row.Array (join so-far (one (leaf Row.Hole at)))) (omega arith) (tick m)) (λ end m₂ c. omega arith) (λ m₂ c. omega (arith, on t refl)))
-      (follows (argument-costs at (token sheet at is Dot3) refl (omega arith) (tick m)) (λ m′ c. omega arith)
+      (follows (argument-costs at (token sheet at is Dot3) (assignment at) refl (tick m)
+      (so (asked (assignment at) (omega arith) (tick m)) (λ end m₂ c. omega (arith, lv (c .shape) (c .inside))) (λ m₂ c. omega arith))) (λ m′ c. omega arith)
       (λ element m₁ b. token-test sheet _ _
       (λ t. so (asked (elements first (element .end + 1) (if token sheet at is Dot3 then Row.ArrayRestComma else Row.Array) (join so-far (element .trees))) (omega arith) m₁)
       (λ end m₂ c. omega arith) (λ m₂ c. omega (arith, on t refl)))
       (token-test sheet _ _ (λ t. yields _ _ (omega arith)) (refuses _ (omega (arith, up (element .end))))))))
   step-costs policy (properties first at kind so-far) here m =
       token-test sheet _ _ (λ t. yields _ _ (omega arith))
-      (follows (property-or-spread-costs at (token sheet at is Dot3) refl (omega arith) (tick m)) (λ m′ c. omega arith)
+      (follows (argument-costs at (token sheet at is Dot3) (property at) refl (tick m)
+      (so (asked (property at) (omega arith) (tick m)) (λ end m₂ c. omega (arith, lv (c .shape) (c .inside))) (λ m₂ c. omega arith))) (λ m′ c. omega arith)
       (λ part m₁ b. token-test sheet _ _
       (λ t. so (asked (properties first (part .end + 1) (if token sheet at is Dot3 then Row.ObjectRestComma else Row.Object) (join so-far (part .trees))) (omega arith) m₁)
       (λ end m₂ c. omega arith) (λ m₂ c. omega (arith, on t refl)))
@@ -613,35 +587,30 @@ module _ {N : Type 0} (sheet : Sheet) {ask : Asks (Counted N)} (h : Near sheet a
 -- THE STATEMENT, with any policy
 module _ {N : Type 0} (policy : Policy N) (sheet : Sheet) where
   -- what else is known of a nonterminal that is done
-  bounded : (f : ℕ) → Answers {N = Counted N} (λ job. Unit {0}) (λ job. Bound (limits sheet job)) (λ cause. Unit {0}) (count policy sheet f)
+  known : (Good : Job → Meaning)
+      → ((ask : Asks (Counted N)) → Answers (λ job. Unit {0}) Good (λ cause. Unit {0}) ask → (job : Job) → Reads (Good job) (λ cause. Unit {0}) (step (counting policy) sheet ask job))
+      → (f : ℕ) → Answers (λ job. Unit {0}) Good (λ cause. Unit {0}) (count policy sheet f)
   unfolding count
-  bounded zero = record { with = λ job _. record { with = λ m. ends-stuck refl } }
-  bounded (suc f) = record { with = λ job _. record { with = λ m. step-bound (counting policy) sheet (bounded f) job .with (tick m) } }
+  known Good p zero = record { with = λ job _. record { with = λ m. ends-stuck refl } }
+  known Good p (suc f) = record { with = λ job _. record { with = λ m. p _ (known Good p f) job .with (tick m) } }
 
-  shaped : (f : ℕ) → Answers {N = Counted N} (λ job. Unit {0}) (Shaped sheet) (λ cause. Unit {0}) (count policy sheet f)
-  unfolding count
-  shaped zero = record { with = λ job _. record { with = λ m. ends-stuck refl } }
-  shaped (suc f) = record { with = λ job _. record { with = λ m. step-shape (counting policy) sheet (shaped f) job .with (tick m) } }
-
-  all-known : (job : Job) (m : Counted N) {out : Out (Counted N)} → Costs (Paid sheet job m) (Lost sheet job m) out → Ends (Bound (limits sheet job)) (λ cause. Unit {0}) out
-      → Ends (Shaped sheet job) (λ cause. Unit {0}) out → Costs (Done sheet job m) (Lost sheet job m) out
-  all-known job m (costs-done end trees records m′ e p) (ends-done end₁ trees₁ records₁ m₁ e₁ b) (ends-done end₂ trees₂ records₂ m₂ e₂ c) =
+  all-known : (job : Job) (m : Counted N) {out : Out (Counted N)} → Costs (Paid sheet job m) (Lost sheet job m) out
+      → Ends (λ end trees records. Bound (limits sheet job) end trees records × Shaped sheet job end trees records) (λ cause. Unit {0}) out → Costs (Done sheet job m) (Lost sheet job m) out
+  all-known job m (costs-done end trees records m′ e p) (ends-done end₁ _ _ _ e₁ b) =
+      let bound = b .0 in
       let q : end₁ ≡ end = cc in
-      let r : end₂ ≡ end = cc in
-      costs-done end trees records m′ e (record { forward = omega arith; inside = omega arith; paid = p .paid; shape = rw r at c })
-  all-known job m (costs-done end trees records m′ e p) (ends-done end₁ trees₁ records₁ m₁ e₁ b) (ends-fail cause m₂ e₂ c) = let z : _≡_ {A = ℕ} 0 1 = cc in absurd (omega arith)
-  all-known job m (costs-done end trees records m′ e p) (ends-done end₁ trees₁ records₁ m₁ e₁ b) (ends-stuck e₂) = let z : _≡_ {A = ℕ} 0 1 = cc in absurd (omega arith)
-  all-known job m (costs-done end trees records m′ e p) (ends-fail cause m₁ e₁ b) c = let z : _≡_ {A = ℕ} 0 1 = cc in absurd (omega arith)
-  all-known job m (costs-done end trees records m′ e p) (ends-stuck e₁) c = let z : _≡_ {A = ℕ} 0 1 = cc in absurd (omega arith)
-  all-known job m (costs-fail cause m′ e f) b c = costs-fail cause m′ e f
-  all-known job m (costs-stuck e) b c = costs-stuck e
+      costs-done end trees records m′ e (record { forward = omega arith; inside = omega arith; paid = p .paid; shape = rw q at (b .1) })
+  all-known job m (costs-done end trees records m′ e p) (ends-fail _ _ e₁ _) = let z : _≡_ {A = ℕ} 0 1 = cc in absurd (omega arith)
+  all-known job m (costs-done end trees records m′ e p) (ends-stuck e₁) = let z : _≡_ {A = ℕ} 0 1 = cc in absurd (omega arith)
+  all-known job m (costs-fail cause m′ e f) b = costs-fail cause m′ e f
+  all-known job m (costs-stuck e) b = costs-stuck e
 
   pub works : (f : ℕ) → Near {N = N} sheet (count policy sheet f)
   unfolding count
   works zero = record { with = λ job here m. record { with = costs-stuck refl } }
   works (suc f) =
+      let bound = known (λ job. Bound (limits sheet job)) (λ ask a job. step-bound (counting policy) sheet a job) (suc f) in
+      let shape = known (Shaped sheet) (λ ask a job. step-shape (counting policy) sheet a job) (suc f) in
       record {
-        with = λ job here m. record {
-          with = all-known job m (step-costs sheet (works f) policy job here m .with) (bounded (suc f) .with job tt .with m) (shaped (suc f) .with job tt .with m);
-        };
+        with = λ job here m. record { with = all-known job m (step-costs sheet (works f) policy job here m .with) (both (bound .with job tt) (shape .with job tt) .with m) };
       }
