@@ -26,23 +26,24 @@ use Rattle.heads.specs.declared.Head.{Head}
 use Rattle.heads.specs.declared.Way.{Way}
 use Rattle.build.proofs.Ways.{assignment-passes, assignment-tries, assignment-gives-up, assignment-commits, assignment-fails}
 use Rattle.build.proofs.Ends.{is-fail}
+use Rattle.waiting.proofs.Shared.{never}
 use Rattle.build.proofs.Makes.{stands-now, made-over, unmade-over, made-again, unmade-again}
 
 -- what the tests of a way tell
 pub is-passed : (w : Way) {b : Bool} → b ≡ is-pass w → b ≡ true → w ≡ Way.Pass
 is-passed Way.Pass i j = refl
-is-passed Way.Attempt i j = let z : _≡_ {A = Bool} true false = sym j ∙ i in let y : _≡_ {A = ℕ} 0 1 = cc in absurd (omega arith)
-is-passed Way.Commit i j = let z : _≡_ {A = Bool} true false = sym j ∙ i in let y : _≡_ {A = ℕ} 0 1 = cc in absurd (omega arith)
+is-passed Way.Attempt i j = absurd (never (cc))
+is-passed Way.Commit i j = absurd (never (cc))
 
 pub is-committed : (w : Way) {b : Bool} → b ≡ is-commit w → b ≡ true → w ≡ Way.Commit
-is-committed Way.Pass i j = let z : _≡_ {A = Bool} true false = sym j ∙ i in let y : _≡_ {A = ℕ} 0 1 = cc in absurd (omega arith)
-is-committed Way.Attempt i j = let z : _≡_ {A = Bool} true false = sym j ∙ i in let y : _≡_ {A = ℕ} 0 1 = cc in absurd (omega arith)
+is-committed Way.Pass i j = absurd (never (cc))
+is-committed Way.Attempt i j = absurd (never (cc))
 is-committed Way.Commit i j = refl
 
 pub is-tried : (w : Way) {b q : Bool} → b ≡ is-pass w → b ≡ false → q ≡ is-commit w → q ≡ false → w ≡ Way.Attempt
-is-tried Way.Pass i j k l = let z : _≡_ {A = Bool} true false = sym i ∙ j in let y : _≡_ {A = ℕ} 0 1 = cc in absurd (omega arith)
+is-tried Way.Pass i j k l = absurd (never (cc))
 is-tried Way.Attempt i j k l = refl
-is-tried Way.Commit i j k l = let z : _≡_ {A = Bool} true false = sym k ∙ l in let y : _≡_ {A = ℕ} 0 1 = cc in absurd (omega arith)
+is-tried Way.Commit i j k l = absurd (never (cc))
 
 -- where a head is tried, a token stands
 pub tried-stands : (ks fs m : List ℕ) (at : ℕ) {w : Way} → way-of w ≡ way-at ks fs m at → w ≡ Way.Attempt → at < length ks
@@ -90,7 +91,6 @@ module _ {ks fs r₀ s₀ m₀ : List ℕ} {c : Cursor} where
         fail-at = λ p q. let g = a .fail-at p q in record { comes = assignment-passes w (g .comes); unmade = g .unmade };
       }
 
-  -- a head that was read, and its body
   arrow-of : {r₁ s₁ m₁ r s m : List ℕ} {x : Step} {y : Listed} {d : Cursor} {kids : ℕ} {h : Head} → Room ks r₀ s₀ c
       → ((p : ℕ) (ts : Forest) (rs : List Record) (out : Out (List ℕ)) → Comes ks fs (head (c .at)) m₀ (done p ts rs m₁) → Comes ks fs (body (arrow-kind ks (c .at)) (c .at) p ts) m₁ out
       → Comes ks fs (assignment (c .at)) m₀ (after-records rs out))
@@ -111,31 +111,16 @@ module _ {ks fs r₀ s₀ m₀ : List ℕ} {c : Cursor} where
             record { comes = rule _ _ _ _ (g .comes) (t .comes); unmade = unmade-over (omega (arith, room)) (omega (arith, room)) (g .made) (t .unmade) };
       }
 
-  assign-tries : {r₁ s₁ m₁ r s m : List ℕ} {x : Step} {y : Listed} {d : Cursor} {kids : ℕ} {h : Head} {w : Way} → Room ks r₀ s₀ c → way-of w ≡ way-at ks fs m₀ (c .at)
-      → w ≡ Way.Attempt → MetList ks fs r₀ s₀ m₀ r₁ s₁ m₁ (head (c .at)) (c .rows) (c .records) y → y ≡ Listed.Done d kids
-      → h ≡ record { kind = arrow-kind ks (c .at); first = c .at; from = c .rows; kids = kids }
-      → MetAfter ks fs r₁ s₁ m₁ r s m (body (h .kind) (h .first) (d .at)) (h .from) (d .rows) (h .kids) (d .records) x
-      → Met ks fs r₀ s₀ m₀ r s m (assignment (c .at)) (c .rows) (c .records) x
-  unfolding way-of
-  assign-tries room t e a q u b = arrow-of room (λ p ts rs out i j. assignment-tries (sym t ∙ ap way-of e) i j) a q u b
-
-  assign-commits : {r₁ s₁ m₁ r s m : List ℕ} {x : Step} {y : Listed} {d : Cursor} {kids : ℕ} {h : Head} {w : Way} → Room ks r₀ s₀ c → way-of w ≡ way-at ks fs m₀ (c .at)
-      → w ≡ Way.Commit → MetList ks fs r₀ s₀ m₀ r₁ s₁ m₁ (head (c .at)) (c .rows) (c .records) y → y ≡ Listed.Done d kids
-      → h ≡ record { kind = arrow-kind ks (c .at); first = c .at; from = c .rows; kids = kids }
-      → MetAfter ks fs r₁ s₁ m₁ r s m (body (h .kind) (h .first) (d .at)) (h .from) (d .rows) (h .kids) (d .records) x
-      → Met ks fs r₀ s₀ m₀ r s m (assignment (c .at)) (c .rows) (c .records) x
-  unfolding way-of
-  assign-commits room t e a q u b = arrow-of room (λ p ts rs out i j. assignment-commits (sym t ∙ ap way-of e) i j) a q u b
-
   -- a head that was read, and its body
   pub assign-arrows : {r₁ s₁ m₁ r s m : List ℕ} {x : Step} {y : Listed} {d : Cursor} {kids : ℕ} {h : Head} (w : Way) {b : Bool} → Room ks r₀ s₀ c → way-of w ≡ way-at ks fs m₀ (c .at)
       → b ≡ is-pass w → b ≡ false → MetList ks fs r₀ s₀ m₀ r₁ s₁ m₁ (head (c .at)) (c .rows) (c .records) y → y ≡ Listed.Done d kids
       → h ≡ record { kind = arrow-kind ks (c .at); first = c .at; from = c .rows; kids = kids }
       → MetAfter ks fs r₁ s₁ m₁ r s m (body (h .kind) (h .first) (d .at)) (h .from) (d .rows) (h .kids) (d .records) x
       → Met ks fs r₀ s₀ m₀ r s m (assignment (c .at)) (c .rows) (c .records) x
-  assign-arrows Way.Pass room t i j a q u b = let z : _≡_ {A = Bool} true false = sym i ∙ j in let y : _≡_ {A = ℕ} 0 1 = cc in absurd (omega arith)
-  assign-arrows Way.Attempt room t i j a q u b = assign-tries room t refl a q u b
-  assign-arrows Way.Commit room t i j a q u b = assign-commits room t refl a q u b
+  unfolding way-of
+  assign-arrows Way.Pass room t i j a q u b = absurd (never (cc))
+  assign-arrows Way.Attempt room t i j a q u b = arrow-of room (λ p ts rs out i j. assignment-tries (sym t) i j) a q u b
+  assign-arrows Way.Commit room t i j a q u b = arrow-of room (λ p ts rs out i j. assignment-commits (sym t) i j) a q u b
 
   pub assign-fails : {r₁ s₁ m₁ : List ℕ} {y : Listed} {p : Cause} {w : Way} → way-of w ≡ way-at ks fs m₀ (c .at) → w ≡ Way.Commit
       → MetList ks fs r₀ s₀ m₀ r₁ s₁ m₁ (head (c .at)) (c .rows) (c .records) y → y ≡ Listed.Fail p

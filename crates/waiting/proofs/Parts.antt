@@ -14,55 +14,37 @@ use Rattle.rows.specs.Row as Row
 use Rattle.build.specs.Post.{Topped}
 use Rattle.build.specs.declared.cursor.Cursor.{Cursor}
 use Rattle.build.specs.declared.cursor.Step.{Step}
-use Rattle.waiting.specs.Waiting.{Waiting, operation, part, choice, Choice, all-words, Whole, Comes-all, Ends, Awaits}
+use Rattle.waiting.specs.Waiting.{Waiting, operation, part, choice, Choice, is-operation, all-words, Whole, Comes-all, Ends, Awaits}
 use Rattle.waiting.specs.Post.{word, start-of, LastPartFits, PartAt, Otherwise, Goes}
 use Rattle.waiting.specs.declared.Next.{Next}
 use Rattle.waiting.specs.declared.Spot.{Spot}
+use Rattle.waiting.proofs.Shared.{never}
 use Rattle.waiting.proofs.Cuts.{held-word, held-kind, held-next, held-below, held-some, held-none}
 use Rattle.waiting.proofs.Links.{starts-from}
-
--- what is next, by its cases
-next-read : {n t : Spot} → Next.Read n ≡ Next.Read t → n ≡ t
-next-read e = cc
-
-next-ended : {c d : Cursor} → Next.Ended c ≡ Next.Ended d → c ≡ d
-next-ended e = cc
-
-next-fail : {p q : Cause} → Next.Fail p ≡ Next.Fail q → p ≡ q
-next-fail e = cc
-
-read-not-ended : {n : Spot} {d : Cursor} → Next.Read n ≡ Next.Ended d → ⊥
-read-not-ended e = let z : _≡_ {A = ℕ} 0 1 = cc in omega arith
-
-read-no-fail : {n : Spot} {p : Cause} → Next.Read n ≡ Next.Fail p → ⊥
-read-no-fail e = let z : _≡_ {A = ℕ} 0 1 = cc in omega arith
-
-ended-no-fail : {c : Cursor} {p : Cause} → Next.Ended c ≡ Next.Fail p → ⊥
-ended-no-fail e = let z : _≡_ {A = ℕ} 0 1 = cc in omega arith
 
 module _ {ks fs : List ℕ} {all : Whole} {m r s : List ℕ} {at base : ℕ} {x : Next} where
   pub goes-reads : {n : Spot} → x ≡ Next.Read n → Awaits ks fs all m r s base (n .top) (n .part) (at + 1) (start-of n) → Goes ks fs all m at r s base x
   goes-reads {n} e a =
       record {
-        reads = λ t q. subst (λ (z : Spot). Awaits ks fs all m r s base (z .top) (z .part) (at + 1) (start-of z)) (next-read (sym e ∙ q)) a;
-        ended = λ d q. absurd (read-not-ended (sym e ∙ q));
-        refused = λ p q. absurd (read-no-fail (sym e ∙ q));
+        reads = λ t q. let same : n ≡ t = cc in rw (sym same) a;
+        ended = λ d q. absurd (never (cc));
+        refused = λ p q. absurd (never (cc));
       }
 
   pub goes-ended : {c : Cursor} → x ≡ Next.Ended c → Comes-all ks fs all r s m (Step.Done c) → Goes ks fs all m at r s base x
   goes-ended {c} e a =
       record {
-        reads = λ n q. absurd (read-not-ended (sym q ∙ e));
-        ended = λ d q. subst (λ (z : Cursor). Comes-all ks fs all r s m (Step.Done z)) (next-ended (sym e ∙ q)) a;
-        refused = λ p q. absurd (ended-no-fail (sym e ∙ q));
+        reads = λ n q. absurd (never (cc));
+        ended = λ d q. let same : c ≡ d = cc in rw (sym same) a;
+        refused = λ p q. absurd (never (cc));
       }
 
   pub goes-fail : {cause : Cause} → x ≡ Next.Fail cause → Comes-all ks fs all r s m (Step.Fail cause) → Goes ks fs all m at r s base x
   goes-fail {cause} e a =
       record {
-        reads = λ n q. absurd (read-no-fail (sym q ∙ e));
-        ended = λ d q. absurd (ended-no-fail (sym q ∙ e));
-        refused = λ p q. subst (λ (z : Cause). Comes-all ks fs all r s m (Step.Fail z)) (next-fail (sym e ∙ q)) a;
+        reads = λ n q. absurd (never (cc));
+        ended = λ d q. absurd (never (cc));
+        refused = λ p q. let same : cause ≡ p = cc in rw (sym same) a;
       }
 
 -- the place by an equation
@@ -84,23 +66,33 @@ pub record Finishing (ks r₀ : List ℕ) (d : Cursor) (waiting base : ℕ) (r :
 pub finishing-starts : {ks r : List ℕ} {d : Cursor} {waiting base : ℕ} → Finishing ks r d waiting base r d waiting
 finishing-starts = record { long = refl; place = refl; goes = λ fs all m s ws p. record { ws = ws; at = p } }
 
-no-operator : _≡_ {A = Bool} true false → ⊥
-no-operator e = let z : _≡_ {A = ℕ} 0 1 = cc in omega arith
+-- the innermost, by its kind: it lacks its last part only, or is a Conditional before its `:`
+data First (ks fs : List ℕ) (all : Whole) (m r s : List ℕ) (c : Cursor) (top base kind : ℕ) : Type 0 where
+  a-part : (kind′ mark first kids from : ℕ) (i : is-operation kind′ ≡ false) (j : kind′ ≡ Choice → ⊥) (ws : List Waiting)
+      → PartAt ks fs all m (part kind′ mark first kids from i j ∷ ws) r s c top base → (kind ≡ Choice → ⊥) → First ks fs all m r s c top base kind
+  a-choice : (mark first from : ℕ) (ws : List Waiting) → PartAt ks fs all m (choice mark first from ∷ ws) r s c top base → kind ≡ Choice → First ks fs all m r s c top base kind
 
 module _ {ks fs : List ℕ} {all : Whole} {m r s : List ℕ} {c : Cursor} {top base : ℕ} where
   -- its room
   pub parts-inside : Parts ks fs all m r s c top base → top < base → 6 * top + 6 ≤ length r
   parts-inside p lt = let h = p .at .held .room in omega arith
 
+  innermost : Parts ks fs all m r s c top base → top < base → {kind : ℕ} → kind ≡ getD r (6 * top) 0 → First ks fs all m r s c top base kind
+  innermost p lt {kind} k = go (p .ws) (p .at)
+    where
+      go : (ws : List Waiting) → PartAt ks fs all m ws r s c top base → First ks fs all m r s c top base kind
+      go [] a = absurd (held-some (a .held) lt)
+      go (operation mark first left from ∷ ws) a = let e = a .no-operand in absurd (never (cc))
+      go (part kind′ mark first kids from i j ∷ ws) a = a-part kind′ mark first kids from i j ws a (λ e. j (sym (held-kind (a .held)) ∙ sym k ∙ e))
+      go (choice mark first from ∷ ws) a = a-choice mark first from ws a (k ∙ held-kind (a .held))
+
   pub parts-fit : Parts ks fs all m r s c top base → top < base → {kind : ℕ} → kind ≡ getD r (6 * top) 0 → (kind ≡ Choice → ⊥) → LastPartFits r c top
   unfolding Ends
-  parts-fit p lt {kind} k other = go (p .ws) (p .at)
+  parts-fit p lt {kind} k other = go (innermost p lt k)
     where
-      go : (ws : List Waiting) → PartAt ks fs all m ws r s c top base → LastPartFits r c top
-      go [] a = absurd (held-some (a .held) lt)
-      go (operation mark first left from ∷ ws) a = absurd (no-operator (a .no-operand))
-      go (choice mark first from ∷ ws) a = absurd (other (k ∙ held-kind (a .held)))
-      go (part kind′ mark first kids from _ _ ∷ ws) a =
+      go : First ks fs all m r s c top base kind → LastPartFits r c top
+      go (a-choice mark first from ws a e) = absurd (other e)
+      go (a-part kind′ mark first kids from i j ws a _) =
           let h = a .held in
           let e = a .ends .fits in
           let rows = h .rows in
@@ -120,13 +112,11 @@ module _ {ks fs : List ℕ} {all : Whole} {m r s : List ℕ} {c : Cursor} {top b
   pub parts-made : Parts ks fs all m r s c top base → top < base → {kind : ℕ} → kind ≡ getD r (6 * top) 0 → (kind ≡ Choice → ⊥) → {r′ : List ℕ} {u : Cursor}
       → Topped r c (getD r (6 * top) 0) (word r top 1) (word r top 2) (c .at) (word r top 4) (word r top 5) r′ u → length r′ ≡ length r → Parts ks fs all m r′ s u (top + 1) base
   unfolding Ends
-  parts-made p lt {kind} k other {r′} {u} t long = go (p .ws) (p .at)
+  parts-made p lt {kind} k other {r′} {u} t long = go (innermost p lt k)
     where
-      go : (ws : List Waiting) → PartAt ks fs all m ws r s c top base → Parts ks fs all m r′ s u (top + 1) base
-      go [] a = absurd (held-some (a .held) lt)
-      go (operation mark first left from ∷ ws) a = absurd (no-operator (a .no-operand))
-      go (choice mark first from ∷ ws) a = absurd (other (k ∙ held-kind (a .held)))
-      go (part kind′ mark first kids from i j ∷ ws) a =
+      go : First ks fs all m r s c top base kind → Parts ks fs all m r′ s u (top + 1) base
+      go (a-choice mark first from ws a e) = absurd (other e)
+      go (a-part kind′ mark first kids from i j ws a _) =
           let h = a .held in
           let e = a .ends in
           let rows = h .rows in
@@ -152,18 +142,16 @@ module _ {ks fs : List ℕ} {all : Whole} {m r s : List ℕ} {c : Cursor} {top b
   -- a Conditional waits for its `:`
   pub parts-choice-place : Parts ks fs all m r s c top base → top < base → {kind : ℕ} → kind ≡ getD r (6 * top) 0 → kind ≡ Choice → c .at ≤ 2048
   unfolding Ends
-  parts-choice-place p lt {kind} k is-choice = go (p .ws) (p .at)
+  parts-choice-place p lt {kind} k is-choice = go (innermost p lt k)
     where
-      go : (ws : List Waiting) → PartAt ks fs all m ws r s c top base → c .at ≤ 2048
-      go [] a = absurd (held-some (a .held) lt)
-      go (operation mark first left from ∷ ws) a = absurd (no-operator (a .no-operand))
-      go (part kind′ mark first kids from _ z ∷ ws) a = absurd (z (sym (held-kind (a .held)) ∙ sym k ∙ is-choice))
-      go (choice mark first from ∷ ws) a = omega (arith, a .ends .spare)
+      go : First ks fs all m r s c top base kind → c .at ≤ 2048
+      go (a-part _ _ _ _ _ _ _ ws a other) = absurd (other is-choice)
+      go (a-choice mark first from ws a e) = omega (arith, a .ends .spare)
 
   pub parts-choice : Parts ks fs all m r s c top base → top < base → {kind : ℕ} → kind ≡ getD r (6 * top) 0 → kind ≡ Choice → {r′ : List ℕ} {x : Next} → Otherwise ks r c top r′ x
       → length r′ ≡ length r → Dec (getD ks (c .at) 0 ≡ Colon) → Goes ks fs all m (c .at) r′ s base x
   unfolding Ends all-words
-  parts-choice p lt {kind} k is-choice {r′} {x} o long colon = go (p .ws) (p .at)
+  parts-choice p lt {kind} k is-choice {r′} {x} o long colon = go (innermost p lt k) colon
     where
       at-colon : (mark first from : ℕ) (ws : List Waiting) → PartAt ks fs all m (choice mark first from ∷ ws) r s c top base → getD ks (c .at) 0 ≡ Colon → Goes ks fs all m (c .at) r′ s base x
       at-colon mark first from ws a e =
@@ -198,12 +186,7 @@ module _ {ks fs : List ℕ} {all : Whole} {m r s : List ℕ} {c : Cursor} {top b
             starts = starts-from (ap (take (6 * c .rows)) (q .set .text) ∙ take-set-le (6 * c .rows) r (6 * top) Row.Conditional (omega (arith, spare, stands, rows))) (a .ends .colon e);
           }
 
-      go : (ws : List Waiting) → PartAt ks fs all m ws r s c top base → Goes ks fs all m (c .at) r′ s base x
-      go [] a = absurd (held-some (a .held) lt)
-      go (operation mark first left from ∷ ws) a = absurd (no-operator (a .no-operand))
-      go (part kind′ mark first kids from _ z ∷ ws) a = absurd (z (sym (held-kind (a .held)) ∙ sym k ∙ is-choice))
-      go (choice mark first from ∷ ws) a = by colon
-        where
-          by : Dec (getD ks (c .at) 0 ≡ Colon) → Goes ks fs all m (c .at) r′ s base x
-          by (yes e) = at-colon mark first from ws a e
-          by (no e) = let q = o .no-colon e in goes-fail (q .gives) (rw (q .same) (a .ends .no-colon e))
+      go : First ks fs all m r s c top base kind → Dec (getD ks (c .at) 0 ≡ Colon) → Goes ks fs all m (c .at) r′ s base x
+      go (a-part _ _ _ _ _ _ _ ws a other) _ = absurd (other is-choice)
+      go (a-choice mark first from ws a _) (yes e) = at-colon mark first from ws a e
+      go (a-choice mark first from ws a _) (no e) = let q = o .no-colon e in goes-fail (q .gives) (rw (q .same) (a .ends .no-colon e))

@@ -23,6 +23,7 @@ use Rattle.heads.specs.Heads.{is-pass, way-at, way-of, arrow-kind}
 use Rattle.heads.specs.declared.Way.{Way}
 use Rattle.build.proofs.Ends.{is-fail, moved}
 use Rattle.heads.specs.declared.Head.{Head}
+use Rattle.waiting.proofs.Shared.{never}
 use Rattle.waiting.proofs.Assign.{Past, headed, head-fits, assign-arrows, assign-fails}
 use Rattle.waiting.proofs.Value.{async-stands, value-asyncs, value-refuses}
 use Rattle.waiting.proofs.Binary.{binary-grouped, binary-refuses}
@@ -37,12 +38,9 @@ use Rattle.waiting.proofs.Links.{room-below}
 use Rattle.waiting.proofs.Parts.{goes-fail}
 use Rattle.waiting.proofs.Groups.{body-awaits}
 
-never : _≡_ {A = Bool} true false → ⊥
-never e = let z : _≡_ {A = ℕ} 0 1 = cc in omega arith
-
 is-true : (b : Bool) → not b ≡ false → b ≡ true
 is-true true e = refl
-is-true false e = let z : _≡_ {A = ℕ} 0 1 = cc in absurd (omega arith)
+is-true false e = absurd (never (cc))
 
 -- where the whole begins
 abbrev pub whole-of : List ℕ → List ℕ → List ℕ → Cursor → Whole
@@ -198,51 +196,29 @@ module _ {ks fs : List ℕ} {all : Whole} {m₀ r₀ s₀ : List ℕ} {base top 
           }
 
 -- THE WAYS OUT OF `start`
-same-opened : {c d : Cursor} {h k : Head} → Start.Opened c h ≡ Start.Opened d k → c ≡ d
-same-opened e = cc
-
-same-head : {c d : Cursor} {h k : Head} → Start.Opened c h ≡ Start.Opened d k → h ≡ k
-same-head e = cc
-
-same-operand : {c d : Cursor} → Start.Operand c ≡ Start.Operand d → c ≡ d
-same-operand e = cc
-
-same-fail : {p q : Cause} → Start.Fail p ≡ Start.Fail q → p ≡ q
-same-fail e = cc
-
-opened-no-operand : {c d : Cursor} {h : Head} → Start.Opened c h ≡ Start.Operand d → ⊥
-opened-no-operand e = let z : _≡_ {A = ℕ} 0 1 = cc in omega arith
-
-opened-no-fail : {c : Cursor} {h : Head} {p : Cause} → Start.Opened c h ≡ Start.Fail p → ⊥
-opened-no-fail e = let z : _≡_ {A = ℕ} 0 1 = cc in omega arith
-
-operand-no-fail : {c : Cursor} {p : Cause} → Start.Operand c ≡ Start.Fail p → ⊥
-operand-no-fail e = let z : _≡_ {A = ℕ} 0 1 = cc in omega arith
-
 module _ {ks fs r₀ s₀ m₀ r s m : List ℕ} {part : Bool} {at n k : ℕ} where
   is-opened : {d : Cursor} {h : Head} → OpenedTo ks fs r₀ s₀ m₀ r s m part at n k d h → MetStart ks fs r₀ s₀ m₀ r s m part at n k (Start.Opened d h)
   is-opened {d} {h} o =
       record {
-        opened-to = λ c j e.
-            subst (λ (z : Cursor). OpenedTo ks fs r₀ s₀ m₀ r s m part at n k z j) (same-opened e) (subst (λ (z : Head). OpenedTo ks fs r₀ s₀ m₀ r s m part at n k d z) (same-head e) o);
-        operand-to = λ c e. absurd (opened-no-operand e);
-        fail-at = λ p e. absurd (opened-no-fail e);
+        opened-to = λ c j e. let at : d ≡ c = cc in let head : h ≡ j = cc in rw (sym at, sym head) o;
+        operand-to = λ c e. absurd (never (cc));
+        fail-at = λ p e. absurd (never (cc));
       }
 
   is-operand : {d : Cursor} → OperandTo ks fs r₀ s₀ m₀ r s m part at n k d → MetStart ks fs r₀ s₀ m₀ r s m part at n k (Start.Operand d)
   is-operand {d} o =
       record {
-        opened-to = λ c j e. absurd (opened-no-operand (sym e));
-        operand-to = λ c e. subst (λ (z : Cursor). OperandTo ks fs r₀ s₀ m₀ r s m part at n k z) (same-operand e) o;
-        fail-at = λ p e. absurd (operand-no-fail e);
+        opened-to = λ c j e. absurd (never (cc));
+        operand-to = λ c e. let at : d ≡ c = cc in rw (sym at) o;
+        fail-at = λ p e. absurd (never (cc));
       }
 
   is-refused : {cause : Cause} → Refused ks fs r₀ s₀ m₀ r s m (if part then assignment at else unary at) n k cause → MetStart ks fs r₀ s₀ m₀ r s m part at n k (Start.Fail cause)
   is-refused {cause} f =
       record {
-        opened-to = λ c j e. absurd (opened-no-fail (sym e));
-        operand-to = λ c e. absurd (operand-no-fail (sym e));
-        fail-at = λ p e. subst (λ (z : Cause). Refused ks fs r₀ s₀ m₀ r s m (if part then assignment at else unary at) n k z) (same-fail e) f;
+        opened-to = λ c j e. absurd (never (cc));
+        operand-to = λ c e. absurd (never (cc));
+        fail-at = λ p e. let same : cause ≡ p = cc in rw (sym same) f;
       }
 
 -- arrows are no operators
@@ -334,9 +310,9 @@ module _ {ks fs r₀ s₀ m₀ r₁ s₁ m₁ : List ℕ} {part : Bool} {k : ℕ
         same = h ∙ past .same;
         plain = λ z. sym i ∙ j;
         past = λ z r s m x a. past .goes r s m x (rw (sym e, sym f, sym g, past .same) a);
-        rows-same = λ z. absurd (never (sym p ∙ z));
-        records-same = λ z. absurd (never (sym p ∙ z));
-        notes-same = λ z. absurd (never (sym p ∙ z));
+        rows-same = λ z. absurd (never (cc));
+        records-same = λ z. absurd (never (cc));
+        notes-same = λ z. absurd (never (cc));
       }
 
   pub passed-operand : part ≡ false → r₁ ≡ r₀ → s₁ ≡ s₀ → m₁ ≡ m₀ → k ≡ c .records → Passed ks fs r₀ s₀ m₀ r₁ s₁ m₁ part k c
@@ -345,8 +321,8 @@ module _ {ks fs r₀ s₀ m₀ r₁ s₁ m₁ : List ℕ} {part : Bool} {k : ℕ
         long = ap length e;
         deep = ap length f;
         same = h;
-        plain = λ z. absurd (never (sym z ∙ p));
-        past = λ z. absurd (never (sym z ∙ p));
+        plain = λ z. absurd (never (cc));
+        past = λ z. absurd (never (cc));
         rows-same = λ z. e;
         records-same = λ z. f;
         notes-same = λ z. g;

@@ -23,20 +23,11 @@ use Rattle.heads.specs.declared.Head.{Head}
 use Rattle.build.specs.Operation.{Finished}
 use Rattle.waiting.specs.Waiting.{kind-for, Breaks, is-operation}
 use Rattle.waiting.specs.Post.{word, spot, end-of, ends-operand, FinishedOperation, WaitsOperand, WaitsRight, WaitsBody, Otherwise, opens-body, operand-of, Followed, AfterStart}
+use Rattle.waiting.proofs.Shared.{never}
 use Rattle.waiting.specs.declared.Group.{Group}
 use Rattle.waiting.specs.declared.Next.{Next}
 use Rattle.waiting.specs.declared.Spot.{Spot}
 use Rattle.waiting.specs.declared.Start.{Start}
-
--- what a conversion gives, by cases
-refused-once : {p q : Cause} → Conversion.Refused p ≡ Conversion.Refused q → p ≡ q
-refused-once e = cc
-
-turned-once : {p q : ℕ} → Conversion.Turned p ≡ Conversion.Turned q → p ≡ q
-turned-once e = cc
-
-refused-not-turned : {p : Cause} {n : ℕ} → Conversion.Refused p ≡ Conversion.Turned n → ⊥
-refused-not-turned e = let z : _≡_ {A = ℕ} 0 1 = cc in omega arith
 
 -- `ends_operand`
 module _ (r : List ℕ) (top base level : ℕ) {b : Bool} (lt : top < base) (i : b ≡ is-operation (getD r (6 * top) 0)) where
@@ -100,8 +91,8 @@ module _ (ks r s : List ℕ) (g : Group) {y root : ℕ} (k : y ≡ getD ks (g .a
         long = e;
         turned = z;
         converted = converted;
-        refused = λ p w. record { gives = ap Next.Fail (refused-once (sym q ∙ w)); text = refl };
-        waits = λ p w. absurd (refused-not-turned (sym q ∙ w));
+        refused = λ p w. let same : cause ≡ p = cc in record { gives = ap Next.Fail same; text = refl };
+        waits = λ p w. absurd (never (cc));
       }
 
   pub right-goes : {kind count : ℕ} {r′ : List ℕ} → z ≡ Conversion.Turned count → kind ≡ kind-for (y is Eq) → Pushed (low ++ drop (6 * g .top) r) (g .top - 1) kind (g .at) (g .first) 0 2 (g .from) r′
@@ -112,56 +103,34 @@ module _ (ks r s : List ℕ) (g : Group) {y root : ℕ} (k : y ≡ getD ks (g .a
         long = e;
         turned = z;
         converted = converted;
-        refused = λ c w. absurd (refused-not-turned (sym w ∙ q));
+        refused = λ c w. absurd (never (cc));
         waits = λ c w.
-            let same : count ≡ c = turned-once (sym q ∙ w) in
+            let same : count ≡ c = cc in
             record { gives = ap (λ (x : ℕ). Next.Read (spot (cursor (g .at + 1) (g .rows) (g .records + x)) (g .top - 1) true)) same; pushed = rw (sym k) (subst (λ (x : ℕ). Pushed (low ++ drop (6 * g .top) r) (g .top - 1) x (g .at) (g .first) 0 2 (g .from) r′) i p) };
       }
 
 -- `after_start`
-opened-once : {c d : Cursor} {h k : Head} → Start.Opened c h ≡ Start.Opened d k → c ≡ d
-opened-once e = cc
-
-head-once : {c d : Cursor} {h k : Head} → Start.Opened c h ≡ Start.Opened d k → h ≡ k
-head-once e = cc
-
-operand-once : {c d : Cursor} → Start.Operand c ≡ Start.Operand d → c ≡ d
-operand-once e = cc
-
-cause-once : {p q : Cause} → Start.Fail p ≡ Start.Fail q → p ≡ q
-cause-once e = cc
-
-opened-not-operand : {c d : Cursor} {h : Head} → Start.Opened c h ≡ Start.Operand d → ⊥
-opened-not-operand e = let z : _≡_ {A = ℕ} 0 1 = cc in omega arith
-
-opened-not-failed : {c : Cursor} {h : Head} {p : Cause} → Start.Opened c h ≡ Start.Fail p → ⊥
-opened-not-failed e = let z : _≡_ {A = ℕ} 0 1 = cc in omega arith
-
-operand-not-failed : {c : Cursor} {p : Cause} → Start.Operand c ≡ Start.Fail p → ⊥
-operand-not-failed e = let z : _≡_ {A = ℕ} 0 1 = cc in omega arith
-
 module _ {ks fs r s : List ℕ} {got : Start} {n : Spot} {base : ℕ} {r′ s′ : List ℕ} {x : Next} where
   pub after-fail : {cause : Cause} → got ≡ Start.Fail cause → x ≡ Next.Fail cause → r′ ≡ r → s′ ≡ s → AfterStart ks fs r s got n base r′ s′ x
-  after-fail e g i j =
+  after-fail {cause} e g i j =
       record {
-        failed = λ c q. record { gives = g ∙ ap Next.Fail (cause-once (sym e ∙ q)); rows-same = i; records-same = j };
-        opened = λ d h q. absurd (opened-not-failed (sym q ∙ e));
-        operand = λ d q. absurd (operand-not-failed (sym q ∙ e));
+        failed = λ c q. let same : cause ≡ c = cc in record { gives = g ∙ ap Next.Fail same; rows-same = i; records-same = j };
+        opened = λ d h q. absurd (never (cc));
+        operand = λ d q. absurd (never (cc));
       }
 
   pub after-opened : {d : Cursor} {h : Head} → got ≡ Start.Opened d h → WaitsBody ks fs r s d h (n .top) r′ s′ x → AfterStart ks fs r s got n base r′ s′ x
   after-opened {d} {h} e w =
       record {
-        failed = λ c q. absurd (opened-not-failed (sym e ∙ q));
-        opened = λ c j q.
-            subst (λ (z : Cursor). WaitsBody ks fs r s z j (n .top) r′ s′ x) (opened-once (sym e ∙ q)) (subst (λ (z : Head). WaitsBody ks fs r s d z (n .top) r′ s′ x) (head-once (sym e ∙ q)) w);
-        operand = λ c q. absurd (opened-not-operand (sym e ∙ q));
+        failed = λ c q. absurd (never (cc));
+        opened = λ c j q. let at : d ≡ c = cc in let head : h ≡ j = cc in rw (sym at, sym head) w;
+        operand = λ c q. absurd (never (cc));
       }
 
   pub after-operand : {d : Cursor} → got ≡ Start.Operand d → Followed ks fs r s (operand-of d n) base r′ s′ x → AfterStart ks fs r s got n base r′ s′ x
-  after-operand e w =
+  after-operand {d} e w =
       record {
-        failed = λ c q. absurd (operand-not-failed (sym e ∙ q));
-        opened = λ c j q. absurd (opened-not-operand (sym q ∙ e));
-        operand = λ c q. subst (λ (z : Cursor). Followed ks fs r s (operand-of z n) base r′ s′ x) (operand-once (sym e ∙ q)) w;
+        failed = λ c q. absurd (never (cc));
+        opened = λ c j q. absurd (never (cc));
+        operand = λ c q. let at : d ≡ c = cc in rw (sym at) w;
       }
