@@ -24,8 +24,7 @@ use Rattle.build.specs.declared.cursor.Cursor.{Cursor}
 use Rattle.heads.specs.declared.Head.{Head}
 use Rattle.build.specs.Operation.{Finished}
 use Rattle.waiting.specs.Waiting.{kind-for, Waiting, operation, part, choice, Choice, is-operation, awaits-operand, floor-of, Whole, Held, Spare, Opens, Linked, Ends}
-use Rattle.waiting.proofs.Binary.{operator-stands}
-use Rattle.waiting.proofs.Value as Value
+use Rattle.waiting.proofs.Value.{operator-stands, assignment-stands}
 use Rattle.waiting.specs.Post.{word, end-of, ends-operand, OperationFits, FinishedOperation, WaitFits, WaitsOperand, WaitsChoice, WaitsRight, WaitsBody, opens-body, NameBody, Goes, PartAt, GroupAt}
 use Rattle.waiting.specs.declared.Group.{Group}
 use Rattle.waiting.specs.declared.Next.{Next}
@@ -207,7 +206,7 @@ module _ {ks fs : List ℕ} {all : Whole} {m : List ℕ} {r s : List ℕ} {g : G
 
       module _ {b : Bool} (o : b ≡ is-assignment-operator (getD ks (g .at) 0)) (e : b ≡ true) where
         pub right-operand : Operand ks (take (6 * g .top) r) (end-of g) (g .first) (g .from)
-        right-operand = operand (a .held .rows) low-link i refl refl none low-wide (Value.operator-stands ks (g .at) refl o e)
+        right-operand = operand (a .held .rows) low-link i refl refl none low-wide (assignment-stands ks (g .at) refl o e)
 
         pub right-awaits : {r′ s′ : List ℕ} {x : Next} → WaitsRight ks r s g r′ s′ x → length r′ ≡ length r → length s′ ≡ length s → Goes ks fs all m (g .at) r′ s′ base x
         right-awaits {r′} {s′} {x} w long deep = by (w .turned) refl
@@ -216,7 +215,7 @@ module _ {ks fs : List ℕ} {all : Whole} {m : List ℕ} {r s : List ℕ} {g : G
             root = omega (arith, group-some)
 
             stands : g .at < length ks
-            stands = Value.operator-stands ks (g .at) refl o e
+            stands = assignment-stands ks (g .at) refl o e
 
             by : (z : Conversion) → w .turned ≡ z → Goes ks fs all m (g .at) r′ s′ base x
             by (Conversion.Refused cause) q =

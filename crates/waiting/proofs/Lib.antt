@@ -1,8 +1,4 @@
 pub mod Assign
-pub mod Assigned
-pub mod Binary
-pub mod Body
-pub mod Choice
 pub mod Root
 pub mod Shared
 pub mod Value

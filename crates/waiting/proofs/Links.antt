@@ -11,27 +11,22 @@ use Rattle.tokens.specs.Kind.{Eq, Arrow, Question}
 use Rattle.tokens.specs.declared.cause.Cause.{Cause}
 use Rattle.tokens.proofs.Stands.{stands-not}
 use Rattle.operators.specs.Precedence.{expression-level}
-use Rattle.rows.specs.Tree.{one}
 use Rattle.rows.specs.Row as Row
 use Rattle.rows.specs.Post.{Word}
-use Rattle.grammar.specs.Job.{Job, assignment, value, binary, assign, conditional, body}
+use Rattle.grammar.specs.Job.{Job, assignment, value, binary, assign, conditional}
 use Rattle.grammar.specs.Assignment.{is-assignment-operator}
 use Rattle.grammar.specs.Binary.{right-floor}
 use Rattle.roles.specs.Meaning as means
 use Rattle.targets.specs.Post as Targets
 use Rattle.targets.specs.declared.Conversion.{Conversion}
-use Rattle.build.specs.Post.{cursor, Room, Met, MetOver, Leafed, Operand, HeadFits}
+use Rattle.build.specs.Post.{cursor, Room, Met, Leafed, Operand, HeadFits}
 use Rattle.build.specs.declared.cursor.Cursor.{Cursor}
 use Rattle.build.specs.declared.cursor.Step.{Step}
 use Rattle.build.proofs.Ends.{moved}
 use Rattle.heads.specs.declared.Head.{Head}
-use Rattle.waiting.proofs.Binary.{operator-stands, operand-rows, binary-ends, binary-stops, binary-operates}
 use Rattle.waiting.specs.Waiting.{Grouped, kind-for, Breaks, Waiting, operation, part, choice, is-operation, Choice, awaits-operand, floor-of, begun, Whole, Spare, Comes-all, Outcome, Starts, Opens, Linked, Ends}
-use Rattle.waiting.proofs.Value as Value
-use Rattle.waiting.proofs.Value.{value-refuses, value-operand, value-choices, value-ends, value-stays, value-assigned, value-arrows}
-use Rattle.waiting.proofs.Choice.{choice-fails, choice-opens, choice-fails-after, choice-done}
-use Rattle.waiting.proofs.Assigned.{assigned-few, assigned-refuses, assigned-fails, assigned-done}
-use Rattle.waiting.proofs.Body.{body-curlies, body-refused, body-dones}
+use Rattle.waiting.proofs.Shared.{never}
+use Rattle.waiting.proofs.Value.{assignment-stands, operand-rows, binary-ends, binary-stops, binary-operates, value-refuses, value-operand, value-choices, value-ends, value-stays, value-assigned, value-arrows, choice-fails, choice-opens, choice-fails-after, choice-done, assigned-few, assigned-refuses, assigned-fails, assigned-done, body-curlies, body-refused, body-dones}
 use Rattle.waiting.proofs.Cuts.{met-from, met-wider, grown-inside}
 
 -- room in words for what is read below the rows that wait
@@ -47,7 +42,7 @@ begun-value ks ws first e = rw e
 
 floor-none : (ks : List ℕ) (ws : List Waiting) → awaits-operand ws ≡ false → floor-of ks ws ≡ 0
 floor-none ks [] e = refl
-floor-none ks (operation mark first left from ∷ ws) e = let z : _≡_ {A = ℕ} 0 1 = cc in absurd (omega arith)
+floor-none ks (operation mark first left from ∷ ws) e = absurd (never (cc))
 floor-none ks (part kind mark first kids from _ _ ∷ ws) e = refl
 floor-none ks (choice mark first from ∷ ws) e = refl
 
@@ -162,7 +157,7 @@ module _ {ks fs : List ℕ} {all : Whole} {base : ℕ} {ws : List Waiting} {top 
   -- THE ASSIGNMENT LEVEL PAST A HEAD: no operator waits, and none follows the group
   module _ {operator above : ℕ} (i : awaits-operand ws ≡ false) (t : operator ≡ getD ks (u .at) 0) (v : above ≡ expression-level operator) (none : above ≡ 0) (wide : 6 * top ≤ length r) where
     -- the binary level ends here
-    level : Met ks fs (l .rows₀) (l .records₀) (l .notes₀) r s m (binary 0 first) from (l .said₀) (Step.Done u)
+    pub level : Met ks fs (l .rows₀) (l .records₀) (l .notes₀) r s m (binary 0 first) from (l .said₀) (Step.Done u)
     level =
         subst (λ (n : ℕ). Met ks fs (l .rows₀) (l .records₀) (l .notes₀) r s m (binary n first) from (l .said₀) (Step.Done u)) (floor-none ks ws i)
         (binary-ends (l .grouped) t v (omega (arith, none)))
@@ -172,7 +167,7 @@ module _ {ks fs : List ℕ} {all : Whole} {base : ℕ} {ws : List Waiting} {top 
     valued long a = as-begun (begun-value ks ws first i) long a
 
     -- the group, as an operand of what follows it
-    pub operand : u .at < length ks → Operand ks r u first from
+    abbrev pub operand : u .at < length ks → Operand ks r u first from
     operand next = value-operand here refl (l .plain i) level refl t next
 
     group-room : Room ks r s u
@@ -198,7 +193,7 @@ module _ {ks fs : List ℕ} {all : Whole} {base : ℕ} {ws : List Waiting} {top 
       unfolding is-assignment-operator
       no-assignment = rw q
 
-      chosen : {r′ s′ m′ : List ℕ} {x : Step} → length s′ ≡ length s → MetOver ks fs r s m r′ s′ m′ (conditional first (u .at)) from (u .rows) (u .records) x
+      chosen : {r′ s′ m′ : List ℕ} {x : Step} → length s′ ≡ length s → Met ks fs r s m r′ s′ m′ (conditional first (u .at) (operand next .left)) from (u .records) x
           → Outcome ks fs all (Ends ks fs all base ws) r′ s′ m′ x
       chosen long a = valued long (value-choices here refl (l .plain i) level refl t no-arrow refl no-assignment q a)
 
@@ -252,23 +247,22 @@ module _ {ks fs : List ℕ} {all : Whole} {base : ℕ} {ws : List Waiting} {top 
     module _ {b : Bool} (o : b ≡ is-assignment-operator operator) (e : b ≡ true) {root : ℕ} (n : u .rows ≡ root + 1) {r₁ s₁ : List ℕ} {z : Conversion}
         (h : Targets.RowConverted r s root (means.aim (not (operator is Eq))) (u .records) r₁ s₁ z) (deep₁ : length s₁ ≡ length s) where
       equals : u .at < length ks
-      equals = Value.operator-stands ks (u .at) t o e
+      equals = assignment-stands ks (u .at) t o e
 
       no-body : operator ≡ Arrow → ⊥
       no-body q = let y : _≡_ {A = Bool} true false = sym e ∙ o ∙ no-assignment-arrow q in let x : _≡_ {A = ℕ} 0 1 = cc in omega arith
 
-      over : Operand ks r u first from
+      abbrev over : Operand ks r u first from
       over = operand equals
 
-      assigned : {r′ s′ m′ : List ℕ} {x : Step} → length s′ ≡ length s → MetOver ks fs r s m r′ s′ m′ (assign first (u .at)) from (u .rows) (u .records) x
+      assigned : {r′ s′ m′ : List ℕ} {x : Step} → length s′ ≡ length s → Met ks fs r s m r′ s′ m′ (assign first (u .at) (over .left)) from (u .records) x
           → Outcome ks fs all (Ends ks fs all base ws) r′ s′ m′ x
       assigned long a = valued long (value-assigned here refl (l .plain i) level refl t no-body o e a)
 
       pub right-refused : (after : List ℕ) → 6 * u .rows ≤ length r₁ → {cause : Cause} → z ≡ Conversion.Refused cause → Comes-all ks fs all (r₁ ++ after) s₁ m (Step.Fail cause)
       right-refused after tall q =
-          let a = assigned-refuses group-room over t n h q in
           let g = l .grouped in
-          assigned deep₁ record { over-one = λ left stands. met-wider (omega (arith, wide, linked-spare, g)) after (omega (arith, tall, g)) (a .over-one left stands) } .refused _ refl
+          assigned deep₁ (met-wider (omega (arith, wide, linked-spare, g)) after (omega (arith, tall, g)) (assigned-refuses group-room over t n h q)) .refused _ refl
 
       module _ {counted : ℕ} (q : z ≡ Conversion.Turned counted) where
         pub right-spare : Spare ks s₁ (top - 1) (cursor (u .at + 1) (u .rows) (u .records + counted))

@@ -25,8 +25,7 @@ use Rattle.build.proofs.Ends.{is-fail, moved}
 use Rattle.heads.specs.declared.Head.{Head}
 use Rattle.waiting.proofs.Shared.{never}
 use Rattle.waiting.proofs.Assign.{Past, headed, head-fits, assign-arrows, assign-fails}
-use Rattle.waiting.proofs.Value.{async-stands, value-asyncs, value-refuses}
-use Rattle.waiting.proofs.Binary.{binary-grouped, binary-refuses}
+use Rattle.waiting.proofs.Value.{binary-grouped, binary-refuses, async-stands, value-asyncs, value-refuses}
 use Rattle.waiting.specs.Waiting.{Choice, is-operation, floor-of, begun, Whole, all-words, Spare, Comes-all, Outcome, Starts, Opens, Ends, Awaits}
 use Rattle.waiting.specs.Post.{spot, start-of, GroupAt, BodyFits, WaitsBody, Goes, StartFits, AfterStart}
 use Rattle.waiting.specs.Start.{OpenedTo, OperandTo, MetStart}
