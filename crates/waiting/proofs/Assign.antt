@@ -70,15 +70,11 @@ pub headed : {ks fs r₀ s₀ m₀ r s m : List ℕ} {at n k kids : ℕ} {y : Li
 headed a q =
     let g = a .list-to _ _ q in
     let b = bounded (g .comes .settles) in
-    let u = g .made .grown .used in
-    let v = g .made .recorded .used in
-    let w = g .counted in
-    let z = some-rows (g .trees) in
-    record { forward = omega arith; arrow = omega arith; more = omega arith; few = omega arith; said = omega arith; kids-few = omega arith }
+    omega (arith, b, g .made .grown .used, g .made .recorded .used, g .counted, some-rows (g .trees))
 
 -- the head that was read fits its body
 pub head-fits : (ks : List ℕ) {at n k kids kind : ℕ} {d : Cursor} {h : Head} → Headed ks at n k d kids → h ≡ record { kind = kind; first = at; from = n; kids = kids } → HeadFits ks d h
-head-fits ks w e = rw e record { arrow = w .arrow; first-before = w .forward; from-before = w .more; kids-few = w .kids-few }
+head-fits ks w e = rw e (omega (arith, w))
 
 module _ {ks fs r₀ s₀ m₀ : List ℕ} {c : Cursor} where
   assign-passes : {r s m : List ℕ} {x : Step} {w : Way} → way-of w ≡ way-at ks fs m₀ (c .at) → w ≡ Way.Pass

@@ -2,7 +2,7 @@
 -- Assumes nothing.
 use Prim.Native.Nat.{ℕ, _+_, _-_, _*_, _≤_, _<_}
 use mathlib.Core.Path.{_≡_, refl, sym, ap, subst, _∙_}
-use mathlib.Core.Bool.{Bool, true, false, not}
+use mathlib.Core.Bool.{Bool, true, false}
 use mathlib.Core.List.{List, [], _∷_}
 use native.Mathlib.Omega.{arith}
 use native.Mathlib.Decide.{ℕ-discrete}
@@ -24,6 +24,7 @@ use Rattle.build.specs.declared.cursor.Cursor.{Cursor}
 use Rattle.heads.specs.declared.Head.{Head}
 use Rattle.build.specs.Operation.{Finished}
 use Rattle.waiting.specs.Waiting.{kind-for, Waiting, operation, part, choice, Choice, is-operation, awaits-operand, floor-of, Whole, Held, Spare, Opens, Linked, Ends}
+use Rattle.waiting.proofs.Shared.{never}
 use Rattle.waiting.proofs.Value.{operator-stands, assignment-stands}
 use Rattle.waiting.specs.Post.{word, end-of, ends-operand, OperationFits, FinishedOperation, WaitFits, WaitsOperand, WaitsChoice, WaitsRight, WaitsBody, opens-body, NameBody, Goes, PartAt, GroupAt}
 use Rattle.waiting.specs.declared.Group.{Group}
@@ -66,16 +67,7 @@ module _ {ks fs : List ℕ} {all : Whole} {m : List ℕ} {r s : List ℕ} {g : G
     group-wide = let e = a .held .rows in let q = a .held .room in omega arith
 
     pub group-fits : WaitFits (length r) g
-    group-fits =
-        let q = a .linked .grouped in
-        record {
-          some = omega (arith, spare, q);
-          inside = group-wide;
-          place-small = omega (arith, spare);
-          rows-small = omega (arith, spare);
-          first-small = omega (arith, spare, q);
-          from-small = omega (arith, spare, q);
-        }
+    group-fits = omega (arith, spare, a .linked .grouped, group-wide)
 
     pub group-some : 1 ≤ g .rows
     group-some = omega (arith, a .linked .grouped)
@@ -107,7 +99,7 @@ module _ {ks fs : List ℕ} {all : Whole} {m : List ℕ} {r s : List ℕ} {g : G
           waiting = operation (g .at) (g .first) (g .rows) (g .from) ∷ ws;
           held = held-waits (a .held) (omega (arith, fit .some)) (w .pushed) long refl;
           forward = omega arith;
-          spare = record { short = p .short; wide = omega (arith, p, n, fit .some); deep = p .deep; inside = omega (arith, n); few = omega (arith, p); said = omega (arith, p) };
+          spare = omega (arith, p, n, fit .some);
           operand = refl;
           starts = starts-from (pushed-kept (g .rows) (omega (arith, p, n)) (omega (arith, fit .inside)) (w .pushed)) h;
         }
@@ -123,7 +115,7 @@ module _ {ks fs : List ℕ} {all : Whole} {m : List ℕ} {r s : List ℕ} {g : G
             waiting = choice (g .at) (g .first) (g .from) ∷ ws;
             held = held-waits (a .held) (omega (arith, fit .some)) (w .pushed) long refl;
             forward = omega arith;
-            spare = record { short = p .short; wide = omega (arith, p, n, fit .some); deep = p .deep; inside = omega (arith, n); few = omega (arith, p); said = omega (arith, p) };
+            spare = omega (arith, p, n, fit .some);
             operand = refl;
             starts =
                 starts-from (pushed-kept (g .rows) (omega (arith, p, n)) (omega (arith, fit .inside)) (w .pushed))
@@ -157,16 +149,12 @@ module _ {ks fs : List ℕ} {all : Whole} {m : List ℕ} {r s : List ℕ} {g : G
           let rows = ap (λ (c : Cursor). c .rows) (w .leafed .is) in
           let records = ap (λ (c : Cursor). c .records) (w .leafed .is) in
           body-awaits ws (held-below (a .held) group-from (w .leafed .pushed) (w .long)) i
-          record { short = p .short; wide = omega (arith, p, q, rows); deep = p .deep; inside = p .inside; few = omega (arith, p, q, rows); said = omega (arith, p, records) }
-          record { arrow = n; first-before = omega (arith, q); from-before = omega (arith, rows); kids-few = omega (arith, q) } refl (λ z. omega (arith, z))
+          (omega (arith, p, q, rows, records)) (omega (arith, n, q, rows)) refl (λ z. omega (arith, z))
           (name-opens (a .held .rows) (a .linked) i refl refl none group-wide arrow record { is = refl } name (w .leafed) refl) (w .waits) (long ∙ sym (w .long))
 
       -- an assignment
       pub right-room : Room ks (take (6 * g .top) r) s (end-of g)
-      right-room =
-          let p = spare in
-          let e = length-take-le (6 * g .top) r group-wide in
-          record { short = p .short; wide = omega (arith, p, e); deep = p .deep; inside = p .inside; few = p .few; said = p .said }
+      right-room = omega (arith, spare, length-take-le (6 * g .top) r group-wide)
 
       -- the group in the part of the tree below the rows that wait
       low-link : Linked ks fs all (Ends ks fs all base ws) ws (g .top) (take (6 * g .top) r) s m (end-of g) (g .first) (g .from)
@@ -262,17 +250,14 @@ record Ends-here (r : List ℕ) (top base level : ℕ) : Type 0 where
   operator : is-operation (getD r (6 * top) 0) ≡ true
   within : level ≤ word r top 4
 
-never : _≡_ {A = Bool} true false → ⊥
-never e = let z : _≡_ {A = ℕ} 0 1 = cc in omega arith
-
 ends-here : (r : List ℕ) (top base level : ℕ) → ends-operand r top base level ≡ true → Ends-here r top base level
 ends-here r top base level e = go (ltb top base) (is-operation (getD r (6 * top) 0)) (leb level (word r top 4)) refl refl refl e
   where
     go : (a b c : Bool) → ltb top base ≡ a → is-operation (getD r (6 * top) 0) ≡ b → leb level (word r top 4) ≡ c → (if a then (if b then c else false) else false) ≡ true → Ends-here r top base level
     go true true true p q t z = record { inside = ltb-true _ _ p; operator = q; within = leb-true _ _ t }
-    go true true false p q t z = absurd (never (sym z))
-    go true false c p q t z = absurd (never (sym z))
-    go false b c p q t z = absurd (never (sym z))
+    go true true false p q t z = absurd (never (cc))
+    go true false c p q t z = absurd (never (cc))
+    go false b c p q t z = absurd (never (cc))
 
 operation-is : (ks : List ℕ) (mark : ℕ) → is-operation (operation-kind (getD ks mark 0)) ≡ true
 unfolding operation-kind
@@ -287,9 +272,6 @@ yes-ends : (ks r : List ℕ) (level : ℕ) {top base mark first left from : ℕ}
     → ends-operand r top base level ≡ true
 yes-ends ks r level {top} {base} {mark} h e =
     rw (lt-ltb top base (held-inside h)) (subst (λ (b : Bool). (if b then leb level (word r top 4) else false) ≡ true) (sym (operation-is ks mark) ∙ ap is-operation (sym (held-kind h))) e)
-
-choice-no-operation : is-operation Choice ≡ false
-choice-no-operation = refl
 
 -- the row of an operator that waits first is made
 operation-finishes : {ks fs : List ℕ} {all : Whole} {m r s : List ℕ} {g : Group} {base level : ℕ} → level ≡ expression-level (getD ks (g .at) 0) → (mark first left from : ℕ) (ws : List Waiting)
@@ -321,72 +303,73 @@ operation-finishes {ks} {fs} {all} {m} {r} {s} {g} {base} {level} v mark first l
       };
     }
 
+-- an operator waits first
+record Operator (ks fs : List ℕ) (all : Whole) (m r s : List ℕ) (g : Group) (base : ℕ) : Type 0 where
+  mark : ℕ
+  first : ℕ
+  left : ℕ
+  from : ℕ
+  ws : List Waiting
+  at : GroupAt ks fs all m (operation mark first left from ∷ ws) r s g base
+
 module _ {ks fs : List ℕ} {all : Whole} {m r s : List ℕ} {g : Group} {base : ℕ} {level : ℕ} (v : level ≡ expression-level (getD ks (g .at) 0)) where
   -- the innermost is an operator, whose right operand ends here
   module _ (p : Groups ks fs all m r s g base) {b : Bool} (b-is : b ≡ ends-operand r (g .top) base level) (b-yes : b ≡ true) where
     here : Ends-here r (g .top) base level
     here = ends-here r (g .top) base level (sym b-is ∙ b-yes)
 
+    innermost : Operator ks fs all m r s g base
+    innermost = go (p .ws) (p .at)
+      where
+        go : (ws : List Waiting) → GroupAt ks fs all m ws r s g base → Operator ks fs all m r s g base
+        go [] a = absurd (held-some (a .held) (here .inside))
+        go (part kind mark first kids from z _ ∷ ws) a = let y = sym (here .operator) ∙ ap is-operation (held-kind (a .held)) ∙ z in absurd (never (cc))
+        go (choice mark first from ∷ ws) a = let y : true ≡ false = sym (here .operator) ∙ ap is-operation (held-kind (a .held)) in absurd (never (cc))
+        go (operation mark first left from ∷ ws) a = record { mark = mark; first = first; left = left; from = from; ws = ws; at = a }
+
     pub following-inside : g .top < base
     following-inside = here .inside
 
     pub following-fits : OperationFits r s g
     unfolding Ends
-    following-fits = go (p .ws) (p .at)
-      where
-        go : (ws : List Waiting) → GroupAt ks fs all m ws r s g base → OperationFits r s g
-        go [] a = absurd (held-some (a .held) (here .inside))
-        go (part kind mark first kids from z _ ∷ ws) a = absurd (never (sym (here .operator) ∙ ap is-operation (held-kind (a .held)) ∙ z))
-        go (choice mark first from ∷ ws) a = absurd (never (sym (here .operator) ∙ ap is-operation (held-kind (a .held)) ∙ choice-no-operation))
-        go (operation mark first left from ∷ ws) a =
-            let h = a .held in
-            let e = operand-ends (h .rows) (a .linked) refl v refl (subst (λ (i : ℕ). level ≤ i) (held-word h 4) (here .within)) in
-            let rows = h .rows in
-            let room = h .room in
-            record {
-              inside = omega arith;
-              room = omega (arith, e .room, rows);
-              deep = e .deep;
-              rows-small = e .rows-small;
-              records-small = e .records-small;
-              place-small = e .place-small;
-              mark-small = rw (held-word h 1) (e .mark-small);
-              first-small = rw (held-word h 2) (e .first-small);
-              from-before = rw (held-word h 5, held-word h 3) (e .from-before);
-              left-before = rw (held-word h 3) (e .left-before);
-            }
+    following-fits =
+        let h = innermost .at .held in
+        let e = operand-ends (h .rows) (innermost .at .linked) refl v refl (subst (λ (i : ℕ). level ≤ i) (held-word h 4) (here .within)) in
+        let rows = h .rows in
+        let room = h .room in
+        record {
+          inside = omega arith;
+          room = omega (arith, e .room, rows);
+          deep = e .deep;
+          rows-small = e .rows-small;
+          records-small = e .records-small;
+          place-small = e .place-small;
+          mark-small = rw (held-word h 1) (e .mark-small);
+          first-small = rw (held-word h 2) (e .first-small);
+          from-before = rw (held-word h 5, held-word h 3) (e .from-before);
+          left-before = rw (held-word h 3) (e .left-before);
+        }
 
     pub following-made : {r′ s′ : List ℕ} {u : Group} → FinishedOperation ks r s g r′ s′ u → length r′ ≡ length r → length s′ ≡ length s → Groups ks fs all m r′ s′ u base
-    unfolding Ends
-    following-made {r′} {s′} {u} f long deep = go (p .ws) (p .at)
-      where
-        go : (ws : List Waiting) → GroupAt ks fs all m ws r s g base → Groups ks fs all m r′ s′ u base
-        go [] a = absurd (held-some (a .held) (here .inside))
-        go (part kind mark first kids from z _ ∷ ws) a = absurd (never (sym (here .operator) ∙ ap is-operation (held-kind (a .held)) ∙ z))
-        go (choice mark first from ∷ ws) a = absurd (never (sym (here .operator) ∙ ap is-operation (held-kind (a .held)) ∙ choice-no-operation))
-        go (operation mark first left from ∷ ws) a = operation-finishes v mark first left from ws a (here .within) f long deep
+    following-made f long deep =
+        let i = innermost in
+        operation-finishes v (i .mark) (i .first) (i .left) (i .from) (i .ws) (i .at) (here .within) f long deep
 
   -- it is not, or reads on
-  module _ (ws : List Waiting) (a : GroupAt ks fs all m ws r s g base) {b : Bool} (b-is : b ≡ ends-operand r (g .top) base level) (b-no : b ≡ false) where
-    pub following-floor : (level ≡ 0 → ⊥) → floor-of ks ws < level
-    following-floor some = go ws a
+  module _ {b : Bool} where
+    pub following-floor : (ws : List Waiting) → GroupAt ks fs all m ws r s g base → b ≡ ends-operand r (g .top) base level → b ≡ false → (level ≡ 0 → ⊥) → floor-of ks ws < level
+    following-floor [] a b-is b-no some = omega (arith, some)
+    following-floor (part kind mark first kids from _ _ ∷ ws) a b-is b-no some = omega (arith, some)
+    following-floor (choice mark first from ∷ ws) a b-is b-no some = omega (arith, some)
+    following-floor (operation mark first left from ∷ ws) a b-is b-no some = by (leb level (word r (g .top) 4)) refl
       where
-        go : (ws : List Waiting) → GroupAt ks fs all m ws r s g base → floor-of ks ws < level
-        go [] a = omega (arith, some)
-        go (part kind mark first kids from _ _ ∷ ws) a = omega (arith, some)
-        go (choice mark first from ∷ ws) a = omega (arith, some)
-        go (operation mark first left from ∷ ws) a = by (leb level (word r (g .top) 4)) refl
-          where
-            by : (c : Bool) → leb level (word r (g .top) 4) ≡ c → right-floor (getD ks mark 0) < level
-            by true e = absurd (never (sym (yes-ends ks r level (a .held) e) ∙ sym b-is ∙ b-no))
-            by false e = subst (λ (i : ℕ). i < level) (held-word (a .held) 4) (leb-false _ _ e)
+        by : (c : Bool) → leb level (word r (g .top) 4) ≡ c → right-floor (getD ks mark 0) < level
+        by true e = let y = yes-ends ks r level (a .held) e in absurd (never (cc))
+        by false e = subst (λ (i : ℕ). i < level) (held-word (a .held) 4) (leb-false _ _ e)
 
-    pub following-level : level ≡ 0 → awaits-operand ws ≡ false
-    following-level zero = go ws a
-      where
-        go : (ws : List Waiting) → GroupAt ks fs all m ws r s g base → awaits-operand ws ≡ false
-        go [] a = refl
-        go (part kind mark first kids from _ _ ∷ ws) a = refl
-        go (choice mark first from ∷ ws) a = refl
-        go (operation mark first left from ∷ ws) a =
-            absurd (never (sym (yes-ends ks r level (a .held) (le-leb level (word r (g .top) 4) (omega (arith, zero)))) ∙ sym b-is ∙ b-no))
+    pub following-level : (ws : List Waiting) → GroupAt ks fs all m ws r s g base → b ≡ ends-operand r (g .top) base level → b ≡ false → level ≡ 0 → awaits-operand ws ≡ false
+    following-level [] a b-is b-no zero = refl
+    following-level (part kind mark first kids from _ _ ∷ ws) a b-is b-no zero = refl
+    following-level (choice mark first from ∷ ws) a b-is b-no zero = refl
+    following-level (operation mark first left from ∷ ws) a b-is b-no zero =
+        let y = yes-ends ks r level (a .held) (le-leb level (word r (g .top) 4) (omega (arith, zero))) in absurd (never (cc))

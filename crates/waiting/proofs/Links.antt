@@ -31,7 +31,7 @@ use Rattle.waiting.proofs.Cuts.{met-from, met-wider, grown-inside}
 
 -- room in words for what is read below the rows that wait
 pub room-below : {ks r s : List ℕ} {top : ℕ} {c : Cursor} → Spare ks s top c → 6 * top ≤ length r → Room ks r s c
-room-below p h = record { short = p .short; wide = omega (arith, p); deep = p .deep; inside = p .inside; few = p .few; said = p .said }
+room-below p h = omega arith
 
 -- what began, by what it waits for
 begun-operand : (ks : List ℕ) (ws : List Waiting) (first : ℕ) → awaits-operand ws ≡ true → begun ks ws first ≡ binary (floor-of ks ws) first
@@ -78,17 +78,7 @@ module _ {ks fs : List ℕ} {all : Whole} {base : ℕ} {ws : List Waiting} {top 
 
   -- room where the group ends
   pub linked-spare : Spare ks s top u
-  linked-spare =
-      let p = l .spare in
-      let g = l .grouped in
-      record {
-        short = p .short;
-        wide = omega (arith, p, g);
-        deep = omega (arith, p, l .deep);
-        inside = omega (arith, g);
-        few = omega (arith, p, g);
-        said = omega (arith, p, g);
-      }
+  linked-spare = omega (arith, l .spare, l .grouped, l .deep)
 
   -- a refusal of the operand that was waited for, or of the binary level
   stops : {r′ s′ m′ : List ℕ} {x : Step} {cause : Cause} → length s′ ≡ length s → Met ks fs (l .rows₀) (l .records₀) (l .notes₀) r′ s′ m′ (binary (floor-of ks ws) first) from (l .said₀) x
@@ -209,14 +199,7 @@ module _ {ks fs : List ℕ} {all : Whole} {base : ℕ} {ws : List Waiting} {top 
                   read = λ d e.
                       let w = moved _ (a .done-to d e) refl in
                       record {
-                        spare = record {
-                          short = p .short;
-                          wide = omega (arith, p, w, fits, next);
-                          deep = omega (arith, p, long);
-                          inside = w .inside;
-                          few = omega (arith, p, w);
-                          said = omega (arith, p, w);
-                        };
+                        spare = omega (arith, p, w, fits, next, long);
                         no-colon = λ z. chosen long (choice-opens group-room o a e refl z) .refused _ refl;
                         colon = λ z.
                             record {
@@ -227,14 +210,7 @@ module _ {ks fs : List ℕ} {all : Whole} {base : ℕ} {ws : List Waiting} {top 
                                         let w′ = moved _ (b .done-to c f) refl in
                                         record {
                                           no-operand = i;
-                                          fits = record {
-                                            row = record { room = omega (arith, p, w, w′, fits); small = omega (arith, p, w, w′) };
-                                            mark-small = omega (arith, p);
-                                            first-small = omega (arith, l .spare);
-                                            end-small = omega (arith, p, w′);
-                                            kids-small = omega arith;
-                                            from-before = omega (arith, l .grouped, w, w′);
-                                          };
+                                          fits = omega (arith, p, w, w′, fits, l .spare, l .grouped);
                                           made = λ r‴ v top. chosen (long′ ∙ long) (choice-done group-room o a e refl z b f top) .read v refl;
                                         };
                                   };
@@ -266,10 +242,7 @@ module _ {ks fs : List ℕ} {all : Whole} {base : ℕ} {ws : List Waiting} {top 
 
       module _ {counted : ℕ} (q : z ≡ Conversion.Turned counted) where
         pub right-spare : Spare ks s₁ (top - 1) (cursor (u .at + 1) (u .rows) (u .records + counted))
-        right-spare =
-            let p = linked-spare in
-            let few = assigned-few group-room over t n h q in
-            record { short = p .short; wide = omega (arith, p, equals); deep = omega (arith, p, deep₁); inside = omega (arith, equals); few = omega (arith, p); said = omega (arith, few) }
+        right-spare = omega (arith, linked-spare, assigned-few group-room over t n h q, equals, deep₁)
 
         pub waits-right : Starts ks fs all (Ends ks fs all base (part (kind-for (operator is Eq)) (u .at) first 2 from (no-operation (operator is Eq)) (no-choice (operator is Eq)) ∷ ws)) (assignment (u .at + 1)) r₁ s₁ m (cursor (u .at + 1) (u .rows) (u .records + counted))
         unfolding Ends
@@ -283,14 +256,7 @@ module _ {ks fs : List ℕ} {all : Whole} {base : ℕ} {ws : List Waiting} {top 
                         let w = moved _ (a .done-to d f) refl in
                         record {
                           no-operand = i;
-                          fits = record {
-                            row = record { room = omega (arith, p, w, fits); small = omega (arith, p, w) };
-                            mark-small = omega (arith, p);
-                            first-small = omega (arith, l .spare);
-                            end-small = omega (arith, p, w);
-                            kids-small = omega arith;
-                            from-before = omega (arith, l .grouped, w);
-                          };
+                          fits = omega (arith, p, w, fits, l .spare, l .grouped);
                           made = λ r″ v top. assigned (long ∙ deep₁) (assigned-done group-room over t n h q a f refl top) .read v refl;
                         };
                   };
@@ -315,15 +281,7 @@ module _ {ks fs : List ℕ} {all : Whole} {base : ℕ} (ws : List Waiting) {top 
 
   module _ {y : ℕ} {s₁ : List ℕ} {c : Cursor} (k : y ≡ getD ks (d .at + 1) 0) (t : y ≡ 22 → ⊥) (b : Breaks fs s d s₁ c) (a : is-operation (h .kind) ≡ false) (z : h .kind ≡ Choice → ⊥) where
     pub body-spare : Spare ks s₁ (top - 1) c
-    body-spare =
-        record {
-          short = p .short;
-          wide = omega (arith, p, f, b);
-          deep = omega (arith, p, b .long);
-          inside = omega (arith, f, b);
-          few = omega (arith, p, b);
-          said = omega (arith, p, b);
-        }
+    body-spare = omega (arith, p, f, b .at, b .rows, b .few, b .long)
 
     pub waits-body : Starts ks fs all (Ends ks fs all base (part (h .kind) (d .at) (h .first) (h .kids + 1) (h .from) a z ∷ ws)) (assignment (c .at)) r s₁ m c
     unfolding Ends
@@ -336,14 +294,7 @@ module _ {ks fs : List ℕ} {all : Whole} {base : ℕ} (ws : List Waiting) {top 
                     let w = moved _ (e .done-to g q) refl in
                     record {
                       no-operand = i;
-                      fits = record {
-                        row = record { room = omega (arith, p, w, fits, b, f); small = omega (arith, p, w, b) };
-                        mark-small = omega (arith, p);
-                        first-small = omega (arith, p, f);
-                        end-small = omega (arith, p, w);
-                        kids-small = omega (arith, f, p);
-                        from-before = omega (arith, f, w, b);
-                      };
+                      fits = omega (arith, p, w, fits, b .at, b .rows, b .few, f);
                       made = λ r″ v top. o .goes r″ s′ m′ _ (long ∙ b .long) (body-dones body-room f k t b e q top) .read v refl;
                     };
               };

@@ -174,14 +174,7 @@ module _ {ks fs : List ℕ} {all : Whole} {m r s : List ℕ} {c : Cursor} {top b
                   ∙ ap (λ (l : List ℕ). set l 0 Row.Conditional) (h .text);
             };
             forward = omega arith;
-            spare = record {
-              short = spare .short;
-              wide = omega (arith, spare, rows);
-              deep = spare .deep;
-              inside = omega (arith, stands);
-              few = omega (arith, spare);
-              said = omega (arith, spare);
-            };
+            spare = omega (arith, spare, rows, stands);
             operand = refl;
             starts = starts-from (ap (take (6 * c .rows)) (q .set .text) ∙ take-set-le (6 * c .rows) r (6 * top) Row.Conditional (omega (arith, spare, stands, rows))) (a .ends .colon e);
           }

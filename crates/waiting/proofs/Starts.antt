@@ -52,7 +52,7 @@ awaits-first {ks} {fs} {r} {s} {m} {c} {base} room e =
       waiting = [];
       held = record { rows = omega arith; room = omega (arith, e); tail = drop (6 * base) r; text = refl };
       forward = omega arith;
-      spare = record { short = room .short; wide = omega (arith, room, e); deep = room .deep; inside = room .inside; few = room .few; said = room .said };
+      spare = omega (arith, room, e);
       operand = refl;
       starts = record {
         goes = λ r′ s′ m′ x long a.
@@ -104,25 +104,10 @@ module _ {ks fs : List ℕ} {all : Whole} {m₀ r₀ s₀ : List ℕ} {base top 
     -- a head
     module _ {d : Cursor} {h : Head} (o : OpenedTo ks fs (take (6 * top) r₀) s₀ m₀ low s m part (c .at) (c .rows) (c .records) d h) where
       opened-spare : Spare ks s top d
-      opened-spare =
-          let p = w .spare in
-          let f = o .fits in
-          record { short = p .short; wide = omega (arith, p, o); deep = omega (arith, p, deep); inside = omega (arith, f); few = omega (arith, p, o); said = omega (arith, p, o) }
+      opened-spare = omega (arith, w .spare, o .fits, o .forward, o .more, o .few, o .said, deep)
 
       pub opened-fits : BodyFits (length (low ++ drop (6 * top) r₀)) (length s) d h top
-      opened-fits =
-          let p = opened-spare in
-          let f = o .fits in
-          record {
-            some = omega (arith, p, f);
-            inside = omega (arith, now-long, top-inside);
-            place-small = omega (arith, p);
-            deep = omega (arith, p, f);
-            records-small = omega (arith, p);
-            first-small = omega (arith, p, f);
-            kids-small = omega (arith, p, f);
-            from-small = omega (arith, p, f);
-          }
+      opened-fits = omega (arith, opened-spare, o .fits, now-long, top-inside)
 
       opens : Opens ks fs all (Ends ks fs all base (w .waiting)) (low ++ drop (6 * top) r₀) s m d h
       opens =
@@ -154,7 +139,7 @@ module _ {ks fs : List ℕ} {all : Whole} {m₀ r₀ s₀ : List ℕ} {base top 
       read = met-wider (let e = low-long in let f = o .rows-long in omega (arith, rows-below)) (drop (6 * top) r₀) (omega (arith, rows-below, long)) (o .read)
 
       spare₁ : Spare ks (o .records₁) top c
-      spare₁ = let p = w .spare in record { short = p .short; wide = p .wide; deep = omega (arith, p, o .records-long); inside = p .inside; few = p .few; said = p .said }
+      spare₁ = omega (arith, w .spare, o .records-long)
 
       room₁ : 6 * top ≤ length (o .rows₁)
       room₁ = let e = low-long in let f = o .rows-long in omega arith
@@ -268,14 +253,14 @@ module _ {ks fs r₀ s₀ m₀ : List ℕ} {part : Bool} {c : Cursor} (room : Ro
       let rows = ap (λ (z : Cursor). z .rows) (top .is) in
       let records = ap (λ (z : Cursor). z .records) (top .is) in
       let here : Room ks r₁ s₁ (cursor (c .at) (c .rows) k) =
-      record { short = room .short; wide = omega (arith, room, past .long); deep = omega (arith, room, past .deep); inside = room .inside; few = room .few; said = omega (arith, room, past .same) } in
+      omega (arith, room, past .long, past .deep, past .same) in
       let first = ap (λ (z : Head). z .first) e in
       let from = ap (λ (z : Head). z .from) e in
       let kids = ap (λ (z : Head). z .kids) e in
       let kind = ap (λ (z : Head). z .kind) e in
       is-opened record {
         is-part = p;
-        fits = record { arrow = omega (arith, stands, place); first-before = omega (arith, place, first); from-before = omega (arith, rows, from); kids-few = omega (arith, place, kids) };
+        fits = omega (arith, stands, place, first, rows, from, kids);
         forward = omega (arith, place);
         more = omega (arith, rows);
         few = omega (arith, place, rows);
@@ -359,7 +344,7 @@ module _ {ks fs r₀ s₀ m₀ r₁ s₁ m₁ : List ℕ} {part : Bool} {k : ℕ
       failed = subst (λ (y : Step). Met ks fs r₁ s₁ m₁ r s m (unary (c .at)) (c .rows) (c .records) y) e operand-met
 
       here : Room ks r₁ s₁ c
-      here = record { short = room .short; wide = omega (arith, room, p .long); deep = omega (arith, room, p .deep); inside = room .inside; few = room .few; said = room .said }
+      here = omega (arith, room, p .long, p .deep)
 
       go : (b : Bool) → part ≡ b → Refused ks fs r₀ s₀ m₀ r s m (if b then assignment (c .at) else unary (c .at)) (c .rows) (c .records) cause
       go true q = p .past q r s m _ (value-refuses here refl (p .plain q) (binary-refuses here failed refl) refl) .fail-at _ refl
