@@ -29,10 +29,12 @@ use Rattle.grammar.specs.LeftHandSide.{left-hand-side-of, links-of, arguments-o
 use Rattle.grammar.specs.Primary.{parenthesized-of, primary-of, spread-of, elements-of, properties-of, shorthand-of, property-of, key-of}
 use Rattle.grammar.specs.Binding.{binding-of, binding-element-of, binding-rest-of, binding-elements-of, argument-of, binding-properties-of, binding-shorthand-of, binding-property-of}
 use Rattle.grammar.specs.Arrow.{Policy, arrow-of, assignment-of, parenthesized-head-of, head-of, parameters-of, body-of}
-use Rattle.grammar.specs.Step.{step, read}
+use Rattle.grammar.specs.Step.{step, read, plenty}
+use Rattle.grammar.specs.Reading.{reading}
 use Rattle.laws.specs.Settles.{μ, looked-at}
-use Rattle.laws.proofs.Good.{Meaning, Stands, inside, and-right}
+use Rattle.laws.proofs.Good.{Meaning, Stands, Came, whole-from, inside, and-right}
 use Rattle.laws.proofs.Bounds.{reads, limits, Bound, bounded-at}
+use Rattle.agreement.specs.Terms.{ReadAs}
 use Rattle.laws.proofs.Rel.{Ready, Whatever, operator-inside, async-inside, positive}
 
 -- a token that nothing allows after an expression or a binding: `=>`, where what stands before it is no parameter, or `{`
@@ -448,3 +450,18 @@ module _ {N N′ : Type 0} {Sim : N → N′ → Type 0} {Left : Out N′ → Ty
   pub led : (job : Job) → looked-at job ≤ length (sheet .kinds) → (f f′ : ℕ) → μ sheet job ≤ f → μ sheet job ≤ f′ → (m : N) (m′ : N′) → Sim m m′
       → Led sheet Sim Left (open-ended job) (Bound (limits sheet job)) (read A sheet f job m) (read B sheet f′ job m′)
   led job i f f′ le le′ m m′ s = near (μ sheet job) f f′ le le′ .with job (record { later = omega arith; stands-there = i; enough = omega arith }) .with m m′ s
+
+-- of a whole list: what the leader reads, the follower reads
+pub whole-led : {N N′ : Type 0} {Sim : N → N′ → Type 0} {Left : Out N′ → Type 0} {loose : Bool} {P : Meaning} (A : Policy N) (B : Policy N′) (sheet : Sheet) (job : Job) (m : N) (m′ : N′)
+    {trees : Forest} {records : List Record} {after : N} → Came A sheet job m trees records after
+    → Led sheet Sim Left loose P (read A sheet (plenty sheet) job m) (read B sheet (plenty sheet) job m′) → ReadAs (reading B sheet job m′) trees records
+whole-led A B sheet job m m′ {trees} c (both-done end ts rs _ after′ e₁ e₂ b s) =
+    let d = c .done-at-end in
+    let t = c .then-unconverted in
+    let w : read B sheet (plenty sheet) job m′ ≡ done (length (sheet .kinds)) trees (c .said) after′ = cc in
+    record { after = after′; is-whole = rw t (whole-from B sheet job m′ w) }
+whole-led A B sheet job m m′ c (halted (halt-fail cause _ e₁) _) = let d = c .done-at-end in let z : _≡_ {A = ℕ} 0 1 = cc in absurd (omega arith)
+whole-led A B sheet job m m′ c (halted (halt-dead o end ts rs _ e₁ k) _) =
+    let d = c .done-at-end in
+    let a : end ≡ length (sheet .kinds) = cc in
+    absurd (omega (arith, dead-inside sheet end k))
