@@ -27,7 +27,8 @@ use Rattle.heads.specs.declared.Way.{Way}
 use Rattle.build.proofs.Ways.{assignment-passes, assignment-tries, assignment-gives-up, assignment-commits, assignment-fails}
 use Rattle.build.proofs.Ends.{is-fail}
 use Rattle.waiting.proofs.Shared.{never}
-use Rattle.build.proofs.Makes.{stands-now, made-over, unmade-over, made-again, unmade-again}
+use Rattle.waiting.proofs.Value.{goes-on}
+use Rattle.build.proofs.Makes.{stands-now, made-again, unmade-again}
 
 -- what the tests of a way tell
 pub is-passed : (w : Way) {b : Bool} → b ≡ is-pass w → b ≡ true → w ≡ Way.Pass
@@ -94,18 +95,12 @@ module _ {ks fs r₀ s₀ m₀ : List ℕ} {c : Cursor} where
       → h ≡ record { kind = arrow-kind ks (c .at); first = c .at; from = c .rows; kids = kids }
       → MetAfter ks fs r₁ s₁ m₁ r s m (body (h .kind) (h .first) (d .at)) (h .from) (d .rows) (h .kids) (d .records) x
       → Met ks fs r₀ s₀ m₀ r s m (assignment (c .at)) (c .rows) (c .records) x
-  unfolding after-records
   arrow-of {r₁} {s₁} {m₁} {r} {s} {m} {x} {d = d} {kids} {h} room rule a q e b =
       let g = a .list-to _ _ q in
       let b′ : MetAfter ks fs r₁ s₁ m₁ r s m (body (arrow-kind ks (c .at)) (c .at) (d .at)) (c .rows) (d .rows) kids (d .records) x =
       subst (λ (h : Head). MetAfter ks fs r₁ s₁ m₁ r s m (body (h .kind) (h .first) (d .at)) (h .from) (d .rows) (h .kids) (d .records) x) e b in
       let f = b′ .over-all (g .trees) (g .counted) (stands-now (omega (arith, room)) (g .made .grown)) in
-      record {
-        done-to = λ u w. let t = f .done-to u w in
-            record { trees = t .trees; records = g .records ++ t .records; comes = rule _ _ _ _ (g .comes) (t .comes); made = made-over (omega (arith, room)) (g .made) (t .made) };
-        fail-at = λ p w. let t = f .fail-at p w in
-            record { comes = rule _ _ _ _ (g .comes) (t .comes); unmade = unmade-over (omega (arith, room)) (omega (arith, room)) (g .made) (t .unmade) };
-      }
+      goes-on room (λ out u. rule _ _ _ out (g .comes) u) (g .made) f
 
   -- a head that was read, and its body
   pub assign-arrows : {r₁ s₁ m₁ r s m : List ℕ} {x : Step} {y : Listed} {d : Cursor} {kids : ℕ} {h : Head} (w : Way) {b : Bool} → Room ks r₀ s₀ c → way-of w ≡ way-at ks fs m₀ (c .at)

@@ -28,41 +28,28 @@ grown-inside {r₀} {r} {n} {d} {ts} room g =
     let t = length-take (6 * d) r in
     omega arith
 
--- another list with the same first rows, where it began
-module _ {ks fs r₀ r₁ s₀ m₀ r s m : List ℕ} {job : Job} {n k : ℕ} {x : Step} where
-  pub met-from : take (6 * n) r₀ ≡ take (6 * n) r₁ → Met ks fs r₀ s₀ m₀ r s m job n k x → Met ks fs r₁ s₀ m₀ r s m job n k x
-  met-from e f =
+-- what is said of rows, of other rows
+module _ {ks fs r₀ r₁ s₀ m₀ r r′ s m : List ℕ} {job : Job} {n k : ℕ} {x : Step} where
+  met-rows : ((d : ℕ) (ts : Forest) → Grown r₀ n r d ts → Grown r₁ n r′ d ts) → (Kept r₀ n r → Kept r₁ n r′) → Met ks fs r₀ s₀ m₀ r s m job n k x → Met ks fs r₁ s₀ m₀ r′ s m job n k x
+  met-rows grow keep f =
       record {
         done-to = λ d q.
             let g = f .done-to d q in
-            record {
-              trees = g .trees;
-              records = g .records;
-              comes = g .comes;
-              made = record {
-                grown = record { used = g .made .grown .used; text = g .made .grown .text ∙ ap (λ (l : List ℕ). l ++ flats (g .trees)) e };
-                recorded = g .made .recorded;
-              };
-            };
-        fail-at = λ c q. let g = f .fail-at c q in record { comes = g .comes; unmade = record { kept = record { text = g .unmade .kept .text ∙ e }; kept-records = g .unmade .kept-records } };
+            record { trees = g .trees; records = g .records; comes = g .comes; made = record { grown = grow (d .rows) (g .trees) (g .made .grown); recorded = g .made .recorded } };
+        fail-at = λ c q. let g = f .fail-at c q in record { comes = g .comes; unmade = record { kept = keep (g .unmade .kept); kept-records = g .unmade .kept-records } };
       }
+
+-- another list with the same first rows, where it began
+pub met-from : {ks fs r₀ r₁ s₀ m₀ r s m : List ℕ} {job : Job} {n k : ℕ} {x : Step} → take (6 * n) r₀ ≡ take (6 * n) r₁ → Met ks fs r₀ s₀ m₀ r s m job n k x → Met ks fs r₁ s₀ m₀ r s m job n k x
+met-from e f = met-rows (λ d ts g. record { used = g .used; text = g .text ∙ ap (λ (l : List ℕ). l ++ flats ts) e }) (λ h. record { text = h .text ∙ e }) f
 
 -- words after the part of a tree that was lent
 module _ {r₀ low : List ℕ} {n : ℕ} (room : 6 * n ≤ length r₀) (after : List ℕ) where
   pub grown-wider : {d : ℕ} {ts : Forest} → Grown r₀ n low d ts → Grown r₀ n (low ++ after) d ts
   grown-wider {d} g = record { used = g .used; text = take-append-le (6 * d) low after (grown-inside room g) ∙ g .text }
 
-  pub kept-wider : 6 * n ≤ length low → Kept r₀ n low → Kept r₀ n (low ++ after)
-  kept-wider h g = record { text = take-append-le (6 * n) low after h ∙ g .text }
-
   pub met-wider : {ks fs s₀ m₀ s m : List ℕ} {job : Job} {k : ℕ} {x : Step} → 6 * n ≤ length low → Met ks fs r₀ s₀ m₀ low s m job n k x → Met ks fs r₀ s₀ m₀ (low ++ after) s m job n k x
-  met-wider h f =
-      record {
-        done-to = λ d q.
-            let g = f .done-to d q in
-            record { trees = g .trees; records = g .records; comes = g .comes; made = record { grown = grown-wider (g .made .grown); recorded = g .made .recorded } };
-        fail-at = λ c q. let g = f .fail-at c q in record { comes = g .comes; unmade = record { kept = kept-wider h (g .unmade .kept); kept-records = g .unmade .kept-records } };
-      }
+  met-wider h f = met-rows (λ d ts g. grown-wider g) (λ g. record { text = take-append-le (6 * n) low after h ∙ g .text }) f
 
 -- the rows before a row that is written
 pub pushed-kept : {r r′ : List ℕ} {n kind mark first end kids size : ℕ} (k : ℕ) → k ≤ n → 6 * n ≤ length r → Pushed r n kind mark first end kids size r′ → take (6 * k) r′ ≡ take (6 * k) r

@@ -162,7 +162,7 @@ module _ {ks fs : List ℕ} {all : Whole} {m : List ℕ} {r s : List ℕ} {g : G
           let l = a .linked in
           let q = l .grouped in
           let p = spare in
-          let below : g .rows ≤ g .top = omega (arith, p) in
+          let text = same-first r (g .rows) (g .top) (omega (arith, p)) ∙ q .made .grown .text in
           record {
             rows₀ = l .rows₀;
             records₀ = l .records₀;
@@ -183,8 +183,8 @@ module _ {ks fs : List ℕ} {all : Whole} {m : List ℕ} {r s : List ℕ} {g : G
               tree = q .tree;
               said = q .said;
               few-records = q .few-records;
-              made = record { grown = record { used = q .made .grown .used; text = same-first r (g .rows) (g .top) below ∙ q .made .grown .text }; recorded = q .made .recorded };
               rest = q .rest;
+              made = record { grown = record { used = q .made .grown .used; text = text }; recorded = q .made .recorded };
             };
             starts = l .starts;
           }

@@ -22,30 +22,22 @@ use Rattle.waiting.proofs.Shared.{never}
 use Rattle.waiting.proofs.Cuts.{held-word, held-kind, held-next, held-below, held-some, held-none}
 use Rattle.waiting.proofs.Links.{starts-from}
 
+-- what is asked of each is enough
+module _ (ks fs : List ℕ) (all : Whole) (m r s : List ℕ) (at base : ℕ) where
+  abbrev Then : Next → Type 0
+  Then (Next.Read n) = Awaits ks fs all m r s base (n .top) (n .part) (at + 1) (start-of n)
+  Then (Next.Ended c) = Comes-all ks fs all r s m (Step.Done c)
+  Then (Next.Fail cause) = Comes-all ks fs all r s m (Step.Fail cause)
+
+  goes : (x : Next) → Then x → Goes ks fs all m at r s base x
+  goes x a = record { reads = λ n e. rw e at a; ended = λ d e. rw e at a; refused = λ cause e. rw e at a }
+
 module _ {ks fs : List ℕ} {all : Whole} {m r s : List ℕ} {at base : ℕ} {x : Next} where
   pub goes-reads : {n : Spot} → x ≡ Next.Read n → Awaits ks fs all m r s base (n .top) (n .part) (at + 1) (start-of n) → Goes ks fs all m at r s base x
-  goes-reads {n} e a =
-      record {
-        reads = λ t q. let same : n ≡ t = cc in rw (sym same) a;
-        ended = λ d q. absurd (never (cc));
-        refused = λ p q. absurd (never (cc));
-      }
-
-  pub goes-ended : {c : Cursor} → x ≡ Next.Ended c → Comes-all ks fs all r s m (Step.Done c) → Goes ks fs all m at r s base x
-  goes-ended {c} e a =
-      record {
-        reads = λ n q. absurd (never (cc));
-        ended = λ d q. let same : c ≡ d = cc in rw (sym same) a;
-        refused = λ p q. absurd (never (cc));
-      }
+  goes-reads {n} e a = rw e (goes ks fs all m r s at base (Next.Read n) a)
 
   pub goes-fail : {cause : Cause} → x ≡ Next.Fail cause → Comes-all ks fs all r s m (Step.Fail cause) → Goes ks fs all m at r s base x
-  goes-fail {cause} e a =
-      record {
-        reads = λ n q. absurd (never (cc));
-        ended = λ d q. absurd (never (cc));
-        refused = λ p q. let same : cause ≡ p = cc in rw (sym same) a;
-      }
+  goes-fail {cause} e a = rw e (goes ks fs all m r s at base (Next.Fail cause) a)
 
 -- the place by an equation
 pub goes-at : {ks fs : List ℕ} {all : Whole} {m r s : List ℕ} {at at′ base : ℕ} {x : Next} → at ≡ at′ → Goes ks fs all m at r s base x → Goes ks fs all m at′ r s base x
@@ -136,7 +128,7 @@ module _ {ks fs : List ℕ} {all : Whole} {m r s : List ℕ} {c : Cursor} {top b
   parts-end p le = go (p .ws) (p .at)
     where
       go : (ws : List Waiting) → PartAt ks fs all m ws r s c top base → Goes ks fs all m (c .at) r s base (Next.Ended c)
-      go [] a = goes-ended refl (a .ends)
+      go [] a = goes ks fs all m r s (c .at) base (Next.Ended c) (a .ends)
       go (w ∷ ws) a = absurd (held-none (a .held) le)
 
   -- a Conditional waits for its `:`

@@ -145,20 +145,14 @@ module _ {ks fs : List ℕ} {all : Whole} {m₀ r₀ s₀ : List ℕ} {base top 
       room₁ = let e = low-long in let f = o .rows-long in omega arith
 
       starts₁ : Starts ks fs all (Ends ks fs all base (w .waiting)) (begun ks (w .waiting) (c .at)) (o .rows₁) (o .records₁) (o .notes₁) c
-      starts₁ = go part refl
+      starts₁ = rw (w .operand) (go part refl)
         where
-          go : (b : Bool) → part ≡ b → Starts ks fs all (Ends ks fs all base (w .waiting)) (begun ks (w .waiting) (c .at)) (o .rows₁) (o .records₁) (o .notes₁) c
-          go true e =
-              subst (λ (b : Bool). Starts ks fs all (Ends ks fs all base (w .waiting)) (if b then binary (floor-of ks (w .waiting)) (c .at) else value (c .at)) (o .rows₁) (o .records₁) (o .notes₁) c)
-              (sym (w .operand ∙ ap not e))
-              record { goes = λ r′ s′ m′ x l a. job-as true e (l ∙ o .records-long) (whole-met (o .past e r′ s′ m′ x a)) }
+          go : (b : Bool) → part ≡ b
+              → Starts ks fs all (Ends ks fs all base (w .waiting)) (if not b then binary (floor-of ks (w .waiting)) (c .at) else value (c .at)) (o .rows₁) (o .records₁) (o .notes₁) c
+          go true e = record { goes = λ r′ s′ m′ x l a. job-as true e (l ∙ o .records-long) (whole-met (o .past e r′ s′ m′ x a)) }
           go false e =
-              subst (λ (b : Bool). Starts ks fs all (Ends ks fs all base (w .waiting)) (if b then binary (floor-of ks (w .waiting)) (c .at) else value (c .at)) (o .rows₁) (o .records₁) (o .notes₁) c)
-              (sym (w .operand ∙ ap not e))
               record {
-                goes = λ r′ s′ m′ x l a.
-                    job-as false e (l ∙ o .records-long)
-                    (whole-met (rw (sym (o .rows-same e), sym (o .records-same e), sym (o .notes-same e)) a));
+                goes = λ r′ s′ m′ x l a. job-as false e (l ∙ o .records-long) (whole-met (rw (sym (o .rows-same e), sym (o .records-same e), sym (o .notes-same e)) a));
               }
 
       pub operand-group : GroupAt ks fs all m (w .waiting) (low ++ drop (6 * top) r₀) s (record { at = d .at; rows = d .rows; records = d .records; first = c .at; from = c .rows; top = top }) base
@@ -180,30 +174,15 @@ module _ {ks fs : List ℕ} {all : Whole} {m₀ r₀ s₀ : List ℕ} {base top 
           }
 
 -- THE WAYS OUT OF `start`
-module _ {ks fs r₀ s₀ m₀ r s m : List ℕ} {part : Bool} {at n k : ℕ} where
-  is-opened : {d : Cursor} {h : Head} → OpenedTo ks fs r₀ s₀ m₀ r s m part at n k d h → MetStart ks fs r₀ s₀ m₀ r s m part at n k (Start.Opened d h)
-  is-opened {d} {h} o =
-      record {
-        opened-to = λ c j e. let at : d ≡ c = cc in let head : h ≡ j = cc in rw (sym at, sym head) o;
-        operand-to = λ c e. absurd (never (cc));
-        fail-at = λ p e. absurd (never (cc));
-      }
+-- what is asked of each is enough
+module _ (ks fs r₀ s₀ m₀ r s m : List ℕ) (part : Bool) (at n k : ℕ) where
+  abbrev Got : Start → Type 0
+  Got (Start.Opened d h) = OpenedTo ks fs r₀ s₀ m₀ r s m part at n k d h
+  Got (Start.Operand d) = OperandTo ks fs r₀ s₀ m₀ r s m part at n k d
+  Got (Start.Fail cause) = Refused ks fs r₀ s₀ m₀ r s m (if part then assignment at else unary at) n k cause
 
-  is-operand : {d : Cursor} → OperandTo ks fs r₀ s₀ m₀ r s m part at n k d → MetStart ks fs r₀ s₀ m₀ r s m part at n k (Start.Operand d)
-  is-operand {d} o =
-      record {
-        opened-to = λ c j e. absurd (never (cc));
-        operand-to = λ c e. let at : d ≡ c = cc in rw (sym at) o;
-        fail-at = λ p e. absurd (never (cc));
-      }
-
-  is-refused : {cause : Cause} → Refused ks fs r₀ s₀ m₀ r s m (if part then assignment at else unary at) n k cause → MetStart ks fs r₀ s₀ m₀ r s m part at n k (Start.Fail cause)
-  is-refused {cause} f =
-      record {
-        opened-to = λ c j e. absurd (never (cc));
-        operand-to = λ c e. absurd (never (cc));
-        fail-at = λ p e. let same : cause ≡ p = cc in rw (sym same) f;
-      }
+  starts-so : (x : Start) → Got x → MetStart ks fs r₀ s₀ m₀ r s m part at n k x
+  starts-so x a = record { opened-to = λ d h e. rw e at a; operand-to = λ d e. rw e at a; fail-at = λ cause e. rw e at a }
 
 -- arrows are no operators
 arrow-no-operation : (async : Bool) → is-operation (if async then Row.AsyncArrow else Row.Arrow) ≡ false
@@ -224,7 +203,7 @@ module _ {ks fs r₀ s₀ m₀ : List ℕ} {part : Bool} {c : Cursor} (room : Ro
   start-opens {d = d} {kids} {h} w p t i j a q e =
       let g = headed a q in
       let kind : h .kind ≡ arrow-kind ks (c .at) = ap (λ (z : Head). z .kind) e in
-      is-opened record {
+      starts-so _ _ _ _ _ _ _ _ _ _ _ _ (Start.Opened _ _) record {
         is-part = p;
         fits = head-fits ks g e;
         forward = g .forward;
@@ -241,7 +220,7 @@ module _ {ks fs r₀ s₀ m₀ : List ℕ} {part : Bool} {c : Cursor} (room : Ro
       → MetList ks fs r₀ s₀ m₀ r s m (head (c .at)) (c .rows) (c .records) y → y ≡ Listed.Fail cause
       → MetStart ks fs r₀ s₀ m₀ r s m part (c .at) (c .rows) (c .records) (Start.Fail cause)
   start-commits {r} {s} {m} {cause = cause} p t e a q =
-      is-refused (subst (λ (b : Bool). Refused ks fs r₀ s₀ m₀ r s m (if b then assignment (c .at) else unary (c .at)) (c .rows) (c .records) cause) (sym p) (assign-fails t e a q .fail-at _ refl))
+      starts-so _ _ _ _ _ _ _ _ _ _ _ _ (Start.Fail _) (subst (λ (b : Bool). Refused ks fs r₀ s₀ m₀ r s m (if b then assignment (c .at) else unary (c .at)) (c .rows) (c .records) cause) (sym p) (assign-fails t e a q .fail-at _ refl))
 
   -- Async and a name before `=>`, past a head
   pub start-asyncs : {r₁ s₁ m₁ r : List ℕ} {k : ℕ} {b : Bool} {d : Cursor} {h : Head} → part ≡ true → Past ks fs r₀ s₀ m₀ r₁ s₁ m₁ k c → b ≡ is-async-name (sheet-of ks fs) (c .at) → b ≡ true
@@ -258,7 +237,7 @@ module _ {ks fs r₀ s₀ m₀ : List ℕ} {part : Bool} {c : Cursor} (room : Ro
       let from = ap (λ (z : Head). z .from) e in
       let kids = ap (λ (z : Head). z .kids) e in
       let kind = ap (λ (z : Head). z .kind) e in
-      is-opened record {
+      starts-so _ _ _ _ _ _ _ _ _ _ _ _ (Start.Opened _ _) record {
         is-part = p;
         fits = omega (arith, stands, place, first, rows, from, kids);
         forward = omega (arith, place);
@@ -323,7 +302,7 @@ module _ {ks fs r₀ s₀ m₀ r₁ s₁ m₁ : List ℕ} {part : Bool} {k : ℕ
 
   pub start-operand : {d : Cursor} → x ≡ Step.Done d → MetStart ks fs r₀ s₀ m₀ r s m part (c .at) (c .rows) (c .records) (Start.Operand d)
   start-operand {d} e =
-      is-operand record {
+      starts-so _ _ _ _ _ _ _ _ _ _ _ _ (Start.Operand _) record {
         rows₁ = r₁;
         records₁ = s₁;
         notes₁ = m₁;
@@ -338,7 +317,7 @@ module _ {ks fs r₀ s₀ m₀ r₁ s₁ m₁ : List ℕ} {part : Bool} {k : ℕ
       }
 
   pub start-fails : {cause : Cause} → x ≡ Step.Fail cause → MetStart ks fs r₀ s₀ m₀ r s m part (c .at) (c .rows) (c .records) (Start.Fail cause)
-  start-fails {cause} e = is-refused (go part refl)
+  start-fails {cause} e = starts-so _ _ _ _ _ _ _ _ _ _ _ _ (Start.Fail cause) (go part refl)
     where
       failed : Met ks fs r₁ s₁ m₁ r s m (unary (c .at)) (c .rows) (c .records) (Step.Fail cause)
       failed = subst (λ (y : Step). Met ks fs r₁ s₁ m₁ r s m (unary (c .at)) (c .rows) (c .records) y) e operand-met

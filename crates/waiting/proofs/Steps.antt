@@ -22,7 +22,7 @@ use Rattle.build.specs.declared.cursor.Cursor.{Cursor}
 use Rattle.heads.specs.declared.Head.{Head}
 use Rattle.build.specs.Operation.{Finished}
 use Rattle.waiting.specs.Waiting.{kind-for, Breaks, is-operation}
-use Rattle.waiting.specs.Post.{word, spot, end-of, ends-operand, FinishedOperation, WaitsOperand, WaitsRight, WaitsBody, Otherwise, opens-body, operand-of, Followed, AfterStart}
+use Rattle.waiting.specs.Post.{word, spot, end-of, ends-operand, FinishedOperation, WaitsOperand, WaitsRight, WaitsBody, Otherwise, opens-body, operand-of, Followed, StartFailed, AfterStart}
 use Rattle.waiting.proofs.Shared.{never}
 use Rattle.waiting.specs.declared.Group.{Group}
 use Rattle.waiting.specs.declared.Next.{Next}
@@ -109,28 +109,22 @@ module _ (ks r s : List ℕ) (g : Group) {y root : ℕ} (k : y ≡ getD ks (g .a
             record { gives = ap (λ (x : ℕ). Next.Read (spot (cursor (g .at + 1) (g .rows) (g .records + x)) (g .top - 1) true)) same; pushed = rw (sym k) (subst (λ (x : ℕ). Pushed (low ++ drop (6 * g .top) r) (g .top - 1) x (g .at) (g .first) 0 2 (g .from) r′) i p) };
       }
 
--- `after_start`
+-- `after_start`: what is asked past each start is enough
+module _ (ks fs r s : List ℕ) (n : Spot) (base : ℕ) (r′ s′ : List ℕ) (x : Next) where
+  abbrev Past : Start → Type 0
+  Past (Start.Fail cause) = StartFailed r s r′ s′ cause x
+  Past (Start.Opened d h) = WaitsBody ks fs r s d h (n .top) r′ s′ x
+  Past (Start.Operand d) = Followed ks fs r s (operand-of d n) base r′ s′ x
+
+  after : (got : Start) → Past got → AfterStart ks fs r s got n base r′ s′ x
+  after got a = record { failed = λ cause e. rw e at a; opened = λ d h e. rw e at a; operand = λ d e. rw e at a }
+
 module _ {ks fs r s : List ℕ} {got : Start} {n : Spot} {base : ℕ} {r′ s′ : List ℕ} {x : Next} where
   pub after-fail : {cause : Cause} → got ≡ Start.Fail cause → x ≡ Next.Fail cause → r′ ≡ r → s′ ≡ s → AfterStart ks fs r s got n base r′ s′ x
-  after-fail {cause} e g i j =
-      record {
-        failed = λ c q. let same : cause ≡ c = cc in record { gives = g ∙ ap Next.Fail same; rows-same = i; records-same = j };
-        opened = λ d h q. absurd (never (cc));
-        operand = λ d q. absurd (never (cc));
-      }
+  after-fail {cause} e g i j = rw e (after ks fs r s n base r′ s′ x (Start.Fail cause) record { gives = g; rows-same = i; records-same = j })
 
   pub after-opened : {d : Cursor} {h : Head} → got ≡ Start.Opened d h → WaitsBody ks fs r s d h (n .top) r′ s′ x → AfterStart ks fs r s got n base r′ s′ x
-  after-opened {d} {h} e w =
-      record {
-        failed = λ c q. absurd (never (cc));
-        opened = λ c j q. let at : d ≡ c = cc in let head : h ≡ j = cc in rw (sym at, sym head) w;
-        operand = λ c q. absurd (never (cc));
-      }
+  after-opened {d} {h} e w = rw e (after ks fs r s n base r′ s′ x (Start.Opened d h) w)
 
   pub after-operand : {d : Cursor} → got ≡ Start.Operand d → Followed ks fs r s (operand-of d n) base r′ s′ x → AfterStart ks fs r s got n base r′ s′ x
-  after-operand {d} e w =
-      record {
-        failed = λ c q. absurd (never (cc));
-        opened = λ c j q. absurd (never (cc));
-        operand = λ c q. let at : d ≡ c = cc in rw (sym at) w;
-      }
+  after-operand {d} e w = rw e (after ks fs r s n base r′ s′ x (Start.Operand d) w)

@@ -348,7 +348,7 @@ no-assignment e = rw e
 
 module _ {ks fs r₀ s₀ m₀ : List ℕ} {c : Cursor} (room : Room ks r₀ s₀ c) where
   -- over what was made
-  goes-on : {r₁ s₁ m₁ r s m : List ℕ} {x : Step} {job job′ : Job} {d : Cursor} {ts : Forest} {rs : List Record}
+  pub goes-on : {r₁ s₁ m₁ r s m : List ℕ} {x : Step} {job job′ : Job} {d : Cursor} {ts : Forest} {rs : List Record}
       → ((out : Out (List ℕ)) → Comes ks fs job′ m₁ out → Comes ks fs job m₀ (after-records rs out))
       → Made r₀ s₀ (c .rows) (c .records) r₁ s₁ d ts rs → Met ks fs r₁ s₁ m₁ r s m job′ (c .rows) (d .records) x
       → Met ks fs r₀ s₀ m₀ r s m job (c .rows) (c .records) x
