@@ -29,8 +29,7 @@ use Rattle.waiting.proofs.Value.{operator-stands, assignment-stands}
 use Rattle.waiting.specs.Post.{word, end-of, ends-operand, OperationFits, FinishedOperation, WaitFits, WaitsOperand, WaitsChoice, WaitsRight, WaitsBody, opens-body, NameBody, Goes, PartAt, GroupAt}
 use Rattle.waiting.specs.declared.Group.{Group}
 use Rattle.waiting.specs.declared.Next.{Next}
-use Rattle.waiting.proofs.Cuts.{pushed-kept, same-first, finished-wider, held-lent, held-waits, held-below, held-word, held-kind, held-next, held-some, held-inside}
-use Rattle.waiting.proofs.Links.{starts-from, linked-spare, operand-ends, waits-operand, operand, part-ends, no-name-ends, waits-choice, right-refused, right-spare, waits-right, no-operation, no-choice, name-opens, body-refuses, body-spare, waits-body}
+use Rattle.waiting.proofs.Links.{pushed-kept, same-first, finished-wider, held-lent, held-waits, held-below, held-word, held-kind, held-next, held-some, held-inside, starts-from, linked-spare, operand-ends, waits-operand, operand, part-ends, no-name-ends, waits-choice, right-refused, right-spare, waits-right, no-operation, no-choice, name-opens, body-refuses, body-spare, waits-body}
 use Rattle.waiting.proofs.Parts.{goes-reads, goes-fail}
 
 -- AN ARROW'S BODY, from its `=>` on
@@ -119,7 +118,7 @@ module _ {ks fs : List ℕ} {all : Whole} {m : List ℕ} {r s : List ℕ} {g : G
             operand = refl;
             starts =
                 starts-from (pushed-kept (g .rows) (omega (arith, p, n)) (omega (arith, fit .inside)) (w .pushed))
-                (waits-choice (a .held .rows) (a .linked) i refl refl none group-wide q);
+                (waits-choice (a .held .rows) (a .linked) i refl refl none r refl group-wide q);
           }
 
       -- nothing follows
@@ -134,8 +133,8 @@ module _ {ks fs : List ℕ} {all : Whole} {m : List ℕ} {r s : List ℕ} {g : G
               omega arith
 
           by : Dec (getD ks (g .at) 0 ≡ Arrow) → Ends ks fs all base ws r s m (end-of g)
-          by (yes e) = no-name-ends (a .held .rows) (a .linked) i refl refl none group-wide e record { is = refl } (other e)
-          by (no e) = part-ends (a .held .rows) (a .linked) i refl refl none group-wide o-is o-no q e
+          by (yes e) = no-name-ends (a .held .rows) (a .linked) i refl refl none r refl group-wide e record { is = refl } (other e)
+          by (no e) = part-ends (a .held .rows) (a .linked) i refl refl none r refl group-wide o-is o-no q e
 
       -- the arrow of one name
       pub name-awaits : {b : Bool} {r′ s′ : List ℕ} {x : Next} → b ≡ opens-body ks r g → b ≡ true → NameBody ks fs r s g r′ s′ x → length r′ ≡ length r → Goes ks fs all m (g .at) r′ s′ base x
@@ -150,51 +149,22 @@ module _ {ks fs : List ℕ} {all : Whole} {m : List ℕ} {r s : List ℕ} {g : G
           let records = ap (λ (c : Cursor). c .records) (w .leafed .is) in
           body-awaits ws (held-below (a .held) group-from (w .leafed .pushed) (w .long)) i
           (omega (arith, p, q, rows, records)) (omega (arith, n, q, rows)) refl (λ z. omega (arith, z))
-          (name-opens (a .held .rows) (a .linked) i refl refl none group-wide arrow record { is = refl } name (w .leafed) refl) (w .waits) (long ∙ sym (w .long))
+          (name-opens (a .held .rows) (a .linked) i refl refl none r refl group-wide arrow record { is = refl } name (w .leafed) refl) (w .waits) (long ∙ sym (w .long))
 
       -- an assignment
       pub right-room : Room ks (take (6 * g .top) r) s (end-of g)
       right-room = omega (arith, spare, length-take-le (6 * g .top) r group-wide)
 
-      -- the group in the part of the tree below the rows that wait
-      low-link : Linked ks fs all (Ends ks fs all base ws) ws (g .top) (take (6 * g .top) r) s m (end-of g) (g .first) (g .from)
-      low-link =
-          let l = a .linked in
-          let q = l .grouped in
-          let p = spare in
-          let text = same-first r (g .rows) (g .top) (omega (arith, p)) ∙ q .made .grown .text in
-          record {
-            rows₀ = l .rows₀;
-            records₀ = l .records₀;
-            notes₀ = l .notes₀;
-            said₀ = l .said₀;
-            spare = l .spare;
-            room = l .room;
-            deep = l .deep;
-            plain = l .plain;
-            grouped = record {
-              wide = q .wide;
-              deep = q .deep;
-              place = q .place;
-              forward = q .forward;
-              inside = q .inside;
-              some = q .some;
-              few = q .few;
-              tree = q .tree;
-              said = q .said;
-              few-records = q .few-records;
-              rest = q .rest;
-              made = record { grown = record { used = q .made .grown .used; text = text }; recorded = q .made .recorded };
-            };
-            starts = l .starts;
-          }
+      -- the part of the tree below the rows that wait
+      low-same : take (6 * g .rows) (take (6 * g .top) r) ≡ take (6 * g .rows) r
+      low-same = same-first r (g .rows) (g .top) (omega (arith, spare))
 
       low-wide : 6 * g .top ≤ length (take (6 * g .top) r)
       low-wide = let e = length-take-le (6 * g .top) r group-wide in omega arith
 
       module _ {b : Bool} (o : b ≡ is-assignment-operator (getD ks (g .at) 0)) (e : b ≡ true) where
         pub right-operand : Operand ks (take (6 * g .top) r) (end-of g) (g .first) (g .from)
-        right-operand = operand (a .held .rows) low-link i refl refl none low-wide (assignment-stands ks (g .at) refl o e)
+        right-operand = operand (a .held .rows) (a .linked) i refl refl none (take (6 * g .top) r) low-same low-wide (assignment-stands ks (g .at) refl o e)
 
         pub right-awaits : {r′ s′ : List ℕ} {x : Next} → WaitsRight ks r s g r′ s′ x → length r′ ≡ length r → length s′ ≡ length s → Goes ks fs all m (g .at) r′ s′ base x
         right-awaits {r′} {s′} {x} w long deep = by (w .turned) refl
@@ -208,7 +178,7 @@ module _ {ks fs : List ℕ} {all : Whole} {m : List ℕ} {r s : List ℕ} {g : G
             by : (z : Conversion) → w .turned ≡ z → Goes ks fs all m (g .at) r′ s′ base x
             by (Conversion.Refused cause) q =
                 let f = w .refused cause q in
-                goes-fail (f .gives) (rw (f .text) (right-refused (a .held .rows) low-link i refl refl none low-wide o e root (w .converted) deep (drop (6 * g .top) r) (omega (arith, spare, w .long)) q))
+                goes-fail (f .gives) (rw (f .text) (right-refused (a .held .rows) (a .linked) i refl refl none (take (6 * g .top) r) low-same low-wide o e root (w .converted) deep (drop (6 * g .top) r) (omega (arith, spare, w .long)) q))
             by (Conversion.Turned count) q =
                 let f = w .waits count q in
                 let p = spare in
@@ -220,12 +190,12 @@ module _ {ks fs : List ℕ} {all : Whole} {m : List ℕ} {r s : List ℕ} {g : G
                   waiting = part (kind-for (getD ks (g .at) 0 is Eq)) (g .at) (g .first) 2 (g .from) (no-operation (getD ks (g .at) 0 is Eq)) (no-choice (getD ks (g .at) 0 is Eq)) ∷ ws;
                   held = held-waits lent (omega (arith, fit .some)) (f .pushed) (omega (arith, long, same, rest, w .long, fit .inside)) refl;
                   forward = omega arith;
-                  spare = right-spare (a .held .rows) low-link i refl refl none low-wide o e root (w .converted) deep q;
+                  spare = right-spare (a .held .rows) (a .linked) i refl refl none (take (6 * g .top) r) low-same low-wide o e root (w .converted) deep q;
                   operand = refl;
                   starts =
                       starts-from (pushed-kept (g .rows) (omega (arith, p, stands)) (omega (arith, same, rest, w .long, fit .inside)) (f .pushed)
                       ∙ take-append-le (6 * g .rows) (w .low) (drop (6 * g .top) r) (omega (arith, w .long, p)))
-                      (waits-right (a .held .rows) low-link i refl refl none low-wide o e root (w .converted) deep q);
+                      (waits-right (a .held .rows) (a .linked) i refl refl none (take (6 * g .top) r) low-same low-wide o e root (w .converted) deep q);
                 }
 
 -- THE LOOP OVER THE OPERATORS THAT WAIT

@@ -2,7 +2,6 @@ pub mod Assign
 pub mod Root
 pub mod Shared
 pub mod Value
-pub mod Cuts
 pub mod Links
 pub mod Steps
 pub mod Parts

@@ -19,8 +19,7 @@ use Rattle.waiting.specs.Post.{word, start-of, LastPartFits, PartAt, Oth
 use Rattle.waiting.specs.declared.Next.{Next}
 use Rattle.waiting.specs.declared.Spot.{Spot}
 use Rattle.waiting.proofs.Shared.{never}
-use Rattle.waiting.proofs.Cuts.{held-word, held-kind, held-next, held-below, held-some, held-none}
-use Rattle.waiting.proofs.Links.{starts-from}
+use Rattle.waiting.proofs.Links.{held-word, held-kind, held-next, held-below, held-some, held-none, starts-from}
 
 -- what is asked of each is enough
 module _ (ks fs : List ℕ) (all : Whole) (m r s : List ℕ) (at base : ℕ) where

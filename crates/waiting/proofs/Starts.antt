@@ -32,8 +32,7 @@ use Rattle.waiting.specs.Start.{OpenedTo, OperandTo, MetStart}
 use Rattle.waiting.specs.declared.Next.{Next}
 use Rattle.waiting.specs.declared.Spot.{Spot}
 use Rattle.waiting.specs.declared.Start.{Start}
-use Rattle.waiting.proofs.Cuts.{met-from, met-wider, grown-inside, same-first, held-lent}
-use Rattle.waiting.proofs.Links.{room-below}
+use Rattle.waiting.proofs.Links.{met-from, met-wider, grown-inside, same-first, held-lent, room-below}
 use Rattle.waiting.proofs.Parts.{goes-fail}
 use Rattle.waiting.proofs.Groups.{body-awaits}
 
