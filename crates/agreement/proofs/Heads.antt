@@ -15,7 +15,7 @@ use Rattle.lookahead.specs.ThreeWay.{three-way}
 use Rattle.lookahead.specs.Cases as Cases
 use Rattle.lookahead.proofs.Laws as Laws
 use Rattle.rows.specs.Tree.{Forest, nil, join}
-use Rattle.grammar.specs.Sheet.{Sheet, token, break-before, Out, done, fail, stuck}
+use Rattle.grammar.specs.Sheet.{Sheet, token, break-before, Out, fail}
 use Rattle.grammar.specs.Job.{Job, assignment, binding, binding-element, binding-elements, binding-properties, binding-rest, head, parameters, Asks}
 use Rattle.grammar.specs.Binding.{binding-of, binding-element-of, binding-rest-of}
 use Rattle.grammar.specs.Arrow.{Policy, parenthesized-head-of, head-of, parameters-of}

@@ -33,7 +33,7 @@ use Rattle.grammar.specs.Step.{step, read, plenty}
 use Rattle.grammar.specs.Reading.{reading}
 use Rattle.laws.specs.Settles.{μ, looked-at}
 use Rattle.laws.proofs.Good.{Meaning, Stands, Came, whole-from, inside, and-right}
-use Rattle.laws.proofs.Bounds.{reads, limits, Bound, bounded-at}
+use Rattle.laws.proofs.Bounds.{limits, Bound, bounded-at}
 use Rattle.agreement.specs.Terms.{ReadAs}
 use Rattle.laws.proofs.Rel.{Ready, Whatever, operator-inside, async-inside, positive}
 

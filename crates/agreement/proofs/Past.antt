@@ -20,7 +20,7 @@ use Rattle.lookahead.specs.Cases as Cases
 use Rattle.lookahead.proofs.Laws as Laws
 use Rattle.rows.specs.Row as Row
 use Rattle.rows.specs.Tree.{Tree, Forest, one, kind-of}
-use Rattle.grammar.specs.Sheet.{Sheet, token, break-before, Out, done, fail, stuck, Part, tree}
+use Rattle.grammar.specs.Sheet.{Sheet, token, break-before, Part, tree}
 use Rattle.grammar.specs.Job.{Job, expression, assignment, value, conditional, binary, operators, unary, postfix, left-hand-side, links, arguments, primary, head, Asks}
 use Rattle.grammar.specs.Comma.{expression-of}
 use Rattle.grammar.specs.Assignment.{is-assignment-operator, conditional-of, after-binary, is-async-name, value-of}
@@ -36,7 +36,7 @@ use Rattle.laws.proofs.Steady.{never-stuck}
 use Rattle.agreement.specs.Terms.{Early}
 use Rattle.agreement.proofs.Leads.{Dead, curly, Halt, halt-fail, halt-dead}
 use Rattle.laws.proofs.Balanced.{side-of, none}
-use Rattle.laws.proofs.Readings.{after-async}
+use Rattle.laws.proofs.Readings.{Closes, after-async}
 use Rattle.agreement.proofs.Covers.{Nothing, Told, all-told, covered}
 
 -- KINDS IN LISTS
@@ -417,34 +417,22 @@ module _ (sheet : Sheet) where
 
 module _ {N : Type 0} (policy : Policy N) (sheet : Sheet) (at steps : ℕ) (not-early : Early sheet at → ⊥) (le : μ sheet (value at) ≤ steps) (notes : N) where
   -- after Async and `(`
+  arguments-halt : token sheet at ≡ Async → token sheet (at + 1) ≡ LParen → Args sheet (at + 1 + 1) → Halt sheet true (read policy sheet steps (value at) notes)
+  arguments-halt a k s = goes-halts sheet policy at steps (call a k s) le notes (λ w. no-bracket sheet mute (w .then-mute) refl k)
+
   called-halts : token sheet at ≡ Async → (flag-at (sheet .flags) (at + 1) ≡ 1 → ⊥) → Cases.TrueCase (sheet .kinds) (at + 1) → Halt sheet true (read policy sheet steps (value at) notes)
   unfolding side-of
   called-halts a u (Cases.empty-arrow k s t) =
-      covered sheet (at + 1 + 2) t policy at steps
-      (record {
-        starts = at + 1;
-        opens = k;
-        opening = after-async a refl;
-        list = record { close = at + 1 + 1; past = omega arith; inner = none; closer = record { goes = rw s } };
-        arrow = t;
-      })
-      le notes
-  called-halts a u (Cases.empty-body k s t) =
-      goes-halts sheet policy at steps (call a k (no-args s (rw (two-on sheet (at + 1)) t))) le notes (λ w. no-bracket sheet mute (w .then-mute) refl k)
+      let list : Closes sheet (at + 1 + 1) (at + 1 + 2) = record { close = at + 1 + 1; past = omega arith; inner = none; closer = record { goes = rw s } } in
+      covered sheet (at + 1 + 2) t policy at steps (record { starts = at + 1; opens = k; opening = after-async a refl; list = list; arrow = t }) le notes
+  called-halts a u (Cases.empty-body k s t) = arguments-halt a k (no-args s (rw (two-on sheet (at + 1)) t))
   called-halts a u (Cases.rest-ident k s t) =
       absurd (not-early (record { async = a; opens = k; unbroken = ne-eqb _ _ u; dots = rw (two-on sheet at) at s; name = rw (three-on sheet at) at t }))
   called-halts a u (Cases.modified k s t n) =
-      goes-halts sheet policy at steps
-      (call a k (some (modified-blocked sheet (at + 1) s t) (modifies-not sheet _ RParen s (omega arith) (omega arith)) (modifies-not sheet _ Dot3 s (omega arith) (omega arith))))
-      le notes (λ w. no-bracket sheet mute (w .then-mute) refl k)
-  called-halts a u (Cases.typed k s t) =
-      goes-halts sheet policy at steps
-      (call a k (some (typed-blocked sheet (at + 1) s t) (first-not sheet _ RParen s (omega arith)) (first-not sheet _ Dot3 s (omega arith))))
-      le notes (λ w. no-bracket sheet mute (w .then-mute) refl k)
+      arguments-halt a k (some (modified-blocked sheet (at + 1) s t) (modifies-not sheet _ RParen s (omega arith) (omega arith)) (modifies-not sheet _ Dot3 s (omega arith) (omega arith)))
+  called-halts a u (Cases.typed k s t) = arguments-halt a k (some (typed-blocked sheet (at + 1) s t) (first-not sheet _ RParen s (omega arith)) (first-not sheet _ Dot3 s (omega arith)))
   called-halts a u (Cases.optional k s t o) =
-      goes-halts sheet policy at steps
-      (call a k (some (question-blocked sheet (at + 1) s t o) (first-not sheet _ RParen s (omega arith)) (first-not sheet _ Dot3 s (omega arith))))
-      le notes (λ w. no-bracket sheet mute (w .then-mute) refl k)
+      arguments-halt a k (some (question-blocked sheet (at + 1) s t o) (first-not sheet _ RParen s (omega arith)) (first-not sheet _ Dot3 s (omega arith)))
 
   -- THE STATEMENT: where the answer is True, no use can be made of the way past the head
   pub true-halts : three-way (sheet .kinds) (sheet .flags) false false at ≡ Tristate.True → Halt sheet true (read policy sheet steps (value at) notes)

@@ -242,13 +242,9 @@ record Argued {N : Type 0} (sheet : Sheet) (at : ℕ) (m : Counted N) (end : ℕ
   paid : m′ .steps + due sheet (m .dropped) + 13 * at + 1 ≤ m .steps + due sheet (m′ .dropped) + 13 * end + 1
   level : scope sheet at ≡ scope sheet end
 
--- where it fails
-record Unargued {N : Type 0} (sheet : Sheet) (at : ℕ) (m m′ : Counted N) : Type 0 where
-  lost : m′ .steps + due sheet (m .dropped) + 13 * at ≤ m .steps + due sheet (m′ .dropped) + 13 * scope sheet at + 12
-
--- where a binding's rest fails
-record Rested {N : Type 0} (sheet : Sheet) (at : ℕ) (m m′ : Counted N) : Type 0 where
-  lost : m′ .steps + due sheet (m .dropped) + 13 * at ≤ m .steps + due sheet (m′ .dropped) + 13 * scope sheet at + 1
+-- where it fails, with so much more
+record Unargued {N : Type 0} (sheet : Sheet) (at more : ℕ) (m m′ : Counted N) : Type 0 where
+  lost : m′ .steps + due sheet (m .dropped) + 13 * at ≤ m .steps + due sheet (m′ .dropped) + 13 * scope sheet at + more
 
 -- THE PRODUCTIONS
 module _ {N : Type 0} (sheet : Sheet) {ask : Asks (Counted N)} (h : Near sheet ask) where
@@ -282,8 +278,8 @@ module _ {N : Type 0} (sheet : Sheet) {ask : Asks (Counted N)} (h : Near sheet a
       (skip (name-flat (and-left (is-name (token sheet (at + 1))) _ named)) (two at (skip (flat (λ k. k is Arrow) refl refl refl refl refl refl rest) none)))) (omega arith)
 
   -- a spread from its `...` on, or what else the list is of
-  argument-costs : (at : ℕ) (dots : Bool) (other : Job) → token sheet at is Dot3 ≡ dots → (m : Counted N) → Spends m (Argued sheet at m) (Unargued sheet at m) (ask other)
-      → Spends m (Argued sheet at m) (Unargued sheet at m) (ask (if dots then spread at else other))
+  argument-costs : (at : ℕ) (dots : Bool) (other : Job) → token sheet at is Dot3 ≡ dots → (m : Counted N) → Spends m (Argued sheet at m) (Unargued sheet at 12 m) (ask other)
+      → Spends m (Argued sheet at m) (Unargued sheet at 12 m) (ask (if dots then spread at else other))
   argument-costs at true other e m s =
       let i = inside sheet at (λ k. k is Dot3) refl e in
       let flat-there = past (flat (λ k. k is Dot3) refl refl refl refl refl refl e) i in
@@ -318,7 +314,7 @@ module _ {N : Type 0} (sheet : Sheet) {ask : Asks (Counted N)} (h : Near sheet a
   shorthand-level at n u = lv (skip (name-flat n) (skip (record { goes = side u .goes }) (two at none))) (omega arith)
 
   -- a rest from its `...` on
-  rest-costs : (at : ℕ) → Stands sheet at Dot3 → (m : Counted N) → Spends m (Argued sheet at m) (Rested sheet at m) (ask (binding-rest at))
+  rest-costs : (at : ℕ) → Stands sheet at Dot3 → (m : Counted N) → Spends m (Argued sheet at m) (Unargued sheet at 1 m) (ask (binding-rest at))
   unfolding side-of
   rest-costs at t m =
       let flat-there = on t refl in
