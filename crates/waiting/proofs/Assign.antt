@@ -1,6 +1,6 @@
 -- What comes of an AssignmentExpression where a head may open (13.15), by the way there and by the head: each way. For `start`.
 -- Assumes nothing.
-use Prim.Native.Nat.{ℕ, _+_, _≤_, _<_}
+use Prim.Native.Nat.{ℕ, _<_}
 use mathlib.Core.Path.{_≡_, refl, sym, ap, subst, _∙_}
 use mathlib.Core.Bool.{Bool, true, false}
 use mathlib.Core.List.{List}
@@ -13,11 +13,9 @@ use Rattle.rows.specs.Record.{Record}
 use Rattle.grammar.specs.Sheet.{sheet-of, Out, done, after-records}
 use Rattle.grammar.specs.Job.{Job, assignment, value, head, body}
 use Rattle.grammar.specs.Arrow as Grammar
-use Rattle.trees.proofs.Walks.{some-rows}
 use Rattle.grammar.specs.Reading.{box}
 use Rattle.laws.proofs.Good.{inside}
-use Rattle.laws.proofs.Bounds.{bounded}
-use Rattle.build.specs.Post.{Room, Comes, Met, MetAfter, MetList, HeadFits}
+use Rattle.build.specs.Post.{Room, Comes, Met, MetAfter, MetList}
 use Rattle.heads.specs.Heads.{Dropped, is-pass, is-commit, may-open, way-at, way-of, arrow-kind}
 use Rattle.build.specs.declared.cursor.Cursor.{Cursor}
 use Rattle.build.specs.declared.cursor.Step.{Step}
@@ -57,25 +55,6 @@ tried-stands ks fs m at {w} t e = go (may-open (getD ks at 0)) refl
         let z : Grammar.attempt ≡ Grammar.pass = sym (ap way-of e) ∙ t ∙ ap (λ (b : Bool). if b then box (sheet-of ks fs) .way at m else Grammar.pass) q in
         let y : _≡_ {A = ℕ} 0 1 = cc in
         absurd (omega arith)
-
--- how far a head goes
-pub record Headed (ks : List ℕ) (at n k : ℕ) (d : Cursor) (kids : ℕ) : Type 0 where
-  pub forward : at < d .at
-  pub arrow : d .at < length ks
-  pub more : n ≤ d .rows
-  pub few : d .rows + at ≤ n + d .at
-  pub said : d .records + at ≤ k + d .at
-  pub kids-few : kids ≤ d .at
-
-pub headed : {ks fs r₀ s₀ m₀ r s m : List ℕ} {at n k kids : ℕ} {y : Listed} {d : Cursor} → MetList ks fs r₀ s₀ m₀ r s m (head at) n k y → y ≡ Listed.Done d kids → Headed ks at n k d kids
-headed a q =
-    let g = a .list-to _ _ q in
-    let b = bounded (g .comes .settles) in
-    omega (arith, b, g .made .grown .used, g .made .recorded .used, g .counted, some-rows (g .trees))
-
--- the head that was read fits its body
-pub head-fits : (ks : List ℕ) {at n k kids kind : ℕ} {d : Cursor} {h : Head} → Headed ks at n k d kids → h ≡ record { kind = kind; first = at; from = n; kids = kids } → HeadFits ks d h
-head-fits ks w e = rw e (omega (arith, w))
 
 module _ {ks fs r₀ s₀ m₀ : List ℕ} {c : Cursor} where
   assign-passes : {r s m : List ℕ} {x : Step} {w : Way} → way-of w ≡ way-at ks fs m₀ (c .at) → w ≡ Way.Pass

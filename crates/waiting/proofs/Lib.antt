@@ -3,7 +3,6 @@ pub mod Root
 pub mod Shared
 pub mod Value
 pub mod Links
-pub mod Steps
 pub mod Parts
 pub mod Groups
 pub mod Starts

@@ -24,7 +24,9 @@ use Rattle.heads.specs.declared.Way.{Way}
 use Rattle.build.proofs.Ends.{is-fail, moved}
 use Rattle.heads.specs.declared.Head.{Head}
 use Rattle.waiting.proofs.Shared.{never}
-use Rattle.waiting.proofs.Assign.{Past, headed, head-fits, assign-arrows, assign-fails}
+use Rattle.trees.proofs.Walks.{some-rows}
+use Rattle.laws.proofs.Bounds.{bounded}
+use Rattle.waiting.proofs.Assign.{Past, assign-arrows, assign-fails}
 use Rattle.waiting.proofs.Value.{binary-grouped, binary-refuses, async-stands, value-asyncs, value-refuses}
 use Rattle.waiting.specs.Waiting.{Choice, is-operation, floor-of, begun, Whole, all-words, Spare, Comes-all, Outcome, Starts, Opens, Ends, Awaits}
 use Rattle.waiting.specs.Post.{spot, start-of, GroupAt, BodyFits, WaitsBody, Goes, StartFits, AfterStart}
@@ -200,15 +202,20 @@ module _ {ks fs r₀ s₀ m₀ : List ℕ} {part : Bool} {c : Cursor} (room : Ro
       → MetStart ks fs r₀ s₀ m₀ r s m part (c .at) (c .rows) (c .records) (Start.Opened d h)
   unfolding arrow-kind
   start-opens {d = d} {kids} {h} w p t i j a q e =
-      let g = headed a q in
+      let g = a .list-to _ _ q in
+      let b = bounded (g .comes .settles) in
+      let rows = g .made .grown .used in
+      let records = g .made .recorded .used in
+      let counted = g .counted in
+      let some = some-rows (g .trees) in
       let kind : h .kind ≡ arrow-kind ks (c .at) = ap (λ (z : Head). z .kind) e in
       starts-so _ _ _ _ _ _ _ _ _ _ _ _ (Start.Opened _ _) record {
         is-part = p;
-        fits = head-fits ks g e;
-        forward = g .forward;
-        more = g .more;
-        few = g .few;
-        said = g .said;
+        fits = rw e (omega arith);
+        forward = omega arith;
+        more = omega arith;
+        few = omega arith;
+        said = omega arith;
         no-operation = ap is-operation kind ∙ arrow-no-operation (getD ks (c .at) 0 is Async);
         no-choice = λ z. arrow-no-choice (getD ks (c .at) 0 is Async) (sym kind ∙ z);
         goes = λ r′ s′ m′ x f. assign-arrows w room t i j a q e f;
