@@ -305,20 +305,24 @@ module _ {ks fs : List ℕ} {all : Whole} {m r s : List ℕ} {g : Group} {base :
     following-fits =
         let h = innermost .at .held in
         let e = operand-ends (h .rows) (innermost .at .linked) refl v refl (subst (λ (i : ℕ). level ≤ i) (held-word h 4) (here .within)) in
-        let rows = h .rows in
-        let room = h .room in
-        record {
-          inside = omega arith;
-          room = omega (arith, e .room, rows);
-          deep = e .deep;
-          rows-small = e .rows-small;
-          records-small = e .records-small;
-          place-small = e .place-small;
-          mark-small = rw (held-word h 1) (e .mark-small);
-          first-small = rw (held-word h 2) (e .first-small);
-          from-before = rw (held-word h 5, held-word h 3) (e .from-before);
-          left-before = rw (held-word h 3) (e .left-before);
-        }
+        omega (
+          arith,
+          h .rows,
+          h .room,
+          e .room,
+          e .deep,
+          e .rows-small,
+          e .records-small,
+          e .place-small,
+          e .mark-small,
+          e .first-small,
+          e .from-before,
+          e .left-before,
+          held-word h 1,
+          held-word h 2,
+          held-word h 3,
+          held-word h 5,
+        )
 
     pub following-made : {r′ s′ : List ℕ} {u : Group} → FinishedOperation ks r s g r′ s′ u → length r′ ≡ length r → length s′ ≡ length s → Groups ks fs all m r′ s′ u base
     following-made f long deep =

@@ -198,20 +198,7 @@ module _ {ks fs : List ℕ} {all : Whole} {m r s : List ℕ} {c : Cursor} {top b
       go (a-choice mark first from ws a e) = absurd (other e)
       go (a-part kind′ mark first kids from i j ws a _) =
           let h = a .held in
-          let e = a .ends .fits in
-          let rows = h .rows in
-          let room = h .room in
-          record {
-            inside = omega arith;
-            fits = record {
-              row = record { room = omega arith; small = e .row .small };
-              mark-small = rw (held-word h 1) (e .mark-small);
-              first-small = rw (held-word h 2) (e .first-small);
-              end-small = e .end-small;
-              kids-small = rw (held-word h 4) (e .kids-small);
-              from-before = rw (held-word h 5) (e .from-before);
-            };
-          }
+          omega (arith, h .rows, h .room, a .ends .fits, held-word h 1, held-word h 2, held-word h 4, held-word h 5)
 
   pub parts-made : Parts ks fs all m r s c top base → top < base → {kind : ℕ} → kind ≡ getD r (6 * top) 0 → (kind ≡ Choice → ⊥) → {r′ : List ℕ} {u : Cursor}
       → Topped r c (getD r (6 * top) 0) (word r top 1) (word r top 2) (c .at) (word r top 4) (word r top 5) r′ u → length r′ ≡ length r → Parts ks fs all m r′ s u (top + 1) base
