@@ -243,36 +243,6 @@ yes-ends : (ks r : List ℕ) (level : ℕ) {top base mark first left from : ℕ}
 yes-ends ks r level {top} {base} {mark} h e =
     rw (lt-ltb top base (held-inside h)) (subst (λ (b : Bool). (if b then leb level (word r top 4) else false) ≡ true) (sym (operation-is ks mark) ∙ ap is-operation (sym (held-kind h))) e)
 
--- the row of an operator that waits first is made
-operation-finishes : {ks fs : List ℕ} {all : Whole} {m r s : List ℕ} {g : Group} {base level : ℕ} → level ≡ expression-level (getD ks (g .at) 0) → (mark first left from : ℕ) (ws : List Waiting)
-    → GroupAt ks fs all m (operation mark first left from ∷ ws) r s g base → level ≤ word r (g .top) 4 → {r′ s′ : List ℕ} {u : Group} → FinishedOperation ks r s g r′ s′ u
-    → length r′ ≡ length r → length s′ ≡ length s → Groups ks fs all m r′ s′ u base
-unfolding Ends
-operation-finishes {ks} {fs} {all} {m} {r} {s} {g} {base} {level} v mark first left from ws a le {r′} {s′} {u} f long deep =
-    let h = a .held in
-    let e = operand-ends (h .rows) (a .linked) refl v refl (subst (λ (i : ℕ). level ≤ i) (held-word h 4) le) in
-    let rows = h .rows in
-    let room = h .room in
-    let fin : Finished ks (take (6 * (g .top + 1)) r) s (end-of g) mark first left from (f .low) s′ (end-of u) =
-    rw (sym (held-word h 1), sym (held-word h 2), sym (held-word h 3), sym (held-word h 5)) (f .made) in
-    let whole : Finished ks r s (end-of g) mark first left from r′ s′ (end-of u) =
-    subst (λ (l : List ℕ). Finished ks r s (end-of g) mark first left from l s′ (end-of u)) (sym (f .text))
-    (finished-wider {t = g .top + 1} (omega (arith, e .left-before)) (omega (arith, e .room, rows)) (omega (arith, e .from-before)) (omega arith) fin (drop (6 * (g .top + 1)) r)) in
-    let linked : Linked ks fs all (Ends ks fs all base ws) ws (base - length ws) r′ s′ m (end-of u) first from = e .made r′ s′ (end-of u) long deep whole in
-    let top : base - length ws ≡ u .top = omega (arith, rows, f .top) in
-    record {
-      ws = ws;
-      at = record {
-        held =
-            subst (λ (t : ℕ). Held ks r′ t base ws) (sym (f .top))
-            (subst (λ (l : List ℕ). Held ks l (g .top + 1) base ws) (sym (f .text)) (held-lent (f .low) (held-next (operation mark first left from) h) (f .long)));
-        linked =
-            subst (λ (t : ℕ). Linked ks fs all (Ends ks fs all base ws) ws t r′ s′ m (end-of u) (u .first) (u .from)) top
-            (subst (λ (i : ℕ). Linked ks fs all (Ends ks fs all base ws) ws (base - length ws) r′ s′ m (end-of u) i (u .from)) (sym (f .first ∙ held-word h 2))
-            (subst (λ (i : ℕ). Linked ks fs all (Ends ks fs all base ws) ws (base - length ws) r′ s′ m (end-of u) first i) (sym (f .from ∙ held-word h 5)) linked));
-      };
-    }
-
 -- an operator waits first
 record Operator (ks fs : List ℕ) (all : Whole) (m r s : List ℕ) (g : Group) (base : ℕ) : Type 0 where
   mark : ℕ
@@ -305,29 +275,40 @@ module _ {ks fs : List ℕ} {all : Whole} {m r s : List ℕ} {g : Group} {base :
     following-fits =
         let h = innermost .at .held in
         let e = operand-ends (h .rows) (innermost .at .linked) refl v refl (subst (λ (i : ℕ). level ≤ i) (held-word h 4) (here .within)) in
-        omega (
-          arith,
-          h .rows,
-          h .room,
-          e .room,
-          e .deep,
-          e .rows-small,
-          e .records-small,
-          e .place-small,
-          e .mark-small,
-          e .first-small,
-          e .from-before,
-          e .left-before,
-          held-word h 1,
-          held-word h 2,
-          held-word h 3,
-          held-word h 5,
-        )
+        omega (arith, h .rows, h .room, e, held-word h 1, held-word h 2, held-word h 3, held-word h 5)
 
     pub following-made : {r′ s′ : List ℕ} {u : Group} → FinishedOperation ks r s g r′ s′ u → length r′ ≡ length r → length s′ ≡ length s → Groups ks fs all m r′ s′ u base
-    following-made f long deep =
+    unfolding Ends
+    following-made {r′} {s′} {u} f long deep =
         let i = innermost in
-        operation-finishes v (i .mark) (i .first) (i .left) (i .from) (i .ws) (i .at) (here .within) f long deep
+        let mark = i .mark in
+        let first = i .first in
+        let left = i .left in
+        let from = i .from in
+        let ws = i .ws in
+        let h = i .at .held in
+        let e = operand-ends (h .rows) (i .at .linked) refl v refl (subst (λ (n : ℕ). level ≤ n) (held-word h 4) (here .within)) in
+        let rows = h .rows in
+        let room = h .room in
+        let fin : Finished ks (take (6 * (g .top + 1)) r) s (end-of g) mark first left from (f .low) s′ (end-of u) =
+        rw (sym (held-word h 1), sym (held-word h 2), sym (held-word h 3), sym (held-word h 5)) (f .made) in
+        let whole : Finished ks r s (end-of g) mark first left from r′ s′ (end-of u) =
+        subst (λ (l : List ℕ). Finished ks r s (end-of g) mark first left from l s′ (end-of u)) (sym (f .text))
+        (finished-wider {t = g .top + 1} (omega (arith, e .left-before)) (omega (arith, e .room, rows)) (omega (arith, e .from-before)) (omega arith) fin (drop (6 * (g .top + 1)) r)) in
+        let linked : Linked ks fs all (Ends ks fs all base ws) ws (base - length ws) r′ s′ m (end-of u) first from = e .made r′ s′ (end-of u) long deep whole in
+        let top : base - length ws ≡ u .top = omega (arith, rows, f .top) in
+        record {
+          ws = ws;
+          at = record {
+            held =
+                subst (λ (t : ℕ). Held ks r′ t base ws) (sym (f .top))
+                (subst (λ (l : List ℕ). Held ks l (g .top + 1) base ws) (sym (f .text)) (held-lent (f .low) (held-next (operation mark first left from) h) (f .long)));
+            linked =
+                subst (λ (t : ℕ). Linked ks fs all (Ends ks fs all base ws) ws t r′ s′ m (end-of u) (u .first) (u .from)) top
+                (subst (λ (i : ℕ). Linked ks fs all (Ends ks fs all base ws) ws (base - length ws) r′ s′ m (end-of u) i (u .from)) (sym (f .first ∙ held-word h 2))
+                (subst (λ (i : ℕ). Linked ks fs all (Ends ks fs all base ws) ws (base - length ws) r′ s′ m (end-of u) first i) (sym (f .from ∙ held-word h 5)) linked));
+          };
+        }
 
   -- it is not, or reads on
   module _ {b : Bool} where
