@@ -76,8 +76,7 @@ module _ {ks fs r₀ s₀ m₀ : List ℕ} {c : Cursor} where
       → Met ks fs r₀ s₀ m₀ r s m (assignment (c .at)) (c .rows) (c .records) x
   arrow-of {r₁} {s₁} {m₁} {r} {s} {m} {x} {d = d} {kids} {h} room rule a q e b =
       let g = a .list-to _ _ q in
-      let b′ : MetAfter ks fs r₁ s₁ m₁ r s m (body (arrow-kind ks (c .at)) (c .at) (d .at)) (c .rows) (d .rows) kids (d .records) x =
-      subst (λ (h : Head). MetAfter ks fs r₁ s₁ m₁ r s m (body (h .kind) (h .first) (d .at)) (h .from) (d .rows) (h .kids) (d .records) x) e b in
+      let b′ = rw e at b in
       let f = b′ .over-all (g .trees) (g .counted) (stands-now (omega (arith, room)) (g .made .grown)) in
       goes-on room (λ out u. rule _ _ _ out (g .comes) u) (g .made) f
 

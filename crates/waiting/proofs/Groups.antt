@@ -293,20 +293,14 @@ module _ {ks fs : List ℕ} {all : Whole} {m r s : List ℕ} {g : Group} {base :
         let fin : Finished ks (take (6 * (g .top + 1)) r) s (end-of g) mark first left from (f .low) s′ (end-of u) =
         rw (sym (held-word h 1), sym (held-word h 2), sym (held-word h 3), sym (held-word h 5)) (f .made) in
         let whole : Finished ks r s (end-of g) mark first left from r′ s′ (end-of u) =
-        subst (λ (l : List ℕ). Finished ks r s (end-of g) mark first left from l s′ (end-of u)) (sym (f .text))
-        (finished-wider {t = g .top + 1} (omega (arith, e .left-before)) (omega (arith, e .room, rows)) (omega (arith, e .from-before)) (omega arith) fin (drop (6 * (g .top + 1)) r)) in
+        rw (f .text) (finished-wider {t = g .top + 1} (omega (arith, e .left-before)) (omega (arith, e .room, rows)) (omega (arith, e .from-before)) (omega arith) fin (drop (6 * (g .top + 1)) r)) in
         let linked : Linked ks fs all (Ends ks fs all base ws) ws (base - length ws) r′ s′ m (end-of u) first from = e .made r′ s′ (end-of u) long deep whole in
         let top : base - length ws ≡ u .top = omega (arith, rows, f .top) in
         record {
           ws = ws;
           at = record {
-            held =
-                subst (λ (t : ℕ). Held ks r′ t base ws) (sym (f .top))
-                (subst (λ (l : List ℕ). Held ks l (g .top + 1) base ws) (sym (f .text)) (held-lent (f .low) (held-next (operation mark first left from) h) (f .long)));
-            linked =
-                subst (λ (t : ℕ). Linked ks fs all (Ends ks fs all base ws) ws t r′ s′ m (end-of u) (u .first) (u .from)) top
-                (subst (λ (i : ℕ). Linked ks fs all (Ends ks fs all base ws) ws (base - length ws) r′ s′ m (end-of u) i (u .from)) (sym (f .first ∙ held-word h 2))
-                (subst (λ (i : ℕ). Linked ks fs all (Ends ks fs all base ws) ws (base - length ws) r′ s′ m (end-of u) first i) (sym (f .from ∙ held-word h 5)) linked));
+            held = rw (f .top, f .text) (held-lent (f .low) (held-next (operation mark first left from) h) (f .long));
+            linked = rw (sym top, f .first ∙ held-word h 2, f .from ∙ held-word h 5) linked;
           };
         }
 

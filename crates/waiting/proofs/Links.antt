@@ -241,8 +241,7 @@ module _ {ks fs : List ℕ} {all : Whole} {base : ℕ} {ws : List Waiting} {top 
   -- as the job that began with the group
   as-begun : {job : Job} {r′ s′ m′ : List ℕ} {x : Step} → begun ks ws first ≡ job → length s′ ≡ length s
       → Met ks fs (l .rows₀) (l .records₀) (l .notes₀) r′ s′ m′ job from (l .said₀) x → Outcome ks fs all (Ends ks fs all base ws) r′ s′ m′ x
-  as-begun {job} {r′} {s′} {m′} {x} e long a =
-      l .starts .goes r′ s′ m′ x (long ∙ l .deep) (subst (λ (j : Job). Met ks fs (l .rows₀) (l .records₀) (l .notes₀) r′ s′ m′ j from (l .said₀) x) (sym e) a)
+  as-begun {r′ = r′} {s′} {m′} {x} e long a = l .starts .goes r′ s′ m′ x (long ∙ l .deep) (rw e a)
 
   -- room where the group ends
   pub linked-spare : Spare ks s top u
@@ -255,10 +254,7 @@ module _ {ks fs : List ℕ} {all : Whole} {base : ℕ} {ws : List Waiting} {top 
     where
       go : (b : Bool) → awaits-operand ws ≡ b → Comes-all ks fs all r′ s′ m′ x
       go true i = as-begun (begun-operand ks ws first i) long a .refused cause e
-      go false i =
-          let f : Met ks fs (l .rows₀) (l .records₀) (l .notes₀) r′ s′ m′ (binary 0 first) from (l .said₀) x =
-          subst (λ (n : ℕ). Met ks fs (l .rows₀) (l .records₀) (l .notes₀) r′ s′ m′ (binary n first) from (l .said₀) x) (floor-none ks ws i) a in
-          as-begun (begun-value ks ws first i) long (value-refuses here refl (l .plain i) f e) .refused cause e
+      go false i = as-begun (begun-value ks ws first i) long (value-refuses here refl (l .plain i) (rw (floor-none ks ws i) at a) e) .refused cause e
 
   module _ {operator above : ℕ} (t : operator ≡ getD ks (u .at) 0) (v : above ≡ expression-level operator) where
     -- the operand that was waited for ends here

@@ -82,9 +82,7 @@ module _ {ks fs : List ℕ} {all : Whole} {m₀ r₀ s₀ : List ℕ} {base top 
   job-as : (b : Bool) → part ≡ b → {r′ s′ m′ : List ℕ} {x : Step} → length s′ ≡ length s₀
       → Met ks fs r₀ s₀ m₀ r′ s′ m′ (if b then assignment (c .at) else binary (floor-of ks (w .waiting)) (c .at)) (c .rows) (c .records) x
       → Outcome ks fs all (Ends ks fs all base (w .waiting)) r′ s′ m′ x
-  job-as b e {r′} {s′} {m′} {x} l a =
-      w .starts .goes r′ s′ m′ x l
-      (subst (λ (b : Bool). Met ks fs r₀ s₀ m₀ r′ s′ m′ (if b then assignment (c .at) else binary (floor-of ks (w .waiting)) (c .at)) (c .rows) (c .records) x) (sym e) a)
+  job-as b e {r′} {s′} {m′} {x} l a = w .starts .goes r′ s′ m′ x l (rw e a)
 
   module _ (low s m : List ℕ) (long : length low ≡ 6 * top) (deep : length s ≡ length s₀) where
     now-long : length (low ++ drop (6 * top) r₀) ≡ length r₀
@@ -254,8 +252,7 @@ module _ {ks fs r₀ s₀ m₀ : List ℕ} {part : Bool} {c : Cursor} (room : Ro
         no-choice = λ z. omega (arith, kind, z);
         goes = λ r′ s′ m′ x f.
             past .goes r′ s′ m′ x
-            (value-asyncs here i j top
-            (subst (λ (h : Head). MetAfter ks fs r s₁ m₁ r′ s′ m′ (body (h .kind) (h .first) (d .at)) (h .from) (d .rows) (h .kids) (d .records) x) e f));
+            (value-asyncs here i j top (rw e at f));
       }
 
 -- where an operand starts: past a head, or where none could be
