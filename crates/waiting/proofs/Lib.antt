@@ -3,6 +3,5 @@ pub mod Root
 pub mod Shared
 pub mod Value
 pub mod Links
-pub mod Parts
 pub mod Groups
 pub mod Starts

@@ -35,8 +35,7 @@ use Rattle.waiting.specs.declared.Next.{Next}
 use Rattle.waiting.specs.declared.Spot.{Spot}
 use Rattle.waiting.specs.declared.Start.{Start}
 use Rattle.waiting.proofs.Links.{met-from, met-wider, grown-inside, same-first, held-lent, room-below}
-use Rattle.waiting.proofs.Parts.{goes-fail}
-use Rattle.waiting.proofs.Groups.{body-awaits}
+use Rattle.waiting.proofs.Groups.{goes-fail, body-awaits}
 
 is-true : (b : Bool) → not b ≡ false → b ≡ true
 is-true true e = refl

@@ -6,7 +6,7 @@ use borrow.Author.Needs.{needs}
 use mathlib.Core.Logic.{⊎-elim}
 use Rattle.build.specs.Post.{cursor}
 use Rattle.waiting.proofs.Value.{breaks, no-break, breaks-as}
-use Rattle.waiting.proofs.Parts.{body-stops, body-goes}
+use Rattle.waiting.proofs.Groups.{body-stops, body-goes}
 use Rattle.waiting.proofs.wait_body.Statement.{statement}
 use Rattle.waiting.proofs.wait_body.Tie as tie
 
