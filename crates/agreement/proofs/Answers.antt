@@ -17,7 +17,7 @@ use Rattle.grammar.specs.Reading.{Whole, whole, refused, reading, box, plain, c
 use Rattle.grammar.specs.Lent.{Given, checks, padded, answered, checked, entry, read-entry, pattern-entry}
 use Rattle.laws.specs.Settles.{looked-at}
 use Rattle.agreement.specs.Terms.{ReadAs, NoEarly}
-use Rattle.agreement.proofs.Whole.{one-way, other-way}
+use Rattle.agreement.proofs.Agreement.{one-way, other-way}
 
 -- what an entry gives shows these trees and records: Read with their numbers and some number of abandoned heads, their words in the two buffers, and then 0
 pub record Shows (given : Given) (rows records : List ℕ) (trees : Forest) (said : List Record) : Type 0 where

@@ -29,10 +29,12 @@ use Rattle.grammar.specs.LeftHandSide.{left-hand-side-of, links-of, arguments-o
 use Rattle.grammar.specs.Primary.{parenthesized-of, primary-of, spread-of, elements-of, properties-of, shorthand-of, property-of, key-of}
 use Rattle.grammar.specs.Binding.{binding-of, binding-element-of, binding-rest-of, binding-elements-of, argument-of, binding-properties-of, binding-shorthand-of, binding-property-of}
 use Rattle.grammar.specs.Arrow.{Policy, arrow-of, assignment-of, parenthesized-head-of, head-of, parameters-of, body-of}
-use Rattle.grammar.specs.Step.{step, read}
+use Rattle.grammar.specs.Step.{step, read, plenty}
+use Rattle.grammar.specs.Reading.{reading}
 use Rattle.laws.specs.Settles.{μ, looked-at}
-use Rattle.laws.proofs.Good.{Meaning, Stands, inside, and-right}
-use Rattle.laws.proofs.Bounds.{reads, limits, Bound, bounded-at}
+use Rattle.laws.proofs.Good.{Meaning, Stands, Came, whole-from, inside, and-right}
+use Rattle.laws.proofs.Bounds.{limits, Bound, bounded-at}
+use Rattle.agreement.specs.Terms.{ReadAs}
 use Rattle.laws.proofs.Rel.{Ready, Whatever, operator-inside, async-inside, positive}
 
 -- a token that nothing allows after an expression or a binding: `=>`, where what stands before it is no parameter, or `{`
@@ -220,40 +222,49 @@ module _ {N N′ : Type 0} {Sim : N → N′ → Type 0} {Left : Out N′ → Ty
   no : {loose : Bool} (cause : Cause) → Leads sheet Sim Left loose Whatever (refuse cause) (refuse cause)
   no cause = lead-refuse fails cause
 
-  -- a part, and what follows
-  follow : {loose loose′ : Bool} {Q : Meaning} {r : Reading N} {r′ : Reading N′} {next : Part → Reading N} {next′ : Part → Reading N′} → Leads sheet Sim Left loose Q r r′
-      → ((part : Part) (records : List Record) → Q (part .end) (part .trees) records → Leads sheet Sim Left loose′ Whatever (next part) (next′ part))
-      → (loose ≡ true → (part : Part) → Dead sheet (part .end) → Halts sheet loose′ (next part))
-      → Leads sheet Sim Left loose′ Whatever (r >>= next) (r′ >>= next′)
-  follow a k d = lead-follow stays a k d
-
   -- a part that ends before no such token, and what follows
   then-on : {loose : Bool} {Q : Meaning} {r : Reading N} {r′ : Reading N′} {next : Part → Reading N} {next′ : Part → Reading N′} → Leads sheet Sim Left false Q r r′
       → ((part : Part) (records : List Record) → Q (part .end) (part .trees) records → Leads sheet Sim Left loose Whatever (next part) (next′ part))
       → Leads sheet Sim Left loose Whatever (r >>= next) (r′ >>= next′)
   then-on a k = lead-follow stays a k (λ o part d. let y : _≡_ {A = ℕ} 0 1 = cc in absurd (omega arith))
 
+  -- a spread from its `...` on, or what else the list is of
+  argument-led : (at : ℕ) (dots : Bool) (other : Job) → token sheet at is Dot3 ≡ dots → 32 * (length (sheet .kinds) - at) + 11 ≤ n
+      → Leads sheet Sim Left true (λ end trees records. (at + 1 ≤ end) × (end ≤ length (sheet .kinds))) (ask other) (ask′ other)
+      → Leads sheet Sim Left true (λ end trees records. (at + 1 ≤ end) × (end ≤ length (sheet .kinds))) (ask (if dots then spread at else other)) (ask′ (if dots then spread at else other))
+  argument-led at true other e le a = known (asked (spread at) (omega (arith, inside sheet at (λ k. k is Dot3) refl e))) (λ end trees records b. (omega arith, omega arith))
+  argument-led at false other e le a = a
+
+  -- 15.3 and 15.9
+  parenthesized-head-led : (at : ℕ) → 32 * (length (sheet .kinds) - at) + 4 ≤ n + 1 → Leads sheet Sim Left false Whatever (parenthesized-head-of sheet ask at) (parenthesized-head-of sheet ask′ at)
+  unfolding parenthesized-head-of
+  parenthesized-head-led at le =
+      lead-token _ _ (λ t. then-on (asked (parameters (at + 1) nil) (omega arith)) (λ list rs b. lead-token _ _ (λ t. lead-yield _ _) (no _))) (no _)
+
+  -- a head that both have read
+  pub arrow-led : (A : Policy N) (B : Policy N′) (at : ℕ) → Ready sheet 0 (suc n) (assignment at) → (list : Part) (records : List Record)
+      → Bound (limits sheet (head at)) (list .end) (list .trees) records → Leads sheet Sim Left true Whatever (arrow-of A sheet ask at list) (arrow-of B sheet ask′ at list)
+  unfolding arrow-of
+  arrow-led A B at r list rs b = last (body (if token sheet at is Async then Row.AsyncArrow else Row.Arrow) at (list .end) (list .trees)) (omega arith)
+
+  -- every production, where that of the assignment level is given
+  step-led : (A : Policy N) (B : Policy N′)
+      → ((at : ℕ) → Ready sheet 0 (suc n) (assignment at) → Leads sheet Sim Left true Whatever (assignment-of A sheet ask at) (assignment-of B sheet ask′ at))
+      → (job : Job) → Ready sheet 0 (suc n) job → Leads sheet Sim Left (open-ended job) Whatever (step A sheet ask job) (step B sheet ask′ job)
+  unfolding step expression-of sequence-of value-of after-binary is-assignment-operator assign-of conditional-of binary-of operators-of unary-of is-unary-operator is-update-operator postfix-of left-hand-side-of links-of arguments-of primary-of parenthesized-of spread-of elements-of properties-of property-of shorthand-of key-of binding-of binding-element-of binding-rest-of binding-elements-of binding-properties-of binding-property-of binding-shorthand-of head-of parameters-of body-of
   -- 13.16
-  expression-led : (at : ℕ) → Ready sheet 0 (suc n) (expression at) → Leads sheet Sim Left true Whatever (expression-of sheet ask at) (expression-of sheet ask′ at)
-  unfolding expression-of
-  expression-led at r =
-      follow (asked (assignment at) (omega arith))
+  step-led A B assigns (expression at) r =
+      lead-follow stays (asked (assignment at) (omega arith))
       (λ part rs b. lead-token _ _ (λ t. last (sequence at (part .end) (part .end) (part .trees)) (omega arith)) (lead-yield _ _))
       (λ o part d. rw (dead-is sheet (part .end) Comma d refl) (halts-yield refl _ _ d))
-
-  sequence-led : (first comma at : ℕ) (so-far : Forest) → Ready sheet 0 (suc n) (sequence first comma at so-far)
-      → Leads sheet Sim Left true Whatever (sequence-of sheet ask first comma at so-far) (sequence-of sheet ask′ first comma at so-far)
-  unfolding sequence-of
-  sequence-led first comma at so-far r =
+  step-led A B assigns (sequence first comma at so-far) r =
       lead-token _ _
-      (λ t. follow (asked (assignment (at + 1)) (omega arith)) (λ part rs b. last (sequence first comma (part .end) (join so-far (part .trees))) (omega arith))
+      (λ t. lead-follow stays (asked (assignment (at + 1)) (omega arith)) (λ part rs b. last (sequence first comma (part .end) (join so-far (part .trees))) (omega arith))
       (λ o part d. h .quiet first comma (part .end) (join so-far (part .trees)) (omega arith) d))
       (lead-yield _ _)
-
+  step-led A B assigns (assignment at) r = assigns at r
   -- 13.15 and 13.14
-  value-led : (at : ℕ) → Ready sheet 0 (suc n) (value at) → Leads sheet Sim Left true Whatever (value-of sheet ask at) (value-of sheet ask′ at)
-  unfolding value-of after-binary is-assignment-operator
-  value-led at r =
+  step-led A B assigns (value at) r =
       lead-test (is-async-name sheet at)
       (λ t. last (body Row.AsyncArrow at (at + 2) (one (leaf Row.BindingName (at + 1))))
       (omega (arith, async-inside sheet at t)))
@@ -263,298 +274,161 @@ module _ {N N′ : Type 0} {Sim : N → N′ → Type 0} {Left : Out N′ → Ty
       (λ _. lead-test (is-assignment-operator (token sheet (left .end)))
       (λ t. last (assign at (left .end) (tree left)) (omega (arith, inside sheet (left .end) is-assignment-operator refl t)))
       (λ _. lead-token _ _ (λ t. last (conditional at (left .end) (tree left)) (omega arith)) (lead-yield _ _)))))
-
-  assign-led : (first at : ℕ) (left : Tree) → Ready sheet 0 (suc n) (assign first at left) → Leads sheet Sim Left true Whatever (assign-of sheet ask first at left) (assign-of sheet ask′ first at left)
-  unfolding assign-of
-  assign-led first at left r =
+  step-led A B assigns (assign first at left) r =
       then-on (lead-convert fails (if token sheet at is Eq then any else simple) at left)
-      (λ target rs b. follow (asked (assignment (at + 1)) (omega arith)) (λ right more c. lead-yield _ _) (λ o right d. halts-yield refl _ _ d))
-
-  conditional-led : (first at : ℕ) (left : Tree) → Ready sheet 0 (suc n) (conditional first at left)
-      → Leads sheet Sim Left true Whatever (conditional-of sheet ask first at left) (conditional-of sheet ask′ first at left)
-  unfolding conditional-of
-  conditional-led first at left r =
-      follow (asked (assignment (at + 1)) (omega arith))
-      (λ if-true rs b. lead-token _ _ (λ t. follow (asked (assignment (if-true .end + 1)) (omega arith)) (λ if-false more c. lead-yield _ _) (λ o if-false d. halts-yield refl _ _ d)) (no _))
+      (λ target rs b. lead-follow stays (asked (assignment (at + 1)) (omega arith)) (λ right more c. lead-yield _ _) (λ o right d. halts-yield refl _ _ d))
+  step-led A B assigns (conditional first at left) r =
+      lead-follow stays (asked (assignment (at + 1)) (omega arith))
+      (λ if-true rs b. lead-token _ _ (λ t. lead-follow stays (asked (assignment (if-true .end + 1)) (omega arith)) (λ if-false more c. lead-yield _ _) (λ o if-false d. halts-yield refl _ _ d)) (no _))
       (λ o if-true d. rw (dead-is sheet (if-true .end) Colon d refl) (halts-refuse _))
-
   -- 13.6 to 13.13
-  binary-led : (floor at : ℕ) → Ready sheet 0 (suc n) (binary floor at) → Leads sheet Sim Left false Whatever (binary-of sheet ask floor at) (binary-of sheet ask′ floor at)
-  unfolding binary-of
-  binary-led floor at r = then-on (asked (unary at) (omega arith)) (λ left rs b. last (operators floor at (left .end) (tree left)) (omega arith))
-
-  operators-led : (floor first at : ℕ) (left : Tree) → Ready sheet 0 (suc n) (operators floor first at left)
-      → Leads sheet Sim Left false Whatever (operators-of sheet ask floor first at left) (operators-of sheet ask′ floor first at left)
-  unfolding operators-of
-  operators-led floor first at left r =
+  step-led A B assigns (binary floor at) r = then-on (asked (unary at) (omega arith)) (λ left rs b. last (operators floor at (left .end) (tree left)) (omega arith))
+  step-led A B assigns (operators floor first at left) r =
       lead-test (ltb floor (expression-level (token sheet at)))
       (λ t. let i = operator-inside sheet at floor t in then-on (asked (binary (right-floor (token sheet at)) (at + 1)) (omega arith))
       (λ right rs b. lead-say stays _ (last (operators floor first (right .end) (node (operation-kind (token sheet at)) at first (right .end) (cons left (right .trees)))) (omega arith))))
       (λ _. lead-yield _ _)
-
   -- 13.5 and 13.4
-  unary-led : (at : ℕ) → Ready sheet 0 (suc n) (unary at) → Leads sheet Sim Left false Whatever (unary-of sheet ask at) (unary-of sheet ask′ at)
-  unfolding unary-of is-unary-operator is-update-operator
-  unary-led at r =
+  step-led A B assigns (unary at) r =
       lead-test (is-unary-operator (token sheet at))
       (λ t. let i = inside sheet at is-unary-operator refl t in then-on (asked (unary (at + 1)) (omega arith)) (λ operand rs b. lead-yield _ _))
       (λ _. lead-test (is-update-operator (token sheet at))
       (λ t. let i = inside sheet at is-update-operator refl t in then-on (asked (unary (at + 1)) (omega arith))
       (λ operand rs b. then-on (lead-convert fails simple (operand .end) (tree operand)) (λ target more c. lead-yield _ _)))
       (λ _. last (postfix at) (omega arith)))
-
-  postfix-led : (at : ℕ) → Ready sheet 0 (suc n) (postfix at) → Leads sheet Sim Left false Whatever (postfix-of sheet ask at) (postfix-of sheet ask′ at)
-  unfolding postfix-of
-  postfix-led at r =
+  step-led A B assigns (postfix at) r =
       then-on (asked (left-hand-side at) (omega arith))
       (λ operand rs b. lead-test (is-update-operator (token sheet (operand .end)) and not (break-before sheet (operand .end)))
       (λ t. then-on (lead-convert fails simple (operand .end) (tree operand)) (λ target more c. lead-yield _ _))
       (λ _. lead-yield _ _))
-
   -- 13.3
-  left-hand-side-led : (at : ℕ) → Ready sheet 0 (suc n) (left-hand-side at) → Leads sheet Sim Left false Whatever (left-hand-side-of sheet ask at) (left-hand-side-of sheet ask′ at)
-  unfolding left-hand-side-of
-  left-hand-side-led at r = then-on (asked (primary at) (omega arith)) (λ base rs b. last (links at (base .end) (tree base)) (omega arith))
-
-  links-led : (first at : ℕ) (left : Tree) → Ready sheet 0 (suc n) (links first at left) → Leads sheet Sim Left false Whatever (links-of sheet ask first at left) (links-of sheet ask′ first at left)
-  unfolding links-of
-  links-led first at left r =
+  step-led A B assigns (left-hand-side at) r = then-on (asked (primary at) (omega arith)) (λ base rs b. last (links at (base .end) (tree base)) (omega arith))
+  step-led A B assigns (links first at left) r =
       lead-token _ _
       (λ t. lead-test (is-word (token sheet (at + 1))) (λ w. last (links first (at + 2) (node Row.Member (at + 1) first (at + 2) (one left))) (omega arith)) (λ _. no _))
       (lead-token _ _
-      (λ t. follow (asked (expression (at + 1)) (omega arith))
+      (λ t. lead-follow stays (asked (expression (at + 1)) (omega arith))
       (λ inner rs b. lead-token _ _ (λ t. last (links first (inner .end + 1) (node Row.Index first first (inner .end + 1) (cons left (inner .trees)))) (omega arith)) (no _))
       (λ o inner d. rw (dead-is sheet (inner .end) RBrack d refl) (halts-refuse _)))
       (lead-token _ _
       (λ t. then-on (asked (arguments first (at + 1) (one left)) (omega arith)) (λ call rs b. last (links first (call .end) (tree call)) (omega arith)))
       (lead-yield _ _)))
-
-  argument-led : (at : ℕ) (dots : Bool) → token sheet at is Dot3 ≡ dots → 32 * (length (sheet .kinds) - at) + 11 ≤ n
-      → Leads sheet Sim Left true (Bound (reads sheet at 0 0)) (ask (if dots then spread at else assignment at)) (ask′ (if dots then spread at else assignment at))
-  argument-led at true e le = asked (spread at) (omega (arith, inside sheet at (λ k. k is Dot3) refl e))
-  argument-led at false e le = asked (assignment at) (omega arith)
-
-  arguments-led : (first at : ℕ) (so-far : Forest) → Ready sheet 0 (suc n) (arguments first at so-far)
-      → Leads sheet Sim Left false Whatever (arguments-of sheet ask first at so-far) (arguments-of sheet ask′ first at so-far)
-  unfolding arguments-of
-  arguments-led first at so-far r =
+  step-led A B assigns (arguments first at so-far) r =
       lead-token _ _ (λ t. lead-yield _ _)
-      (follow (argument-led at (token sheet at is Dot3) refl (omega arith))
+      (lead-follow stays (argument-led at (token sheet at is Dot3) (assignment at) refl (omega arith) (known (asked (assignment at) (omega arith)) (λ end trees records b. (omega arith, omega arith))))
       (λ argument rs b. lead-token _ _ (λ t. last (arguments first (argument .end + 1) (join so-far (argument .trees))) (omega arith))
       (lead-token _ _ (λ t. lead-yield _ _) (no _)))
       (λ o argument d. rw (dead-is sheet (argument .end) Comma d refl, dead-is sheet (argument .end) RParen d refl) (halts-refuse _)))
-
   -- 13.2
-  primary-led : (at : ℕ) → Ready sheet 0 (suc n) (primary at) → Leads sheet Sim Left false Whatever (primary-of sheet ask at) (primary-of sheet ask′ at)
-  unfolding primary-of parenthesized-of
-  primary-led at r =
+  step-led A B assigns (primary at) r =
       lead-test (is-name (token sheet at)) (λ t. lead-yield _ _)
       (λ _. lead-token _ _ (λ t. lead-yield _ _)
       (lead-test (is-literal (token sheet at)) (λ t. lead-yield _ _)
       (λ _. lead-token _ _
-      (λ t. follow (asked (expression (at + 1)) (omega arith)) (λ inner rs b. lead-token _ _ (λ t. lead-yield _ _) (no _))
+      (λ t. lead-follow stays (asked (expression (at + 1)) (omega arith)) (λ inner rs b. lead-token _ _ (λ t. lead-yield _ _) (no _))
       (λ o inner d. rw (dead-is sheet (inner .end) RParen d refl) (halts-refuse _)))
       (lead-token _ _ (λ t. last (elements at (at + 1) Row.Array nil) (omega arith))
       (lead-token _ _ (λ t. last (properties at (at + 1) Row.Object nil) (omega arith)) (no _))))))
-
-  spread-led : (at : ℕ) → Ready sheet 0 (suc n) (spread at) → Leads sheet Sim Left true Whatever (spread-of sheet ask at) (spread-of sheet ask′ at)
-  unfolding spread-of
-  spread-led at r = follow (asked (assignment (at + 1)) (omega arith)) (λ argument rs b. lead-yield _ _) (λ o argument d. halts-yield refl _ _ d)
-
-  elements-led : (first at kind : ℕ) (so-far : Forest) → Ready sheet 0 (suc n) (elements first at kind so-far)
-      → Leads sheet Sim Left false Whatever (elements-of sheet ask first at kind so-far) (elements-of sheet ask′ first at kind so-far)
-  unfolding elements-of
-  elements-led first at kind so-far r =
+  step-led A B assigns (elements first at kind so-far) r =
       lead-token _ _ (λ t. lead-yield _ _)
       (lead-token _ _ (λ t. last (elements first (at + 1) Row.Array (join so-far (one (leaf Row.Hole at)))) (omega arith))
-      (follow (argument-led at (token sheet at is Dot3) refl (omega arith))
+      (lead-follow stays (argument-led at (token sheet at is Dot3) (assignment at) refl (omega arith) (known (asked (assignment at) (omega arith)) (λ end trees records b. (omega arith, omega arith))))
       (λ element rs b. lead-token _ _
       (λ t. last (elements first (element .end + 1) (if token sheet at is Dot3 then Row.ArrayRestComma else Row.Array) (join so-far (element .trees))) (omega arith))
       (lead-token _ _ (λ t. lead-yield _ _) (no _)))
       (λ o element d. rw (dead-is sheet (element .end) Comma d refl, dead-is sheet (element .end) RBrack d refl) (halts-refuse _))))
-
-  property-or-spread-led : (at : ℕ) (dots : Bool) → token sheet at is Dot3 ≡ dots → 32 * (length (sheet .kinds) - at) + 11 ≤ n
-      → Leads sheet Sim Left true (λ end trees records. (at + 1 ≤ end) × (end ≤ length (sheet .kinds))) (ask (if dots then spread at else property at)) (ask′ (if dots then spread at else property at))
-  property-or-spread-led at true e le = known (asked (spread at) (omega (arith, inside sheet at (λ k. k is Dot3) refl e))) (λ end trees records b. (omega arith, omega arith))
-  property-or-spread-led at false e le = known (asked (property at) (omega arith)) (λ end trees records b. (omega arith, omega arith))
-
-  properties-led : (first at kind : ℕ) (so-far : Forest) → Ready sheet 0 (suc n) (properties first at kind so-far)
-      → Leads sheet Sim Left false Whatever (properties-of sheet ask first at kind so-far) (properties-of sheet ask′ first at kind so-far)
-  unfolding properties-of
-  properties-led first at kind so-far r =
+  step-led A B assigns (properties first at kind so-far) r =
       lead-token _ _ (λ t. lead-yield _ _)
-      (follow (property-or-spread-led at (token sheet at is Dot3) refl (omega arith))
+      (lead-follow stays (argument-led at (token sheet at is Dot3) (property at) refl (omega arith) (known (asked (property at) (omega arith)) (λ end trees records b. (omega arith, omega arith))))
       (λ part rs b. lead-token _ _
       (λ t. last (properties first (part .end + 1) (if token sheet at is Dot3 then Row.ObjectRestComma else Row.Object) (join so-far (part .trees))) (omega arith))
       (lead-token _ _ (λ t. lead-yield _ _) (no _)))
       (λ o part d. rw (dead-is sheet (part .end) Comma d refl, dead-is sheet (part .end) RCurly d refl) (halts-refuse _)))
-
-  property-led : (at : ℕ) → Ready sheet 0 (suc n) (property at) → Leads sheet Sim Left true Whatever (property-of sheet ask at) (property-of sheet ask′ at)
-  unfolding property-of shorthand-of
-  property-led at r =
+  step-led A B assigns (property at) r =
       lead-test (is-name (token sheet at) and not (token sheet (at + 1) is Colon))
-      (λ _. lead-token _ _ (λ t. follow (asked (assignment (at + 2)) (omega arith)) (λ initializer rs b. lead-yield _ _) (λ o initializer d. halts-yield refl _ _ d)) (lead-yield _ _))
+      (λ _. lead-token _ _ (λ t. lead-follow stays (asked (assignment (at + 2)) (omega arith)) (λ initializer rs b. lead-yield _ _) (λ o initializer d. halts-yield refl _ _ d)) (lead-yield _ _))
       (λ _. then-on (asked (key at) (omega arith))
-      (λ name rs b. lead-token _ _ (λ t. follow (asked (assignment (name .end + 1)) (omega arith)) (λ content more c. lead-yield _ _) (λ o content d. halts-yield refl _ _ d)) (no _)))
-
-  key-led : (at : ℕ) → Ready sheet 0 (suc n) (key at) → Leads sheet Sim Left false Whatever (key-of sheet ask at) (key-of sheet ask′ at)
-  unfolding key-of
-  key-led at r =
+      (λ name rs b. lead-token _ _ (λ t. lead-follow stays (asked (assignment (name .end + 1)) (omega arith)) (λ content more c. lead-yield _ _) (λ o content d. halts-yield refl _ _ d)) (no _)))
+  step-led A B assigns (key at) r =
       lead-test (is-word (token sheet at) or token sheet at is Str or token sheet at is Number) (λ t. lead-yield _ _)
       (λ _. lead-token _ _
-      (λ t. follow (asked (assignment (at + 1)) (omega arith)) (λ inner rs b. lead-token _ _ (λ t. lead-yield _ _) (no _))
+      (λ t. lead-follow stays (asked (assignment (at + 1)) (omega arith)) (λ inner rs b. lead-token _ _ (λ t. lead-yield _ _) (no _))
       (λ o inner d. rw (dead-is sheet (inner .end) RBrack d refl) (halts-refuse _)))
       (no _))
-
+  step-led A B assigns (spread at) r = lead-follow stays (asked (assignment (at + 1)) (omega arith)) (λ argument rs b. lead-yield _ _) (λ o argument d. halts-yield refl _ _ d)
   -- 14.3.3
-  binding-led : (at : ℕ) → Ready sheet 0 (suc n) (binding at) → Leads sheet Sim Left false Whatever (binding-of sheet ask at) (binding-of sheet ask′ at)
-  unfolding binding-of
-  binding-led at r =
+  step-led A B assigns (binding at) r =
       lead-test (is-name (token sheet at)) (λ t. lead-yield _ _)
       (λ _. lead-token _ _ (λ t. last (binding-elements at (at + 1) nil) (omega arith))
       (lead-token _ _ (λ t. last (binding-properties at (at + 1) nil) (omega arith)) (no _)))
-
-  binding-element-led : (at : ℕ) → Ready sheet 0 (suc n) (binding-element at) → Leads sheet Sim Left true Whatever (binding-element-of sheet ask at) (binding-element-of sheet ask′ at)
-  unfolding binding-element-of
-  binding-element-led at r =
+  step-led A B assigns (binding-element at) r =
       then-on (asked (binding at) (omega arith))
-      (λ target rs b. lead-token _ _ (λ t. follow (asked (assignment (target .end + 1)) (omega arith)) (λ initializer more c. lead-yield _ _) (λ o initializer d. halts-yield refl _ _ d)) (lead-yield _ _))
-
-  binding-rest-led : (at : ℕ) → Ready sheet 0 (suc n) (binding-rest at) → Leads sheet Sim Left true Whatever (binding-rest-of sheet ask at) (binding-rest-of sheet ask′ at)
-  unfolding binding-rest-of
-  binding-rest-led at r =
-      follow (asked (binding-element (at + 1)) (omega arith)) (λ argument rs b. lead-say stays _ (lead-yield _ _)) (λ o argument d. halts-say _ (halts-yield refl _ _ d))
-
-  binding-elements-led : (first at : ℕ) (so-far : Forest) → Ready sheet 0 (suc n) (binding-elements first at so-far)
-      → Leads sheet Sim Left false Whatever (binding-elements-of sheet ask first at so-far) (binding-elements-of sheet ask′ first at so-far)
-  unfolding binding-elements-of
-  binding-elements-led first at so-far r =
+      (λ target rs b. lead-token _ _ (λ t. lead-follow stays (asked (assignment (target .end + 1)) (omega arith)) (λ initializer more c. lead-yield _ _) (λ o initializer d. halts-yield refl _ _ d)) (lead-yield _ _))
+  step-led A B assigns (binding-elements first at so-far) r =
       lead-token _ _ (λ t. lead-yield _ _)
       (lead-token _ _ (λ t. last (binding-elements first (at + 1) (join so-far (one (leaf Row.Hole at)))) (omega arith))
       (lead-token _ _
-      (λ t. follow (asked (binding-rest at) (omega arith)) (λ rest rs b. lead-token _ _ (λ t. lead-yield _ _) (no _))
+      (λ t. lead-follow stays (asked (binding-rest at) (omega arith)) (λ rest rs b. lead-token _ _ (λ t. lead-yield _ _) (no _))
       (λ o rest d. rw (dead-is sheet (rest .end) RBrack d refl) (halts-refuse _)))
-      (follow (asked (binding-element at) (omega arith))
+      (lead-follow stays (asked (binding-element at) (omega arith))
       (λ element rs b. lead-token _ _ (λ t. last (binding-elements first (element .end + 1) (join so-far (element .trees))) (omega arith))
       (lead-token _ _ (λ t. lead-yield _ _) (no _)))
       (λ o element d. rw (dead-is sheet (element .end) Comma d refl, dead-is sheet (element .end) RBrack d refl) (halts-refuse _)))))
-
-  binding-properties-led : (first at : ℕ) (so-far : Forest) → Ready sheet 0 (suc n) (binding-properties first at so-far)
-      → Leads sheet Sim Left false Whatever (binding-properties-of sheet ask first at so-far) (binding-properties-of sheet ask′ first at so-far)
-  unfolding binding-properties-of
-  binding-properties-led first at so-far r =
+  step-led A B assigns (binding-properties first at so-far) r =
       lead-token _ _ (λ t. lead-yield _ _)
       (lead-token _ _
-      (λ t. follow (asked (binding-rest at) (omega arith))
+      (λ t. lead-follow stays (asked (binding-rest at) (omega arith))
       (λ rest rs b. lead-token _ _
       (λ t. lead-test (kind-of (argument-of (tree rest)) is Row.BindingName) (λ _. lead-yield _ _) (λ _. no _))
       (no _))
       (λ o rest d. rw (dead-is sheet (rest .end) RCurly d refl) (halts-refuse _)))
-      (follow (asked (binding-property at) (omega arith))
+      (lead-follow stays (asked (binding-property at) (omega arith))
       (λ part rs b. lead-token _ _ (λ t. last (binding-properties first (part .end + 1) (join so-far (part .trees))) (omega arith))
       (lead-token _ _ (λ t. lead-yield _ _) (no _)))
       (λ o part d. rw (dead-is sheet (part .end) Comma d refl, dead-is sheet (part .end) RCurly d refl) (halts-refuse _))))
-
-  binding-property-led : (at : ℕ) → Ready sheet 0 (suc n) (binding-property at) → Leads sheet Sim Left true Whatever (binding-property-of sheet ask at) (binding-property-of sheet ask′ at)
-  unfolding binding-property-of binding-shorthand-of
-  binding-property-led at r =
+  step-led A B assigns (binding-property at) r =
       lead-test (is-name (token sheet at) and not (token sheet (at + 1) is Colon))
-      (λ _. lead-token _ _ (λ t. follow (asked (assignment (at + 2)) (omega arith)) (λ initializer rs b. lead-yield _ _) (λ o initializer d. halts-yield refl _ _ d)) (lead-yield _ _))
+      (λ _. lead-token _ _ (λ t. lead-follow stays (asked (assignment (at + 2)) (omega arith)) (λ initializer rs b. lead-yield _ _) (λ o initializer d. halts-yield refl _ _ d)) (lead-yield _ _))
       (λ _. then-on (asked (key at) (omega arith))
-      (λ name rs b. lead-token _ _ (λ t. follow (asked (binding-element (name .end + 1)) (omega arith)) (λ content more c. lead-yield _ _) (λ o content d. halts-yield refl _ _ d)) (no _)))
-
-  -- 15.3 and 15.9
-  parenthesized-head-led : (at : ℕ) → 32 * (length (sheet .kinds) - at) + 4 ≤ n + 1 → Leads sheet Sim Left false Whatever (parenthesized-head-of sheet ask at) (parenthesized-head-of sheet ask′ at)
-  unfolding parenthesized-head-of
-  parenthesized-head-led at le =
-      lead-token _ _ (λ t. then-on (asked (parameters (at + 1) nil) (omega arith)) (λ list rs b. lead-token _ _ (λ t. lead-yield _ _) (no _))) (no _)
-
-  head-led : (at : ℕ) → Ready sheet 0 (suc n) (head at) → Leads sheet Sim Left false Whatever (head-of sheet ask at) (head-of sheet ask′ at)
-  unfolding head-of
-  head-led at r =
+      (λ name rs b. lead-token _ _ (λ t. lead-follow stays (asked (binding-element (name .end + 1)) (omega arith)) (λ content more c. lead-yield _ _) (λ o content d. halts-yield refl _ _ d)) (no _)))
+  step-led A B assigns (binding-rest at) r =
+      lead-follow stays (asked (binding-element (at + 1)) (omega arith)) (λ argument rs b. lead-say stays _ (lead-yield _ _)) (λ o argument d. halts-say _ (halts-yield refl _ _ d))
+  step-led A B assigns (head at) r =
       lead-token _ _
       (λ t. lead-test (not (break-before sheet (at + 1))) (λ _. parenthesized-head-led (at + 1) (omega arith)) (λ _. no _))
       (parenthesized-head-led at (omega arith))
-
-  parameters-led : (at : ℕ) (so-far : Forest) → Ready sheet 0 (suc n) (parameters at so-far)
-      → Leads sheet Sim Left false Whatever (parameters-of sheet ask at so-far) (parameters-of sheet ask′ at so-far)
-  unfolding parameters-of
-  parameters-led at so-far r =
+  step-led A B assigns (parameters at so-far) r =
       lead-token _ _ (λ t. lead-yield _ _)
       (lead-token _ _
-      (λ t. follow (asked (binding-rest at) (omega arith)) (λ rest rs b. lead-token _ _ (λ t. lead-yield _ _) (no _))
+      (λ t. lead-follow stays (asked (binding-rest at) (omega arith)) (λ rest rs b. lead-token _ _ (λ t. lead-yield _ _) (no _))
       (λ o rest d. rw (dead-is sheet (rest .end) RParen d refl) (halts-refuse _)))
-      (follow (asked (binding-element at) (omega arith))
+      (lead-follow stays (asked (binding-element at) (omega arith))
       (λ parameter rs b. lead-token _ _ (λ t. last (parameters (parameter .end + 1) (join so-far (parameter .trees))) (omega arith))
       (lead-token _ _ (λ t. lead-yield _ _) (no _)))
       (λ o parameter d. rw (dead-is sheet (parameter .end) Comma d refl, dead-is sheet (parameter .end) RParen d refl) (halts-refuse _))))
-
-  body-led : (kind first at : ℕ) (so-far : Forest) → Ready sheet 0 (suc n) (body kind first at so-far)
-      → Leads sheet Sim Left true Whatever (body-of sheet ask kind first at so-far) (body-of sheet ask′ kind first at so-far)
-  unfolding body-of
-  body-led kind first at so-far r =
+  step-led A B assigns (body kind first at so-far) r =
       lead-say stays _ (lead-test (not (token sheet (at + 1) is LCurly))
-      (λ _. follow (asked (assignment (at + 1)) (omega arith)) (λ inner rs b. lead-yield _ _) (λ o inner d. halts-yield refl _ _ d))
+      (λ _. lead-follow stays (asked (assignment (at + 1)) (omega arith)) (λ inner rs b. lead-yield _ _) (λ o inner d. halts-yield refl _ _ d))
       (λ _. no _))
 
-  -- a head that both have read
-  pub arrow-led : (A : Policy N) (B : Policy N′) (at : ℕ) → Ready sheet 0 (suc n) (assignment at) → (list : Part) (records : List Record)
-      → Bound (limits sheet (head at)) (list .end) (list .trees) records → Leads sheet Sim Left true Whatever (arrow-of A sheet ask at list) (arrow-of B sheet ask′ at list)
-  unfolding arrow-of
-  arrow-led A B at r list rs b = last (body (if token sheet at is Async then Row.AsyncArrow else Row.Arrow) at (list .end) (list .trees)) (omega arith)
-
 -- a Sequence ends where nothing may follow
-sequence-halts : {N : Type 0} (sheet : Sheet) (ask : Asks N) (first comma at : ℕ) (so-far : Forest) → Dead sheet at → Halts sheet true (sequence-of sheet ask first comma at so-far)
-unfolding sequence-of
-sequence-halts sheet ask first comma at so-far d = rw (dead-is sheet at Comma d refl) (halts-yield refl at _ d)
-
 sequence-quiet : {N : Type 0} (policy : Policy N) (sheet : Sheet) (steps : ℕ) (first comma at : ℕ) (so-far : Forest) → 1 ≤ steps → Dead sheet at
     → Halts sheet true (read policy sheet steps (sequence first comma at so-far))
-unfolding read step
+unfolding read step sequence-of
 sequence-quiet policy sheet zero first comma at so-far l d = absurd (omega arith)
-sequence-quiet policy sheet (suc steps) first comma at so-far l d = record { with = λ m. sequence-halts sheet (read policy sheet steps) first comma at so-far d .with m }
+sequence-quiet policy sheet (suc steps) first comma at so-far l d =
+    let h : Halts sheet true (sequence-of sheet (read policy sheet steps) first comma at so-far) = rw (dead-is sheet at Comma d refl) (halts-yield refl at _ d) in
+    record { with = λ m. h .with m }
 
 -- THE TWO READERS, from what is special to their policies
 module _ {N N′ : Type 0} {Sim : N → N′ → Type 0} {Left : Out N′ → Type 0} (sheet : Sheet) (stays : Stays sheet Sim Left)
     (fails : (cause : Cause) (m : N) (m′ : N′) → Sim m m′ → Left (fail cause m′)) (A : Policy N) (B : Policy N′)
     (assignment-led : (n f f′ : ℕ) → n ≤ f → n ≤ f′ → Near sheet Sim Left n (read A sheet f) (read B sheet f′) → (at : ℕ) → Ready sheet 0 (suc n) (assignment at)
     → Leads sheet Sim Left true Whatever (assignment-of A sheet (read A sheet f) at) (assignment-of B sheet (read B sheet f′) at)) where
-  step-led : (n f f′ : ℕ) → n ≤ f → n ≤ f′ → Near sheet Sim Left n (read A sheet f) (read B sheet f′) → (job : Job) → Ready sheet 0 (suc n) job
-      → Leads sheet Sim Left (open-ended job) Whatever (step A sheet (read A sheet f) job) (step B sheet (read B sheet f′) job)
-  unfolding step
-  step-led n f f′ l l′ h (expression at) r = expression-led sheet stays fails h at r
-  step-led n f f′ l l′ h (sequence first comma at so-far) r = sequence-led sheet stays fails h first comma at so-far r
-  step-led n f f′ l l′ h (assignment at) r = assignment-led n f f′ l l′ h at r
-  step-led n f f′ l l′ h (value at) r = value-led sheet stays fails h at r
-  step-led n f f′ l l′ h (assign first at left) r = assign-led sheet stays fails h first at left r
-  step-led n f f′ l l′ h (conditional first at left) r = conditional-led sheet stays fails h first at left r
-  step-led n f f′ l l′ h (binary floor at) r = binary-led sheet stays fails h floor at r
-  step-led n f f′ l l′ h (operators floor first at left) r = operators-led sheet stays fails h floor first at left r
-  step-led n f f′ l l′ h (unary at) r = unary-led sheet stays fails h at r
-  step-led n f f′ l l′ h (postfix at) r = postfix-led sheet stays fails h at r
-  step-led n f f′ l l′ h (left-hand-side at) r = left-hand-side-led sheet stays fails h at r
-  step-led n f f′ l l′ h (links first at left) r = links-led sheet stays fails h first at left r
-  step-led n f f′ l l′ h (arguments first at so-far) r = arguments-led sheet stays fails h first at so-far r
-  step-led n f f′ l l′ h (primary at) r = primary-led sheet stays fails h at r
-  step-led n f f′ l l′ h (elements first at kind so-far) r = elements-led sheet stays fails h first at kind so-far r
-  step-led n f f′ l l′ h (properties first at kind so-far) r = properties-led sheet stays fails h first at kind so-far r
-  step-led n f f′ l l′ h (property at) r = property-led sheet stays fails h at r
-  step-led n f f′ l l′ h (key at) r = key-led sheet stays fails h at r
-  step-led n f f′ l l′ h (spread at) r = spread-led sheet stays fails h at r
-  step-led n f f′ l l′ h (binding at) r = binding-led sheet stays fails h at r
-  step-led n f f′ l l′ h (binding-element at) r = binding-element-led sheet stays fails h at r
-  step-led n f f′ l l′ h (binding-elements first at so-far) r = binding-elements-led sheet stays fails h first at so-far r
-  step-led n f f′ l l′ h (binding-properties first at so-far) r = binding-properties-led sheet stays fails h first at so-far r
-  step-led n f f′ l l′ h (binding-property at) r = binding-property-led sheet stays fails h at r
-  step-led n f f′ l l′ h (binding-rest at) r = binding-rest-led sheet stays fails h at r
-  step-led n f f′ l l′ h (head at) r = head-led sheet stays fails h at r
-  step-led n f f′ l l′ h (parameters at so-far) r = parameters-led sheet stays fails h at so-far r
-  step-led n f f′ l l′ h (body kind first at so-far) r = body-led sheet stays fails h kind first at so-far r
-
   one-step : (n f f′ : ℕ) → n ≤ f → n ≤ f′ → Near sheet Sim Left n (read A sheet f) (read B sheet f′) → (job : Job) → Ready sheet 0 (suc n) job → (m : N) (m′ : N′) → Sim m m′
       → Led sheet Sim Left (open-ended job) Whatever (read A sheet (suc f) job m) (read B sheet (suc f′) job m′)
   unfolding read
-  one-step n f f′ l l′ h job r m m′ s = step-led n f f′ l l′ h job r .with m m′ s
+  one-step n f f′ l l′ h job r m m′ s = step-led sheet stays fails h A B (assignment-led n f f′ l l′ h) job r .with m m′ s
 
   -- what is known of the first is known of both
   with-bound : (f : ℕ) (job : Job) (m : N) {loose : Bool} {y : Out N′} → Led sheet Sim Left loose Whatever (read A sheet f job m) y
@@ -576,3 +450,18 @@ module _ {N N′ : Type 0} {Sim : N → N′ → Type 0} {Left : Out N′ → Ty
   pub led : (job : Job) → looked-at job ≤ length (sheet .kinds) → (f f′ : ℕ) → μ sheet job ≤ f → μ sheet job ≤ f′ → (m : N) (m′ : N′) → Sim m m′
       → Led sheet Sim Left (open-ended job) (Bound (limits sheet job)) (read A sheet f job m) (read B sheet f′ job m′)
   led job i f f′ le le′ m m′ s = near (μ sheet job) f f′ le le′ .with job (record { later = omega arith; stands-there = i; enough = omega arith }) .with m m′ s
+
+-- of a whole list: what the leader reads, the follower reads
+pub whole-led : {N N′ : Type 0} {Sim : N → N′ → Type 0} {Left : Out N′ → Type 0} {loose : Bool} {P : Meaning} (A : Policy N) (B : Policy N′) (sheet : Sheet) (job : Job) (m : N) (m′ : N′)
+    {trees : Forest} {records : List Record} {after : N} → Came A sheet job m trees records after
+    → Led sheet Sim Left loose P (read A sheet (plenty sheet) job m) (read B sheet (plenty sheet) job m′) → ReadAs (reading B sheet job m′) trees records
+whole-led A B sheet job m m′ {trees} c (both-done end ts rs _ after′ e₁ e₂ b s) =
+    let d = c .done-at-end in
+    let t = c .then-unconverted in
+    let w : read B sheet (plenty sheet) job m′ ≡ done (length (sheet .kinds)) trees (c .said) after′ = cc in
+    record { after = after′; is-whole = rw t (whole-from B sheet job m′ w) }
+whole-led A B sheet job m m′ c (halted (halt-fail cause _ e₁) _) = let d = c .done-at-end in let z : _≡_ {A = ℕ} 0 1 = cc in absurd (omega arith)
+whole-led A B sheet job m m′ c (halted (halt-dead o end ts rs _ e₁ k) _) =
+    let d = c .done-at-end in
+    let a : end ≡ length (sheet .kinds) = cc in
+    absurd (omega (arith, dead-inside sheet end k))

@@ -5,7 +5,6 @@ pub mod Heads
 pub mod Past
 pub mod Notes
 pub mod Lookahead
-pub mod Whole
 pub mod Agreement
 pub mod Answers
 pub mod Exception
@@ -14,4 +13,3 @@ pub mod Scope
 pub mod Work
 pub mod Nesting
 pub mod Steps
-pub mod Doubling

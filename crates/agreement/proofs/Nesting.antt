@@ -82,17 +82,9 @@ unfolding rests closing closes-from
 rests-none sheet at zero e = refl
 rests-none sheet at (suc depth) e = let z : length (sheet .kinds) - at ≡ 0 = omega arith in rw z (omega (arith, rests-none sheet at depth e))
 
-span-open : (sheet : Sheet) (at : ℕ) → side-of (token sheet at) ≡ 1 → span sheet at ≡ scope sheet (at + 1) + 1 - at
+span-is : (sheet : Sheet) (at way : ℕ) → side-of (token sheet at) ≡ way → span sheet at ≡ (if way is 1 then scope sheet (at + 1) + 1 - at else 0)
 unfolding span
-span-open sheet at e = rw e
-
-span-close : (sheet : Sheet) (at : ℕ) → side-of (token sheet at) ≡ 2 → span sheet at ≡ 0
-unfolding span
-span-close sheet at e = rw e
-
-span-flat : (sheet : Sheet) (at : ℕ) → side-of (token sheet at) ≡ 0 → span sheet at ≡ 0
-unfolding span
-span-flat sheet at e = rw e
+span-is sheet at way e = rw e
 
 bounded : (sheet : Sheet) (left at depth most : ℕ) → at + left ≡ length (sheet .kinds) → deepest-from sheet left at depth ≤ most
     → spans sheet left at + rests sheet at depth ≤ left * (most + 1)
@@ -115,13 +107,13 @@ bounded sheet (suc left) at depth most e d =
         omega (
           arith,
           h (depth + 1) q,
-          span-open sheet at s,
+          span-is sheet at 1 s,
           closing-later sheet (at + 1) 0,
           rests-open sheet at depth (record { goes = s }) l,
           deeper sheet left (at + 1) (depth-after depth (token sheet at)),
         )
-    go (closes s q) h w = closed depth refl (record { goes = s }) (span-close sheet at s) (omega arith) (h (depth - 1) q) w
-    go (neither s q) h w = omega (arith, h depth q, span-flat sheet at s, rests-flat sheet at depth (record { goes = s }) l)
+    go (closes s q) h w = closed depth refl (record { goes = s }) (span-is sheet at 2 s) (omega arith) (h (depth - 1) q) w
+    go (neither s q) h w = omega (arith, h depth q, span-is sheet at 0 s, rests-flat sheet at depth (record { goes = s }) l)
 
 -- THE STATEMENTS
 pub spans-bounded : (sheet : Sheet) → spans sheet (length (sheet .kinds)) 0 ≤ length (sheet .kinds) * (deepest sheet + 1)

@@ -16,7 +16,7 @@ use Rattle.tokens.specs.declared.cause.Cause.{Cause}
 use Rattle.lookahead.specs.declared.Tristate.{Tristate}
 use Rattle.rows.specs.Tree.{Forest}
 use Rattle.rows.specs.Record.{Record}
-use Rattle.grammar.specs.Sheet.{Sheet, token, Out, done, fail, after-records, and-then, or-else, _>>=_, try}
+use Rattle.grammar.specs.Sheet.{Sheet, token, Out, done, fail, stuck, after-records, and-then, or-else, _>>=_, try}
 use Rattle.grammar.specs.Job.{Job, assignment, value, head}
 use Rattle.grammar.specs.Arrow.{Policy, by-way, choose, noting, arrow-of, assignment-of}
 use Rattle.grammar.specs.Step.{read}
@@ -152,21 +152,18 @@ module _ (sheet : Sheet) (answer : ℕ → Tristate) (right : Right sheet answer
   follows-plain job i f f′ le le′ notes s = led sheet stays fails plain (asking answer) assignment-leads job i f f′ le le′ tt notes s
 
   -- sound notes stay sound, where a nonterminal is done and where it fails
-  pub stays-sound : (job : Job) → looked-at job ≤ length (sheet .kinds) → (steps : ℕ) → μ sheet job ≤ steps → (notes : List ℕ) → Sound sheet notes
-      → {end : ℕ} {trees : Forest} {records : List Record} {after : List ℕ} → read (asking answer) sheet steps job notes ≡ done end trees records after → Sound sheet after
-  stays-sound job i steps le notes s {after = after} e = go (follows-plain job i steps steps le le notes s)
-    where
-      go : {x : Out (Unit {0})} {loose : Bool} → Led sheet Sim (FailsSoundly sheet) loose (Bound (limits sheet job)) x (read (asking answer) sheet steps job notes) → Sound sheet after
-      go (both-done _ _ _ m m′ _ e′ b k) = let a : m′ ≡ after = cc in rw a at k
-      go (halted _ k) = let e′ = k .fails in let z : _≡_ {A = ℕ} 0 1 = cc in absurd (omega arith)
+  abbrev pub SoundAfter : Out (List ℕ) → Type 0
+  SoundAfter (done end trees records after) = Sound sheet after
+  SoundAfter (fail cause after) = Sound sheet after
+  SoundAfter stuck = ⊥
 
-  pub stays-sound-failing : (job : Job) → looked-at job ≤ length (sheet .kinds) → (steps : ℕ) → μ sheet job ≤ steps → (notes : List ℕ) → Sound sheet notes
-      → {cause : Cause} {after : List ℕ} → read (asking answer) sheet steps job notes ≡ fail cause after → Sound sheet after
-  stays-sound-failing job i steps le notes s {after = after} e = go (follows-plain job i steps steps le le notes s)
+  pub stays-sound : (job : Job) → looked-at job ≤ length (sheet .kinds) → (steps : ℕ) → μ sheet job ≤ steps → (notes : List ℕ) → Sound sheet notes
+      → SoundAfter (read (asking answer) sheet steps job notes)
+  stays-sound job i steps le notes s = go (follows-plain job i steps steps le le notes s)
     where
-      go : {x : Out (Unit {0})} {loose : Bool} → Led sheet Sim (FailsSoundly sheet) loose (Bound (limits sheet job)) x (read (asking answer) sheet steps job notes) → Sound sheet after
-      go (both-done _ _ _ m m′ _ e′ b k) = let z : _≡_ {A = ℕ} 0 1 = cc in absurd (omega arith)
-      go (halted _ k) = let e′ = k .fails in let a : k .after ≡ after = cc in rw a at (k .sound)
+      go : {x : Out (Unit {0})} {y : Out (List ℕ)} {loose : Bool} → Led sheet Sim (FailsSoundly sheet) loose (Bound (limits sheet job)) x y → SoundAfter y
+      go (both-done _ _ _ m m′ _ e b k) = rw e k
+      go (halted _ k) = rw (k .fails) (k .sound)
 
   -- two outcomes, but for the notes and the cause of a refusal
   pub data Same {N N′ : Type 0} (x : Out N) (y : Out N′) : Type 0 where

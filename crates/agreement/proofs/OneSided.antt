@@ -18,11 +18,11 @@ use Rattle.grammar.specs.Step.{read, plenty}
 use Rattle.laws.proofs.Settles.{in-plenty}
 use Rattle.laws.specs.Settles.{μ, looked-at}
 use Rattle.grammar.specs.Reading.{plain, whole, reading}
-use Rattle.laws.proofs.Good.{Came, came, whole-from}
+use Rattle.laws.proofs.Good.{came}
 use Rattle.laws.proofs.Bounds.{limits, Bound}
 use Rattle.laws.proofs.Rel.{Ready, Whatever}
 use Rattle.laws.proofs.Steady.{never-stuck}
-use Rattle.agreement.proofs.Leads.{open-ended, halt-fail, halt-dead, Led, both-done, halted, Leads, Near, Stays, forget, lead-test, led-after, arrow-led, led, dead-inside}
+use Rattle.agreement.proofs.Leads.{open-ended, halt-fail, halt-dead, Led, both-done, halted, Leads, Near, Stays, forget, lead-test, led-after, arrow-led, led, whole-led}
 use Rattle.laws.proofs.Readings.{Headed, balanced}
 use Rattle.agreement.proofs.Covers.{covered}
 
@@ -99,23 +99,6 @@ module _ {N : Type 0} (policy : Policy N) (sheet : Sheet) where
   -- THE STATEMENT
   pub plain-reads : (job : Job) → looked-at job ≤ length (sheet .kinds) → (notes : N) {trees : Forest} {records : List Record} {after : N}
       → reading policy sheet job notes ≡ whole trees records after → reading plain sheet job tt ≡ whole trees records tt
-  plain-reads job i notes {trees} {records} {after} e =
-      go (came policy sheet job notes e) (leads-plain job i (plenty sheet) (plenty sheet) (in-plenty sheet job) (in-plenty sheet job) notes)
-    where
-      go : Came policy sheet job notes trees records after
-          → Led sheet Any Free (open-ended job) (Bound (limits sheet job)) (read policy sheet (plenty sheet) job notes) (read plain sheet (plenty sheet) job tt)
-          → reading plain sheet job tt ≡ whole trees records tt
-      go c (both-done end ts rs m m′ e₁ e₂ b s) =
-          let d = c .done-at-end in
-          let t = c .then-unconverted in
-          let a : end ≡ length (sheet .kinds) = cc in
-          let q : ts ≡ trees = cc in
-          let p : rs ≡ c .said = cc in
-          let u : m′ ≡ tt = refl in
-          let w : read plain sheet (plenty sheet) job tt ≡ done (length (sheet .kinds)) trees (c .said) tt = cc in
-          rw t (whole-from plain sheet job tt w)
-      go c (halted (halt-fail cause m e₁) _) = let d = c .done-at-end in let z : _≡_ {A = ℕ} 0 1 = cc in absurd (omega arith)
-      go c (halted (halt-dead o end ts rs m e₁ k) _) =
-          let d = c .done-at-end in
-          let a : end ≡ length (sheet .kinds) = cc in
-          absurd (omega (arith, dead-inside sheet end k))
+  plain-reads job i notes e =
+      whole-led policy plain sheet job notes tt (came policy sheet job notes e)
+      (leads-plain job i (plenty sheet) (plenty sheet) (in-plenty sheet job) (in-plenty sheet job) notes) .is-whole

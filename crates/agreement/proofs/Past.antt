@@ -20,8 +20,8 @@ use Rattle.lookahead.specs.Cases as Cases
 use Rattle.lookahead.proofs.Laws as Laws
 use Rattle.rows.specs.Row as Row
 use Rattle.rows.specs.Tree.{Tree, Forest, one, kind-of}
-use Rattle.grammar.specs.Sheet.{Sheet, token, break-before, Out, done, fail, stuck, Part, tree}
-use Rattle.grammar.specs.Job.{Job, expression, sequence, assignment, value, assign, conditional, binary, operators, unary, postfix, left-hand-side, links, arguments, primary, elements, properties, property, key, spread, binding, binding-element, binding-elements, binding-properties, binding-property, binding-rest, head, parameters, body, Asks}
+use Rattle.grammar.specs.Sheet.{Sheet, token, break-before, Part, tree}
+use Rattle.grammar.specs.Job.{Job, expression, assignment, value, conditional, binary, operators, unary, postfix, left-hand-side, links, arguments, primary, head, Asks}
 use Rattle.grammar.specs.Comma.{expression-of}
 use Rattle.grammar.specs.Assignment.{is-assignment-operator, conditional-of, after-binary, is-async-name, value-of}
 use Rattle.grammar.specs.Binary.{binary-of, operators-of}
@@ -31,13 +31,13 @@ use Rattle.grammar.specs.Primary.{parenthesized-of, primary-of}
 use Rattle.grammar.specs.Arrow.{Policy, assignment-of, parenthesized-head-of, head-of}
 use Rattle.grammar.specs.Step.{step, read}
 use Rattle.laws.specs.Settles.{μ}
-use Rattle.laws.proofs.Good.{Meaning, Reads, Answers, Preserved, good, good-done, yields, refuses, follows, tries, test, token-test, chooses, notes, so, and-left, and-right}
+use Rattle.laws.proofs.Good.{Meaning, Ends, ends-done, ends-fail, ends-stuck, Reads, yields, refuses, follows, tries, test, token-test, chooses, notes, so, and-left, and-right}
 use Rattle.laws.proofs.Steady.{never-stuck}
 use Rattle.agreement.specs.Terms.{Early}
 use Rattle.agreement.proofs.Leads.{Dead, curly, Halt, halt-fail, halt-dead}
 use Rattle.laws.proofs.Balanced.{side-of, none}
-use Rattle.laws.proofs.Readings.{after-async}
-use Rattle.agreement.proofs.Covers.{covered}
+use Rattle.laws.proofs.Readings.{Closes, after-async}
+use Rattle.agreement.proofs.Covers.{Nothing, Told, all-told, covered}
 
 -- KINDS IN LISTS
 -- a test that all kinds of a list pass
@@ -163,70 +163,36 @@ module _ (sheet : Sheet) where
     called : token sheet at ≡ LParen → token sheet end ≡ LCurly → Went at end
 
   -- the nonterminals that are asked, each with what is known there
-  abbrev On : Job → Type 0
-  On (expression at) = Blocked at
-  On (sequence first comma at so-far) = ⊥
-  On (assignment at) = Blocked at
-  On (value at) = Goes at
-  On (assign first at left) = ⊥
-  On (conditional first at left) = among begins-nothing (token sheet (at + 1)) ≡ true
-  On (binary floor at) = Goes at
-  On (operators floor first at left) = among quiet (token sheet at) ≡ true
-  On (unary at) = Goes at
-  On (postfix at) = Goes at
-  On (left-hand-side at) = Goes at
-  On (links first at left) = Linked at
-  On (arguments first at so-far) = Args at
-  On (primary at) = Goes at
-  On (elements first at kind so-far) = ⊥
-  On (properties first at kind so-far) = ⊥
-  On (property at) = ⊥
-  On (key at) = ⊥
-  On (spread at) = ⊥
-  On (binding at) = ⊥
-  On (binding-element at) = ⊥
-  On (binding-elements first at so-far) = ⊥
-  On (binding-properties first at so-far) = ⊥
-  On (binding-property at) = ⊥
-  On (binding-rest at) = ⊥
-  On (head at) = (token sheet at ≡ Async) × (token sheet (at + 1) ≡ LParen → ⊥)
-  On (parameters at so-far) = ⊥
-  On (body kind first at so-far) = ⊥
+  data On : Job → Type 0 where
+    on-expression : {at : ℕ} → Blocked at → On (expression at)
+    on-assignment : {at : ℕ} → Blocked at → On (assignment at)
+    on-value : {at : ℕ} → Goes at → On (value at)
+    on-conditional : {first at : ℕ} {left : Tree} → among begins-nothing (token sheet (at + 1)) ≡ true → On (conditional first at left)
+    on-binary : {floor at : ℕ} → Goes at → On (binary floor at)
+    on-operators : {floor first at : ℕ} {left : Tree} → among quiet (token sheet at) ≡ true → On (operators floor first at left)
+    on-unary : {at : ℕ} → Goes at → On (unary at)
+    on-postfix : {at : ℕ} → Goes at → On (postfix at)
+    on-left-hand-side : {at : ℕ} → Goes at → On (left-hand-side at)
+    on-links : {first at : ℕ} {left : Tree} → Linked at → On (links first at left)
+    on-arguments : {first at : ℕ} {so-far : Forest} → Args at → On (arguments first at so-far)
+    on-primary : {at : ℕ} → Goes at → On (primary at)
+    on-head : {at : ℕ} → token sheet at ≡ Async → (token sheet (at + 1) ≡ LParen → ⊥) → On (head at)
 
   -- and what is known where it is done
-  abbrev Ended : Job → Meaning
-  Ended (expression at) end trees records = OneWord at end
-  Ended (sequence first comma at so-far) end trees records = ⊥
-  Ended (assignment at) end trees records = OneWord at end
-  Ended (value at) end trees records = High at end
-  Ended (assign first at left) end trees records = ⊥
-  Ended (conditional first at left) end trees records = ⊥
-  Ended (binary floor at) end trees records = Low at end
-  Ended (operators floor first at left) end trees records = end ≡ at
-  Ended (unary at) end trees records = Low at end
-  Ended (postfix at) end trees records = Low at end
-  Ended (left-hand-side at) end trees records = Low at end
-  Ended (links first at left) end trees records = Went at end
-  Ended (arguments first at so-far) end trees records = token sheet end ≡ LCurly
-  Ended (primary at) end trees records = OneToken at end
-  Ended (elements first at kind so-far) end trees records = ⊥
-  Ended (properties first at kind so-far) end trees records = ⊥
-  Ended (property at) end trees records = ⊥
-  Ended (key at) end trees records = ⊥
-  Ended (spread at) end trees records = ⊥
-  Ended (binding at) end trees records = ⊥
-  Ended (binding-element at) end trees records = ⊥
-  Ended (binding-elements first at so-far) end trees records = ⊥
-  Ended (binding-properties first at so-far) end trees records = ⊥
-  Ended (binding-property at) end trees records = ⊥
-  Ended (binding-rest at) end trees records = ⊥
-  Ended (head at) end trees records = ⊥
-  Ended (parameters at so-far) end trees records = ⊥
-  Ended (body kind first at so-far) end trees records = ⊥
-
-  -- of a refusal nothing is said
-  abbrev Nothing : Cause → Type 0
-  Nothing cause = Unit {0}
+  abbrev Ended : {job : Job} → On job → Meaning
+  Ended (on-expression {at} b) end trees records = OneWord at end
+  Ended (on-assignment {at} b) end trees records = OneWord at end
+  Ended (on-value {at} g) end trees records = High at end
+  Ended (on-conditional c) end trees records = ⊥
+  Ended (on-binary {floor} {at} g) end trees records = Low at end
+  Ended (on-operators {floor} {first} {at} q) end trees records = end ≡ at
+  Ended (on-unary {at} g) end trees records = Low at end
+  Ended (on-postfix {at} g) end trees records = Low at end
+  Ended (on-left-hand-side {at} g) end trees records = Low at end
+  Ended (on-links {first} {at} l) end trees records = Went at end
+  Ended (on-arguments s) end trees records = token sheet end ≡ LCurly
+  Ended (on-primary {at} g) end trees records = OneToken at end
+  Ended (on-head a n) end trees records = ⊥
 
   -- what a test says of the tokens there
   mute-not : (holds : ℕ → Bool) → every (λ k. not (holds k)) mute ≡ true → {at end : ℕ} → OneWord at end → holds (token sheet end) ≡ false
@@ -268,146 +234,68 @@ module _ (sheet : Sheet) where
   no-async-name {at} (group p b) = rw p
   no-async-name {at} (call a p s) = rw (a, p)
 
+  -- a word is not followed by brackets here
+  high-blocked : {at end : ℕ} → Blocked at → High at end → OneWord at end
+  high-blocked b (high-word w) = w
+  high-blocked {at} (cannot c) (high-dead w p d) = absurd (clash words begins-nothing (token sheet at) w c refl)
+  high-blocked (stops w m a) (high-dead _ p d) = no-bracket mute m refl p
+  high-blocked (asks w q c) (high-dead _ p d) = absurd (let z : _≡_ {A = ℕ} Question LParen = sym q ∙ p in omega arith)
+
+  headless : {at : ℕ} → Blocked at → (token sheet at is LParen or token sheet at is Async) ≡ true → On (head at)
+  headless {at} (cannot c) t =
+      let f = none-of (λ k. k is LParen or k is Async) begins-nothing (token sheet at) c refl in
+      let y : true ≡ false = sym t ∙ f in
+      let z : _≡_ {A = ℕ} 0 1 = cc in
+      absurd (omega arith)
+  headless {at} (stops w m a) t = on-head (only-async (token sheet at) w t) (λ p. no-bracket mute m refl p)
+  headless {at} (asks w q c) t = on-head (only-async (token sheet at) w t) (λ p. let z : _≡_ {A = ℕ} Question LParen = sym q ∙ p in omega arith)
+
+  linked : {at end : ℕ} → Goes at → OneToken at end → Linked end
+  linked {at} (blocked (cannot c)) w = absurd (clash words begins-nothing (token sheet at) (w .word) c refl)
+  linked {at} (blocked (stops _ m a)) w = rests (rw (w .ends) (every-one (among quiet) mute (token sheet (at + 1)) m refl))
+  linked {at} (blocked (asks _ q c)) w = rests (rw (w .ends, q) refl)
+  linked (group p b) w = no-bracket words (w .word) refl p
+  linked {at} {end} (call a p s) w = rw (w .ends) (invokes p s)
+
+  went : {at middle end : ℕ} → OneToken at middle → Went middle end → Low at end
+  went {at} {middle} w (stayed q e) = low-word (record { word = w .word; ends = e ∙ w .ends }) (rw (w .ends) at q)
+  went {at} {middle} w (called p d) = low-dead (w .word) (rw (w .ends) at p) d
+
+  still : {middle end : ℕ} → token sheet middle ≡ LCurly → Went middle end → token sheet end ≡ LCurly
+  still d (stayed q e) = rw e d
+  still d (called _ d′) = d′
+
   -- THE PRODUCTIONS
-  module _ {N : Type 0} {ask : Asks N} (h : Answers On Ended Nothing ask) where
-    expression-ended : (at : ℕ) → Blocked at → Reads (Ended (expression at)) Nothing (expression-of sheet ask at)
-    unfolding expression-of
-    expression-ended at b = follows (h .with (assignment at) b) (λ part rs w. rw (mute-not (λ k. k is Comma) refl w) (yields _ _ w))
+  module _ {N : Type 0} (policy : Policy N) {ask : Asks N} (h : Told (λ job o. Ended {job = job} o) ask) where
+    valued : (at : ℕ) → Blocked at → Reads (λ end trees records. OneWord at end) Nothing (ask (value at))
+    valued at b = so (h .with (value at) (on-value (blocked b))) (λ end trees records r. high-blocked b r)
 
-    -- a word is not followed by brackets here
-    high-blocked : {at end : ℕ} → Blocked at → High at end → OneWord at end
-    high-blocked b (high-word w) = w
-    high-blocked {at} (cannot c) (high-dead w p d) = absurd (clash words begins-nothing (token sheet at) w c refl)
-    high-blocked (stops w m a) (high-dead _ p d) = no-bracket mute m refl p
-    high-blocked (asks w q c) (high-dead _ p d) = absurd (let z : _≡_ {A = ℕ} Question LParen = sym q ∙ p in omega arith)
-
-    headless : {at : ℕ} → Blocked at → (token sheet at is LParen or token sheet at is Async) ≡ true → (token sheet at ≡ Async) × (token sheet (at + 1) ≡ LParen → ⊥)
-    headless {at} (cannot c) t =
-        let f = none-of (λ k. k is LParen or k is Async) begins-nothing (token sheet at) c refl in
-        let y : true ≡ false = sym t ∙ f in
-        let z : _≡_ {A = ℕ} 0 1 = cc in
-        absurd (omega arith)
-    headless {at} (stops w m a) t = (only-async (token sheet at) w t, λ p. no-bracket mute m refl p)
-    headless {at} (asks w q c) t = (only-async (token sheet at) w t, λ p. let z : _≡_ {A = ℕ} Question LParen = sym q ∙ p in omega arith)
-
-    valued : (at : ℕ) → Blocked at → Reads (Ended (assignment at)) Nothing (ask (value at))
-    valued at b = so (h .with (value at) (blocked b)) (λ end trees records r. high-blocked b r)
-
-    assignment-ended : (policy : Policy N) (at : ℕ) → Blocked at → Reads (Ended (assignment at)) Nothing (assignment-of policy sheet ask at)
-    unfolding assignment-of
-    assignment-ended policy at b =
-        test (token sheet at is LParen or token sheet at is Async)
-        (λ t. let n = headless b t in chooses (policy .way at)
-        (valued at b)
-        (tries (h .with (head at) n) (λ part rs z. absurd z) (notes (policy .mark at) (valued at b)))
-        (follows (h .with (head at) n) (λ part rs z. absurd z)))
-        (λ _. valued at b)
-
-    head-ended : (at : ℕ) → token sheet at ≡ Async → (token sheet (at + 1) ≡ LParen → ⊥) → Reads (Ended (head at)) Nothing (head-of sheet ask at)
-    unfolding head-of parenthesized-head-of
-    head-ended at a n =
-        rw a (test (not (break-before sheet (at + 1))) (λ _. token-test sheet _ _ (λ t. absurd (n (t .kind-is))) (refuses _ tt)) (λ _. refuses _ tt))
-
-    conditional-ended : (first at : ℕ) (left : Tree) → among begins-nothing (token sheet (at + 1)) ≡ true → Reads (Ended (conditional first at left)) Nothing (conditional-of sheet ask first at left)
-    unfolding conditional-of
-    conditional-ended first at left c =
-        follows (h .with (assignment (at + 1)) (cannot c)) (λ part rs w. absurd (clash words begins-nothing (token sheet (at + 1)) (w .word) c refl))
+    no-head : (at : ℕ) → On (head at) → Reads (λ end trees records. ⊥) Nothing (ask (head at))
+    no-head at (on-head a n) = h .with (head at) (on-head a n)
 
     -- after one word, or before the `{`
-    after-dead : (at : ℕ) (left : Part) → among words (token sheet at) ≡ true → token sheet (at + 1) ≡ LParen → token sheet (left .end) ≡ LCurly
-        → Reads (Ended (value at)) Nothing (after-binary sheet ask at left)
+    after-binary-ended : (at : ℕ) (left : Part) → Goes at → Low at (left .end) → Reads (λ end trees records. High at end) Nothing (after-binary sheet ask at left)
     unfolding after-binary is-assignment-operator
-    after-dead at left w p d = rw (d, no-and (kind-of (tree left) is Row.Identifier) false refl) (yields _ _ (high-dead w p d))
-
-    after-word : (at : ℕ) (left : Part) → OneWord at (left .end) → Reads (Ended (value at)) Nothing (after-binary sheet ask at left)
-    unfolding after-binary is-assignment-operator
-    after-word at left w =
+    after-binary-ended at left g (low-dead w p d) = rw (d, no-and (kind-of (tree left) is Row.Identifier) false refl) (yields _ _ (high-dead w p d))
+    after-binary-ended at left (blocked (cannot c)) (low-word w q) = absurd (clash words begins-nothing (token sheet at) (w .word) c refl)
+    after-binary-ended at left (blocked (stops _ m a)) (low-word t q) =
+        let w : OneWord at (left .end) = record { word = t .word; ends = t .ends; then-mute = m } in
         rw (mute-not (λ k. k is Arrow) refl w, no-and (kind-of (tree left) is Row.Identifier) false refl, mute-not is-assignment-operator refl w, mute-not (λ k. k is Question) refl w)
         (yields _ _ (high-word w))
-
-    after-question : (at : ℕ) (left : Part) → OneToken at (left .end) → token sheet (at + 1) ≡ Question → among begins-nothing (token sheet (at + 2)) ≡ true
-        → Reads (Ended (value at)) Nothing (after-binary sheet ask at left)
-    unfolding after-binary is-assignment-operator
-    after-question at left w q c =
-        let k : token sheet (left .end) ≡ Question = rw (w .ends) q in
+    after-binary-ended at left (blocked (asks _ k c)) (low-word w q) =
+        let asked : token sheet (left .end) ≡ Question = rw (w .ends) k in
         let e : left .end + 1 ≡ at + 2 = omega (arith, w .ends) in
-        rw (k, no-and (kind-of (tree left) is Row.Identifier) false refl) (so (h .with (conditional at (left .end) (tree left)) (rw e c)) (λ end trees records z. absurd z))
-
-    after-binary-ended : (at : ℕ) (left : Part) → Goes at → Low at (left .end) → Reads (Ended (value at)) Nothing (after-binary sheet ask at left)
-    after-binary-ended at left g (low-dead w p d) = after-dead at left w p d
-    after-binary-ended at left (blocked (cannot c)) (low-word w q) = absurd (clash words begins-nothing (token sheet at) (w .word) c refl)
-    after-binary-ended at left (blocked (stops _ m a)) (low-word w q) = after-word at left (record { word = w .word; ends = w .ends; then-mute = m })
-    after-binary-ended at left (blocked (asks _ k c)) (low-word w q) = after-question at left w k c
+        rw (asked, no-and (kind-of (tree left) is Row.Identifier) false refl) (so (h .with (conditional at (left .end) (tree left)) (on-conditional (rw e c))) (λ end trees records z. absurd z))
     after-binary-ended at left (group p b) (low-word w q) = no-bracket words (w .word) refl p
     after-binary-ended at left (call a p s) (low-word w q) = no-bracket quiet q refl p
 
-    value-ended : (at : ℕ) → Goes at → Reads (Ended (value at)) Nothing (value-of sheet ask at)
-    unfolding value-of
-    value-ended at g = rw (no-async-name g) (follows (h .with (binary 0 at) g) (λ left rs l. after-binary-ended at left g l))
-
-    binary-ended : (floor at : ℕ) → Goes at → Reads (Ended (binary floor at)) Nothing (binary-of sheet ask floor at)
-    unfolding binary-of
-    binary-ended floor at g =
-        follows (h .with (unary at) g) (λ left rs l. so (h .with (operators floor at (left .end) (tree left)) (low-quiet l)) (λ end trees records e. rw e l))
-
-    operators-ended : (floor first at : ℕ) (left : Tree) → among quiet (token sheet at) ≡ true → Reads (Ended (operators floor first at left)) Nothing (operators-of sheet ask floor first at left)
-    unfolding operators-of expression-level level
-    operators-ended floor first at left q =
-        test (ltb floor (expression-level (token sheet at)))
-        (λ t. let z = ltb-false 0 (expression-level (token sheet at)) (none-of (λ k. ltb 0 (expression-level k)) quiet (token sheet at) q refl) in
-        let l = ltb-true floor (expression-level (token sheet at)) t in absurd (omega arith))
-        (λ _. yields _ _ refl)
-
-    unary-ended : (at : ℕ) → Goes at → Reads (Ended (unary at)) Nothing (unary-of sheet ask at)
-    unfolding unary-of is-unary-operator is-update-operator
-    unary-ended at g = rw (goes-not is-unary-operator refl g, goes-not is-update-operator refl g) (h .with (postfix at) g)
-
-    postfix-ended : (at : ℕ) → Goes at → Reads (Ended (postfix at)) Nothing (postfix-of sheet ask at)
-    unfolding postfix-of is-update-operator
-    postfix-ended at g = follows (h .with (left-hand-side at) g) (λ operand rs l. rw (low-not is-update-operator refl l) (yields _ _ l))
-
-    linked : {at end : ℕ} → Goes at → OneToken at end → Linked end
-    linked {at} (blocked (cannot c)) w = absurd (clash words begins-nothing (token sheet at) (w .word) c refl)
-    linked {at} (blocked (stops _ m a)) w = rests (rw (w .ends) (every-one (among quiet) mute (token sheet (at + 1)) m refl))
-    linked {at} (blocked (asks _ q c)) w = rests (rw (w .ends, q) refl)
-    linked (group p b) w = no-bracket words (w .word) refl p
-    linked {at} {end} (call a p s) w = rw (w .ends) (invokes p s)
-
-    went : {at middle end : ℕ} → OneToken at middle → Went middle end → Low at end
-    went {at} {middle} w (stayed q e) = low-word (record { word = w .word; ends = e ∙ w .ends }) (rw (w .ends) at q)
-    went {at} {middle} w (called p d) = low-dead (w .word) (rw (w .ends) at p) d
-
-    left-hand-side-ended : (at : ℕ) → Goes at → Reads (Ended (left-hand-side at)) Nothing (left-hand-side-of sheet ask at)
-    unfolding left-hand-side-of
-    left-hand-side-ended at g =
-        follows (h .with (primary at) g) (λ base rs w. so (h .with (links at (base .end) (tree base)) (linked g w)) (λ end trees records r. went w r))
-
-    links-ended : (first at : ℕ) (left : Tree) → Linked at → Reads (Ended (links first at left)) Nothing (links-of sheet ask first at left)
-    unfolding links-of
-    links-ended first at left (rests q) =
-        rw (none-of (λ k. k is Dot) quiet (token sheet at) q refl, none-of (λ k. k is LBrack) quiet (token sheet at) q refl, none-of (λ k. k is LParen) quiet (token sheet at) q refl)
-        (yields _ _ (stayed q refl))
-    links-ended first at left (invokes p s) =
-        rw p (follows (h .with (arguments first (at + 1) (one left)) s)
-        (λ called-part rs d. so (h .with (links first (called-part .end) (tree called-part)) (rests (rw d))) (λ end trees records r. called p (still d r))))
-      where
-        still : {middle end : ℕ} → token sheet middle ≡ LCurly → Went middle end → token sheet end ≡ LCurly
-        still d (stayed q e) = rw e d
-        still d (called _ d′) = d′
-
-    arguments-ended : (first at : ℕ) (so-far : Forest) → Args at → Reads (Ended (arguments first at so-far)) Nothing (arguments-of sheet ask first at so-far)
-    unfolding arguments-of
-    arguments-ended first at so-far (no-args p d) = rw p (yields _ _ d)
-    arguments-ended first at so-far (some b c d) =
-        rw (ne-eqb _ _ c, ne-eqb _ _ d) (follows (h .with (assignment at) b) (λ argument rs w. rw (mute-not (λ k. k is Comma) refl w, mute-not (λ k. k is RParen) refl w) (refuses _ tt)))
-
-    word-primary : (at : ℕ) → among words (token sheet at) ≡ true → Reads (Ended (primary at)) Nothing (primary-of sheet ask at)
+    word-primary : (at : ℕ) → among words (token sheet at) ≡ true → Reads (λ end trees records. OneToken at end) Nothing (primary-of sheet ask at)
     unfolding primary-of is-name
     word-primary at w =
         test (is-name (token sheet at)) (λ _. yields _ _ (record { word = w; ends = refl }))
         (λ n. rw (rw n at (every-one (λ k. is-name k or k is This) words (token sheet at) w refl)) (yields _ _ (record { word = w; ends = refl })))
 
-    primary-ended : (at : ℕ) → Goes at → Reads (Ended (primary at)) Nothing (primary-of sheet ask at)
+    primary-ended : (at : ℕ) → Goes at → Reads (λ end trees records. OneToken at end) Nothing (primary-of sheet ask at)
     unfolding primary-of parenthesized-of is-name is-literal
     primary-ended at (blocked (cannot c)) =
         let k = token sheet at in
@@ -422,56 +310,59 @@ module _ (sheet : Sheet) where
         (refuses _ tt)
     primary-ended at (blocked (stops w m a)) = word-primary at w
     primary-ended at (blocked (asks w q c)) = word-primary at w
-    primary-ended at (group p b) = rw p (follows (h .with (expression (at + 1)) b) (λ inner rs w. rw (mute-not (λ k. k is RParen) refl w) (refuses _ tt)))
+    primary-ended at (group p b) = rw p (follows (h .with (expression (at + 1)) (on-expression b)) (λ inner rs w. rw (mute-not (λ k. k is RParen) refl w) (refuses _ tt)))
     primary-ended at (call a p s) = word-primary at (rw a)
 
-  step-ended : {N : Type 0} (policy : Policy N) {ask : Asks N} → Answers On Ended Nothing ask → (job : Job) → On job → Reads (Ended job) Nothing (step policy sheet ask job)
-  unfolding step
-  step-ended policy h (expression at) o = expression-ended h at o
-  step-ended policy h (sequence first comma at so-far) o = absurd o
-  step-ended policy h (assignment at) o = assignment-ended h policy at o
-  step-ended policy h (value at) o = value-ended h at o
-  step-ended policy h (assign first at left) o = absurd o
-  step-ended policy h (conditional first at left) o = conditional-ended h first at left o
-  step-ended policy h (binary floor at) o = binary-ended h floor at o
-  step-ended policy h (operators floor first at left) o = operators-ended h floor first at left o
-  step-ended policy h (unary at) o = unary-ended h at o
-  step-ended policy h (postfix at) o = postfix-ended h at o
-  step-ended policy h (left-hand-side at) o = left-hand-side-ended h at o
-  step-ended policy h (links first at left) o = links-ended h first at left o
-  step-ended policy h (arguments first at so-far) o = arguments-ended h first at so-far o
-  step-ended policy h (primary at) o = primary-ended h at o
-  step-ended policy h (elements first at kind so-far) o = absurd o
-  step-ended policy h (properties first at kind so-far) o = absurd o
-  step-ended policy h (property at) o = absurd o
-  step-ended policy h (key at) o = absurd o
-  step-ended policy h (spread at) o = absurd o
-  step-ended policy h (binding at) o = absurd o
-  step-ended policy h (binding-element at) o = absurd o
-  step-ended policy h (binding-elements first at so-far) o = absurd o
-  step-ended policy h (binding-properties first at so-far) o = absurd o
-  step-ended policy h (binding-property at) o = absurd o
-  step-ended policy h (binding-rest at) o = absurd o
-  step-ended policy h (head at) o = head-ended h at (o .0) (o .1)
-  step-ended policy h (parameters at so-far) o = absurd o
-  step-ended policy h (body kind first at so-far) o = absurd o
+    step-ended : {job : Job} (o : On job) → Reads (Ended o) Nothing (step policy sheet ask job)
+    unfolding step expression-of assignment-of head-of parenthesized-head-of conditional-of value-of binary-of operators-of expression-level level unary-of is-unary-operator is-update-operator postfix-of left-hand-side-of links-of arguments-of
+    step-ended (on-expression {at} b) = follows (h .with (assignment at) (on-assignment b)) (λ part rs w. rw (mute-not (λ k. k is Comma) refl w) (yields _ _ w))
+    step-ended (on-assignment {at} b) =
+        test (token sheet at is LParen or token sheet at is Async)
+        (λ t. let n = no-head at (headless b t) in chooses (policy .way at) (valued at b)
+        (tries n (λ part rs z. absurd z) (notes (policy .mark at) (valued at b)))
+        (follows n (λ part rs z. absurd z)))
+        (λ _. valued at b)
+    step-ended (on-value {at} g) = rw (no-async-name g) (follows (h .with (binary 0 at) (on-binary g)) (λ left rs l. after-binary-ended at left g l))
+    step-ended (on-conditional {first} {at} c) =
+        follows (h .with (assignment (at + 1)) (on-assignment (cannot c))) (λ part rs w. absurd (clash words begins-nothing (token sheet (at + 1)) (w .word) c refl))
+    step-ended (on-binary {floor} {at} g) =
+        follows (h .with (unary at) (on-unary g)) (λ left rs l. so (h .with (operators floor at (left .end) (tree left)) (on-operators (low-quiet l))) (λ end trees records e. rw e l))
+    step-ended (on-operators {floor} {first} {at} q) =
+        test (ltb floor (expression-level (token sheet at)))
+        (λ t. let z = ltb-false 0 (expression-level (token sheet at)) (none-of (λ k. ltb 0 (expression-level k)) quiet (token sheet at) q refl) in
+        let l = ltb-true floor (expression-level (token sheet at)) t in absurd (omega arith))
+        (λ _. yields _ _ refl)
+    step-ended (on-unary {at} g) = rw (goes-not is-unary-operator refl g, goes-not is-update-operator refl g) (h .with (postfix at) (on-postfix g))
+    step-ended (on-postfix {at} g) = follows (h .with (left-hand-side at) (on-left-hand-side g)) (λ operand rs l. rw (low-not is-update-operator refl l) (yields _ _ l))
+    step-ended (on-left-hand-side {at} g) =
+        follows (h .with (primary at) (on-primary g)) (λ base rs w. so (h .with (links at (base .end) (tree base)) (on-links (linked g w))) (λ end trees records r. went w r))
+    step-ended (on-links {first} {at} (rests q)) =
+        rw (none-of (λ k. k is Dot) quiet (token sheet at) q refl, none-of (λ k. k is LBrack) quiet (token sheet at) q refl, none-of (λ k. k is LParen) quiet (token sheet at) q refl)
+        (yields _ _ (stayed q refl))
+    step-ended (on-links {first} {at} {left} (invokes p s)) =
+        rw p (follows (h .with (arguments first (at + 1) (one left)) (on-arguments s))
+        (λ part rs d. so (h .with (links first (part .end) (tree part)) (on-links (rests (rw d)))) (λ end trees records r. called p (still d r))))
+    step-ended (on-arguments (no-args p d)) = rw p (yields _ _ d)
+    step-ended (on-arguments {first} {at} (some b c d)) =
+        rw (ne-eqb _ _ c, ne-eqb _ _ d)
+        (follows (h .with (assignment at) (on-assignment b)) (λ argument rs w. rw (mute-not (λ k. k is Comma) refl w, mute-not (λ k. k is RParen) refl w) (refuses _ tt)))
+    step-ended (on-primary {at} g) = primary-ended at g
+    step-ended (on-head {at} a n) =
+        rw a (test (not (break-before sheet (at + 1))) (λ _. token-test sheet _ _ (λ t. absurd (n (t .kind-is))) (refuses _ tt)) (λ _. refuses _ tt))
 
-  module _ {N : Type 0} (policy : Policy N) where
-    preserved : Preserved policy sheet On Ended Nothing
-    preserved = record { with = λ ask h. record { with = λ job o. step-ended policy h job o } }
+  goes-halts : {N : Type 0} (policy : Policy N) (at steps : ℕ) → Goes at → μ sheet (value at) ≤ steps → (notes : N) → (OneWord at (at + 1) → ⊥)
+      → Halt sheet true (read policy sheet steps (value at) notes)
+  goes-halts policy at steps g le notes n =
+      go (all-told (λ job o. Ended {job = job} o) policy sheet (λ ask. Unit {0}) (λ steps. tt) (λ ask _ h job o. step-ended policy h o) steps .with (value at) (on-value g) .with notes)
+    where
+      dead : (end : ℕ) → High at end → Dead sheet end
+      dead end (high-word w) = absurd (n (record { word = w .word; ends = refl; then-mute = w .then-mute }))
+      dead end (high-dead w p d) = curly d
 
-    goes-halts : (at steps : ℕ) → Goes at → μ sheet (value at) ≤ steps → (notes : N) → (OneWord at (at + 1) → ⊥) → Halt sheet true (read policy sheet steps (value at) notes)
-    goes-halts at steps g le notes n = go (read policy sheet steps (value at) notes) refl
-      where
-        ended : (end : ℕ) → High at end → Dead sheet end
-        ended end (high-word w) = absurd (n (record { word = w .word; ends = refl; then-mute = w .then-mute }))
-        ended end (high-dead w p d) = curly d
-
-        go : (out : Out N) → read policy sheet steps (value at) notes ≡ out → Halt sheet true (read policy sheet steps (value at) notes)
-        go (done end trees records after) e =
-            halt-dead refl end trees records after e (ended end (good-done policy sheet On Ended Nothing steps (good policy sheet On Ended Nothing preserved steps) (value at) g notes e))
-        go (fail cause after) e = halt-fail cause after e
-        go stuck e = absurd (never-stuck policy sheet (value at) (omega arith) notes steps le e)
+      go : Ends (λ end trees records. High at end) Nothing (read policy sheet steps (value at) notes) → Halt sheet true (read policy sheet steps (value at) notes)
+      go (ends-done end trees records after e w) = halt-dead refl end trees records after e (dead end w)
+      go (ends-fail cause after e _) = halt-fail cause after e
+      go (ends-stuck e) = absurd (never-stuck policy sheet (value at) (omega arith) notes steps le e)
 
   -- THE CASES OF TRUE
   -- after `(` an expression is blocked
@@ -526,34 +417,22 @@ module _ (sheet : Sheet) where
 
 module _ {N : Type 0} (policy : Policy N) (sheet : Sheet) (at steps : ℕ) (not-early : Early sheet at → ⊥) (le : μ sheet (value at) ≤ steps) (notes : N) where
   -- after Async and `(`
+  arguments-halt : token sheet at ≡ Async → token sheet (at + 1) ≡ LParen → Args sheet (at + 1 + 1) → Halt sheet true (read policy sheet steps (value at) notes)
+  arguments-halt a k s = goes-halts sheet policy at steps (call a k s) le notes (λ w. no-bracket sheet mute (w .then-mute) refl k)
+
   called-halts : token sheet at ≡ Async → (flag-at (sheet .flags) (at + 1) ≡ 1 → ⊥) → Cases.TrueCase (sheet .kinds) (at + 1) → Halt sheet true (read policy sheet steps (value at) notes)
   unfolding side-of
   called-halts a u (Cases.empty-arrow k s t) =
-      covered sheet (at + 1 + 2) t policy at steps
-      (record {
-        starts = at + 1;
-        opens = k;
-        opening = after-async a refl;
-        list = record { close = at + 1 + 1; past = omega arith; inner = none; closer = record { goes = rw s } };
-        arrow = t;
-      })
-      le notes
-  called-halts a u (Cases.empty-body k s t) =
-      goes-halts sheet policy at steps (call a k (no-args s (rw (two-on sheet (at + 1)) t))) le notes (λ w. no-bracket sheet mute (w .then-mute) refl k)
+      let list : Closes sheet (at + 1 + 1) (at + 1 + 2) = record { close = at + 1 + 1; past = omega arith; inner = none; closer = record { goes = rw s } } in
+      covered sheet (at + 1 + 2) t policy at steps (record { starts = at + 1; opens = k; opening = after-async a refl; list = list; arrow = t }) le notes
+  called-halts a u (Cases.empty-body k s t) = arguments-halt a k (no-args s (rw (two-on sheet (at + 1)) t))
   called-halts a u (Cases.rest-ident k s t) =
       absurd (not-early (record { async = a; opens = k; unbroken = ne-eqb _ _ u; dots = rw (two-on sheet at) at s; name = rw (three-on sheet at) at t }))
   called-halts a u (Cases.modified k s t n) =
-      goes-halts sheet policy at steps
-      (call a k (some (modified-blocked sheet (at + 1) s t) (modifies-not sheet _ RParen s (omega arith) (omega arith)) (modifies-not sheet _ Dot3 s (omega arith) (omega arith))))
-      le notes (λ w. no-bracket sheet mute (w .then-mute) refl k)
-  called-halts a u (Cases.typed k s t) =
-      goes-halts sheet policy at steps
-      (call a k (some (typed-blocked sheet (at + 1) s t) (first-not sheet _ RParen s (omega arith)) (first-not sheet _ Dot3 s (omega arith))))
-      le notes (λ w. no-bracket sheet mute (w .then-mute) refl k)
+      arguments-halt a k (some (modified-blocked sheet (at + 1) s t) (modifies-not sheet _ RParen s (omega arith) (omega arith)) (modifies-not sheet _ Dot3 s (omega arith) (omega arith)))
+  called-halts a u (Cases.typed k s t) = arguments-halt a k (some (typed-blocked sheet (at + 1) s t) (first-not sheet _ RParen s (omega arith)) (first-not sheet _ Dot3 s (omega arith)))
   called-halts a u (Cases.optional k s t o) =
-      goes-halts sheet policy at steps
-      (call a k (some (question-blocked sheet (at + 1) s t o) (first-not sheet _ RParen s (omega arith)) (first-not sheet _ Dot3 s (omega arith))))
-      le notes (λ w. no-bracket sheet mute (w .then-mute) refl k)
+      arguments-halt a k (some (question-blocked sheet (at + 1) s t o) (first-not sheet _ RParen s (omega arith)) (first-not sheet _ Dot3 s (omega arith)))
 
   -- THE STATEMENT: where the answer is True, no use can be made of the way past the head
   pub true-halts : three-way (sheet .kinds) (sheet .flags) false false at ≡ Tristate.True → Halt sheet true (read policy sheet steps (value at) notes)

@@ -73,54 +73,39 @@ three-two P true b x y z x′ y′ z′ p q r = p
 three-two P false true x y z x′ y′ z′ p q r = q
 three-two P false false x y z x′ y′ z′ p q r = r
 
-from-later : (sheet : Sheet) (left at deep : ℕ) → at ≤ closes-from sheet left at deep
-unfolding closes-from
-from-later sheet zero at deep = omega arith
-from-later sheet (suc left) at zero =
-    three (λ p. at ≤ p) (side-of (token sheet at) is 1) (side-of (token sheet at) is 2)
-    (closes-from sheet left (at + 1) 1) at (closes-from sheet left (at + 1) 0)
-    (omega (arith, from-later sheet left (at + 1) 1)) (omega arith) (omega (arith, from-later sheet left (at + 1) 0))
-from-later sheet (suc left) at (suc deep) =
-    three (λ p. at ≤ p) (side-of (token sheet at) is 1) (side-of (token sheet at) is 2)
-    (closes-from sheet left (at + 1) (suc (suc deep))) (closes-from sheet left (at + 1) deep) (closes-from sheet left (at + 1) (suc deep))
-    (omega (arith, from-later sheet left (at + 1) (suc (suc deep)))) (omega (arith, from-later sheet left (at + 1) deep))
-    (omega (arith, from-later sheet left (at + 1) (suc deep)))
+-- between the place and the end
+record Within (at left p : ℕ) : Type 0 where
+  later : at ≤ p
+  inside : p ≤ at + left
 
-from-inside : (sheet : Sheet) (left at deep : ℕ) → closes-from sheet left at deep ≤ at + left
+from-within : (sheet : Sheet) (left at deep : ℕ) → Within at left (closes-from sheet left at deep)
 unfolding closes-from
-from-inside sheet zero at deep = omega arith
-from-inside sheet (suc left) at zero =
-    three (λ p. p ≤ at + suc left) (side-of (token sheet at) is 1) (side-of (token sheet at) is 2)
-    (closes-from sheet left (at + 1) 1) at (closes-from sheet left (at + 1) 0)
-    (omega (arith, from-inside sheet left (at + 1) 1)) (omega arith) (omega (arith, from-inside sheet left (at + 1) 0))
-from-inside sheet (suc left) at (suc deep) =
-    three (λ p. p ≤ at + suc left) (side-of (token sheet at) is 1) (side-of (token sheet at) is 2)
-    (closes-from sheet left (at + 1) (suc (suc deep))) (closes-from sheet left (at + 1) deep) (closes-from sheet left (at + 1) (suc deep))
-    (omega (arith, from-inside sheet left (at + 1) (suc (suc deep)))) (omega (arith, from-inside sheet left (at + 1) deep))
-    (omega (arith, from-inside sheet left (at + 1) (suc deep)))
+from-within sheet zero at deep = omega arith
+from-within sheet (suc left) at zero =
+    three (λ p. Within at (suc left) p) (side-of (token sheet at) is 1) (side-of (token sheet at) is 2) _ _ _
+    (omega (arith, from-within sheet left (at + 1) 1)) (omega arith) (omega (arith, from-within sheet left (at + 1) 0))
+from-within sheet (suc left) at (suc deep) =
+    three (λ p. Within at (suc left) p) (side-of (token sheet at) is 1) (side-of (token sheet at) is 2) _ _ _
+    (omega (arith, from-within sheet left (at + 1) (suc (suc deep)))) (omega (arith, from-within sheet left (at + 1) deep)) (omega (arith, from-within sheet left (at + 1) (suc deep)))
 
 from-outward : (sheet : Sheet) (left at deep : ℕ) → closes-from sheet left at deep ≤ closes-from sheet left at (suc deep)
 unfolding closes-from
 from-outward sheet zero at deep = omega arith
 from-outward sheet (suc left) at zero =
-    three-two (λ p q. p ≤ q) (side-of (token sheet at) is 1) (side-of (token sheet at) is 2)
-    (closes-from sheet left (at + 1) 1) at (closes-from sheet left (at + 1) 0)
-    (closes-from sheet left (at + 1) (suc 1)) (closes-from sheet left (at + 1) 0) (closes-from sheet left (at + 1) 1)
-    (from-outward sheet left (at + 1) 1) (omega (arith, from-later sheet left (at + 1) 0)) (from-outward sheet left (at + 1) 0)
+    three-two (λ p q. p ≤ q) (side-of (token sheet at) is 1) (side-of (token sheet at) is 2) _ _ _ _ _ _
+    (from-outward sheet left (at + 1) 1) (omega (arith, from-within sheet left (at + 1) 0)) (from-outward sheet left (at + 1) 0)
 from-outward sheet (suc left) at (suc deep) =
-    three-two (λ p q. p ≤ q) (side-of (token sheet at) is 1) (side-of (token sheet at) is 2)
-    (closes-from sheet left (at + 1) (suc (suc deep))) (closes-from sheet left (at + 1) deep) (closes-from sheet left (at + 1) (suc deep))
-    (closes-from sheet left (at + 1) (suc (suc (suc deep)))) (closes-from sheet left (at + 1) (suc deep)) (closes-from sheet left (at + 1) (suc (suc deep)))
+    three-two (λ p q. p ≤ q) (side-of (token sheet at) is 1) (side-of (token sheet at) is 2) _ _ _ _ _ _
     (from-outward sheet left (at + 1) (suc (suc deep))) (from-outward sheet left (at + 1) deep) (from-outward sheet left (at + 1) (suc deep))
 
 -- it stands at the place or later, not past the end, and further out is not sooner
 pub closing-later : (sheet : Sheet) (at deep : ℕ) → at ≤ closing sheet at deep
 unfolding closing
-closing-later sheet at deep = from-later sheet _ at deep
+closing-later sheet at deep = from-within sheet _ at deep .later
 
 pub closing-inside : (sheet : Sheet) (at deep : ℕ) → at ≤ length (sheet .kinds) → closing sheet at deep ≤ length (sheet .kinds)
 unfolding closing
-closing-inside sheet at deep l = omega (arith, from-inside sheet (length (sheet .kinds) - at) at deep)
+closing-inside sheet at deep l = omega (arith, from-within sheet (length (sheet .kinds) - at) at deep)
 
 pub closing-outward : (sheet : Sheet) (at deep : ℕ) → closing sheet at deep ≤ closing sheet at (suc deep)
 unfolding closing

@@ -2,11 +2,11 @@
 -- code (its calls and loop turns), what a conversion costs inside (it is part of the production that converts), the checks before the reading, and the last pass over the rows for the records 8.
 -- A reader with any policy applies at most (13 · tokens + 12) · (1 + heads given up) productions. The box's reader gives up no head twice: at most (13 · tokens + 12) · (1 + abandoned),
 -- and at most 69 · tokens · (1 + deepest nesting), which after check 7 is at most 4,485 · tokens; and it never sticks, whether the list is read or refused.
--- The statements, at the end: `any-work`, `box-work`, of a counting reader that is done or fails; of a whole list `list-work`, `read-work`, `refused-work`, `checked-work`. Assumes nothing.
+-- The statements, at the end: `any-work`, `box-work`, of a counting reader that is done or fails; of a whole list `list-work`, `read-work`, `checked-work`. Assumes nothing.
 use Prim.Native.Nat.{ℕ, zero, suc, _+_, _-_, _*_, _≤_, _<_, min}
 use mathlib.Core.Path.{_≡_, refl, sym, ap, _∙_}
 use mathlib.Core.Bool.{Bool, true, false}
-use mathlib.Core.List.{List, [], _∷_, _++_}
+use mathlib.Core.List.{List, [], _∷_}
 use native.Mathlib.Omega.{arith}
 use native.Mathlib.Decide.{ℕ-discrete}
 use native.Mathlib.Nat.{mul-suc, suc-mul, mul-le-mul-right, mul-le-mul-left, zero-mul, mul-zero, mul-add, mul-comm}
@@ -26,7 +26,8 @@ use Rattle.grammar.specs.Arrow.{Policy}
 use Rattle.grammar.specs.Step.{read, plenty}
 use Rattle.laws.proofs.Settles.{in-plenty}
 use Rattle.laws.specs.Settles.{μ, looked-at}
-use Rattle.grammar.specs.Reading.{box, cleared, noted-places, unconverteds, Whole, whole, refused, at-end, reading}
+use Rattle.grammar.specs.Reading.{box, cleared, noted-places, whole, reading}
+use Rattle.laws.proofs.Good.{Came, came}
 use Rattle.laws.proofs.Bounds.{limits, Bound}
 use Rattle.laws.proofs.Rel.{Rel, both-done, both-fail}
 use Rattle.laws.proofs.Abandoned.{Alike, together}
@@ -36,7 +37,7 @@ use Rattle.agreement.proofs.Scope.{scope, head-start, reach, closing-la
 use Rattle.agreement.proofs.Count.{counts-beside, Same, counts-the-same}
 use Rattle.agreement.specs.Terms.{Counted, fresh, count, deepest, Ended, ended-done, ended-fail}
 use Rattle.agreement.proofs.Nesting.{span, spans, spans-bounded, nesting-64}
-use Rattle.agreement.proofs.Work.{price, due, Done, Lost, Costs, costs-done, costs-fail, costs-stuck, works}
+use Rattle.agreement.proofs.Work.{price, due, Costs, costs-done, costs-fail, costs-stuck, Spends, so, works}
 
 -- HEADS GIVEN UP, EACH
 -- a head costs no more than the list
@@ -178,23 +179,11 @@ pub data Start : Job → Type 0 where
 record Spent {N : Type 0} (sheet : Sheet) (m : Counted N) : Type 0 where
   spent : m .steps ≤ 13 * length (sheet .kinds) + 12 + due sheet (m .dropped)
 
-raw-work : {N : Type 0} (policy : Policy N) (sheet : Sheet) (job : Job) → Start job → (notes : N) (f : ℕ)
-    → Costs (λ end m. Spent sheet m) (Spent sheet)
-    (count policy sheet f job (fresh notes))
-raw-work {N} policy sheet (expression zero) whole-list notes f = go (works policy sheet f .with (expression 0) (omega arith) (fresh notes) .with)
-  where
-    go : {out : Out (Counted N)} → Costs (Done sheet (expression 0) (fresh notes)) (Lost sheet (expression 0) (fresh notes)) out
-        → Costs (λ end m. Spent sheet m) (Spent sheet) out
-    go (costs-done end trees records m e p) = costs-done end trees records m e (omega arith)
-    go (costs-fail cause m e p) = costs-fail cause m e (omega (arith, closing-inside sheet 0 0 (omega arith)))
-    go (costs-stuck e) = costs-stuck e
-raw-work {N} policy sheet (binding-element zero) pattern notes f = go (works policy sheet f .with (binding-element 0) (omega arith) (fresh notes) .with)
-  where
-    go : {out : Out (Counted N)} → Costs (Done sheet (binding-element 0) (fresh notes)) (Lost sheet (binding-element 0) (fresh notes)) out
-        → Costs (λ end m. Spent sheet m) (Spent sheet) out
-    go (costs-done end trees records m e p) = costs-done end trees records m e (omega arith)
-    go (costs-fail cause m e p) = costs-fail cause m e (omega (arith, closing-inside sheet 0 0 (omega arith)))
-    go (costs-stuck e) = costs-stuck e
+raw-work : {N : Type 0} (policy : Policy N) (sheet : Sheet) (job : Job) → Start job → (notes : N) (f : ℕ) → Spends (fresh notes) (λ end m. Spent sheet m) (Spent sheet) (count policy sheet f job)
+raw-work policy sheet (expression zero) whole-list notes f =
+    so (works policy sheet f .with (expression 0) (omega arith) (fresh notes)) (λ end m p. omega arith) (λ m p. omega (arith, closing-inside sheet 0 0 (omega arith)))
+raw-work policy sheet (binding-element zero) pattern notes f =
+    so (works policy sheet f .with (binding-element 0) (omega arith) (fresh notes)) (λ end m p. omega arith) (λ m p. omega (arith, closing-inside sheet 0 0 (omega arith)))
 
 -- a reader with any policy, at any bound on its steps: so many productions, unless the bound was too small for it (`costs-stuck`)
 pub record AnyWork {N : Type 0} (sheet : Sheet) (m : Counted N) : Type 0 where
@@ -202,18 +191,12 @@ pub record AnyWork {N : Type 0} (sheet : Sheet) (m : Counted N) : Type 0 where
 
 pub any-work : {N : Type 0} (policy : Policy N) (sheet : Sheet) (job : Job) → Start job → (notes : N) (f : ℕ)
     → Costs (λ end m. AnyWork sheet m) (AnyWork sheet) (count policy sheet f job (fresh notes))
-any-work {N} policy sheet job start notes f = go (raw-work policy sheet job start notes f)
+any-work {N} policy sheet job start notes f = so (raw-work policy sheet job start notes f) (λ end m p. multiplied m p) multiplied .with
   where
     multiplied : (m : Counted N) → Spent sheet m → AnyWork sheet m
     multiplied m spent =
         let k = 13 * length (sheet .kinds) + 12 in
         record { by-heads = omega (arith, due-length sheet (m .dropped), mul-add k 1 (length (m .dropped)), mul-suc k 0, mul-zero k) }
-
-    go : {out : Out (Counted N)} → Costs (λ end m. Spent sheet m) (Spent sheet) out
-        → Costs (λ end m. AnyWork sheet m) (AnyWork sheet) out
-    go (costs-done end trees records m e p) = costs-done end trees records m e (multiplied m p)
-    go (costs-fail cause m e p) = costs-fail cause m e (multiplied m p)
-    go (costs-stuck e) = costs-stuck e
 
 -- the box's reader: the heads that it gives up are the noted places, none of them twice
 pub record BoxWork (sheet : Sheet) (m : Counted (List ℕ)) : Type 0 where
@@ -236,23 +219,6 @@ module _ (sheet : Sheet) where
     pub same-notes : after .notes ≡ notes
     pub by-abandoned : after .steps ≤ (13 * length (sheet .kinds) + 12) * (1 + noted-places notes)
     pub by-nesting : after .steps ≤ 69 * (length (sheet .kinds) * (1 + deepest sheet))
-
-  -- a list that is refused: it failed so, or was done before the list's end, and 8 is said there
-  pub data Fell (job : Job) (cause : Cause) (after : Counted (List ℕ)) : Type 0 where
-    fell-inside : count (box sheet) sheet (μ sheet job) job (fresh cleared) ≡ fail cause after → Fell job cause after
-    fell-before-end : (end : ℕ) (trees : Forest) (said : List Record) → count (box sheet) sheet (μ sheet job) job (fresh cleared) ≡ done end trees said after
-        → cause ≡ Cause.Unexpected end → Fell job cause after
-
-  -- and the productions that were applied for it; abandoned are the heads noted up to there
-  pub record RefusedWork (job : Job) (cause : Cause) : Type 0 where
-    pub after : Counted (List ℕ)
-    pub fell : Fell job cause after
-    pub by-abandoned : after .steps ≤ (13 * length (sheet .kinds) + 12) * (1 + noted-places (after .notes))
-    pub by-nesting : after .steps ≤ 69 * (length (sheet .kinds) * (1 + deepest sheet))
-
--- what is refused has one cause
-refused-is : {N : Type 0} {c d : Cause} → _≡_ {A = Whole N} (refused c) (refused d) → c ≡ d
-refused-is e = cc
 
 module _ (sheet : Sheet) (some-tokens : 1 ≤ length (sheet .kinds)) (small : length (sheet .kinds) ≤ 2048) where
   -- beside the reader that logs each head that it gives up
@@ -288,7 +254,7 @@ module _ (sheet : Sheet) (some-tokens : 1 ≤ length (sheet .kinds)) (small : le
 
   -- at most so many productions where the counting reader is done, and where it fails; that it is one of the two says `list-work`
   pub box-work : (job : Job) → Start job → Costs (λ end m. BoxWork sheet m) (BoxWork sheet) (count (box sheet) sheet (μ sheet job) job (fresh cleared))
-  box-work job start = go (raw-work (box sheet) sheet job start cleared (μ sheet job)) (logged job (starts start)) (together sheet job (starts start) small (μ sheet job) (omega arith))
+  box-work job start = go (raw-work (box sheet) sheet job start cleared (μ sheet job) .with) (logged job (starts start)) (together sheet job (starts start) small (μ sheet job) (omega arith))
     where
       go : {x : Out (Counted (List ℕ))} {y : Out Log} {z : Out (List ℕ)} → Costs (λ end m. Spent sheet m) (Spent sheet) x
           → Rel Logs _≡_ (Bound (limits sheet job)) x y → Rel (Alike sheet) _≡_ (Bound (limits sheet job)) z y → Costs (λ end m. BoxWork sheet m) (BoxWork sheet) x
@@ -324,52 +290,14 @@ module _ (sheet : Sheet) (some-tokens : 1 ≤ length (sheet .kinds)) (small : le
 
   -- of one that is read
   pub read-work : (job : Job) → Start job → {trees : Forest} {records : List Record} {notes : List ℕ} → reading (box sheet) sheet job cleared ≡ whole trees records notes → ReadWork sheet job trees notes
-  unfolding reading at-end
-  read-work job start {trees} {records} {notes} e = go (list-work job start)
+  read-work job start {trees} {records} {notes} e = let l = list-work job start in ends (l .after) (l .work) (came (box sheet) sheet job cleared e) (l .ended)
     where
-      at : (after : Counted (List ℕ)) → BoxWork sheet after → (end : ℕ) (ts : Forest) (said : List Record) → count (box sheet) sheet (μ sheet job) job (fresh cleared) ≡ done end ts said after
-          → (b : Bool) → end is length (sheet .kinds) ≡ b
-          → (if b then whole ts (said ++ unconverteds ts) (after .notes) else refused (Cause.Unexpected end)) ≡ whole trees records notes → ReadWork sheet job trees notes
-      at after w end ts said c true b f =
-          let q : end ≡ length (sheet .kinds) = eqb-true _ _ b in
-          let p : ts ≡ trees = cc in
+      ends : (after : Counted (List ℕ)) → BoxWork sheet after → Came (box sheet) sheet job cleared trees records notes → Ended sheet job after → ReadWork sheet job trees notes
+      ends after w c (ended-done end ts said k r) =
+          let d = c .done-at-end in
           let y : after .notes ≡ notes = cc in
-          record {
-            said = said;
-            after = after;
-            counted = cc;
-            same-notes = y;
-            by-abandoned = rw (sym y) (w .by-abandoned);
-            by-nesting = w .by-nesting;
-          }
-      at after w end ts said c false b f = let z : _≡_ {A = ℕ} 0 1 = cc in absurd (omega arith)
-
-      ends : (after : Counted (List ℕ)) → BoxWork sheet after → Ended sheet job after → ReadWork sheet job trees notes
-      ends after w (ended-done end ts said c r) = at after w end ts said c (end is length (sheet .kinds)) refl (rw r at e)
-      ends after w (ended-fail cause c r) = let f : refused cause ≡ whole trees records notes = rw r at e in let z : _≡_ {A = ℕ} 0 1 = cc in absurd (omega arith)
-
-      go : ListWork sheet job → ReadWork sheet job trees notes
-      go l = ends (l .after) (l .work) (l .ended)
-
-  -- of one that is refused
-  pub refused-work : (job : Job) → Start job → {cause : Cause} → reading (box sheet) sheet job cleared ≡ refused cause → RefusedWork sheet job cause
-  unfolding reading at-end
-  refused-work job start {cause} e = go (list-work job start)
-    where
-      so : (after : Counted (List ℕ)) → BoxWork sheet after → Fell sheet job cause after → RefusedWork sheet job cause
-      so after w f = record { after = after; fell = f; by-abandoned = w .by-abandoned; by-nesting = w .by-nesting }
-
-      at : (after : Counted (List ℕ)) (end : ℕ) (ts : Forest) (said : List Record) → count (box sheet) sheet (μ sheet job) job (fresh cleared) ≡ done end ts said after
-          → (b : Bool) → (if b then whole ts (said ++ unconverteds ts) (after .notes) else refused (Cause.Unexpected end)) ≡ refused cause → Fell sheet job cause after
-      at after end ts said c true f = let z : _≡_ {A = ℕ} 0 1 = cc in absurd (omega arith)
-      at after end ts said c false f = fell-before-end end ts said c (sym (refused-is f))
-
-      ends : (after : Counted (List ℕ)) → Ended sheet job after → Fell sheet job cause after
-      ends after (ended-done end ts said c r) = at after end ts said c (end is length (sheet .kinds)) (rw r at e)
-      ends after (ended-fail other c r) = let q : other ≡ cause = refused-is (rw r at e) in fell-inside (c ∙ ap (λ (x : Cause). fail x after) q)
-
-      go : ListWork sheet job → RefusedWork sheet job cause
-      go l = so (l .after) (l .work) (ends (l .after) (l .ended))
+          record { said = said; after = after; counted = cc; same-notes = y; by-abandoned = rw (sym y) (w .by-abandoned); by-nesting = w .by-nesting }
+      ends after w c (ended-fail cause k r) = let d = c .done-at-end in let z : _≡_ {A = ℕ} 0 1 = cc in absurd (omega arith)
 
   -- after check 7 at most 4,485 productions a token
   pub checked-work : check-nesting (sheet .kinds) ≡ Checked.Fine → (m : Counted (List ℕ)) → m .steps ≤ 69 * (length (sheet .kinds) * (1 + deepest sheet)) → m .steps ≤ 4485 * length (sheet .kinds)

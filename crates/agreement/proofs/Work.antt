@@ -31,7 +31,7 @@ use Rattle.grammar.specs.Binding.{binding-of, binding-element-of, binding-rest-
 use Rattle.grammar.specs.Arrow.{Way, pass, attempt, commit, Policy, by-way, choose, noting, arrow-of, assignment-of, parenthesized-head-of, head-of, parameters-of, body-of}
 use Rattle.grammar.specs.Step.{step}
 use Rattle.laws.specs.Settles.{place-of, rank, looked-at}
-use Rattle.laws.proofs.Good.{Stands, Ends, ends-done, ends-fail, ends-stuck, Answers, inside, and-left, and-right}
+use Rattle.laws.proofs.Good.{Meaning, Stands, Ends, ends-done, ends-fail, ends-stuck, Reads, Answers, inside, and-left, and-right, both}
 use Rattle.laws.proofs.Bounds.{limits, Bound, step-bound}
 use Rattle.laws.proofs.Rel.{operator-inside, async-inside}
 use Rattle.laws.proofs.Balanced.{side-of, Side, Balanced, none, skip, name-flat, word-flat, operator-flat, flat}
@@ -207,7 +207,7 @@ module _ {N : Type 0} {P : ℕ → Counted N → Type 0} {F : Counted N → Type
       go (turned t′ records) = costs-done end (one t′) records m refl p
       go (refused cause) = costs-fail cause m refl f
 
-  so : {m : Counted N} {Q : ℕ → Counted N → Type 0} {G : Counted N → Type 0} {reading : Reading (Counted N)} → Spends m Q G reading
+  pub so : {m : Counted N} {Q : ℕ → Counted N → Type 0} {G : Counted N → Type 0} {reading : Reading (Counted N)} → Spends m Q G reading
       → ((end : ℕ) (m′ : Counted N) → Q end m′ → P end m′) → ((m′ : Counted N) → G m′ → F m′) → Spends m P F reading
   so {m} {Q} {G} s p f = record { with = go (s .with) }
     where
@@ -242,13 +242,9 @@ record Argued {N : Type 0} (sheet : Sheet) (at : ℕ) (m : Counted N) (end : ℕ
   paid : m′ .steps + due sheet (m .dropped) + 13 * at + 1 ≤ m .steps + due sheet (m′ .dropped) + 13 * end + 1
   level : scope sheet at ≡ scope sheet end
 
--- where it fails
-record Unargued {N : Type 0} (sheet : Sheet) (at : ℕ) (m m′ : Counted N) : Type 0 where
-  lost : m′ .steps + due sheet (m .dropped) + 13 * at ≤ m .steps + due sheet (m′ .dropped) + 13 * scope sheet at + 12
-
--- where a binding's rest fails
-record Rested {N : Type 0} (sheet : Sheet) (at : ℕ) (m m′ : Counted N) : Type 0 where
-  lost : m′ .steps + due sheet (m .dropped) + 13 * at ≤ m .steps + due sheet (m′ .dropped) + 13 * scope sheet at + 1
+-- where it fails, with so much more
+record Unargued {N : Type 0} (sheet : Sheet) (at more : ℕ) (m m′ : Counted N) : Type 0 where
+  lost : m′ .steps + due sheet (m .dropped) + 13 * at ≤ m .steps + due sheet (m′ .dropped) + 13 * scope sheet at + more
 
 -- THE PRODUCTIONS
 module _ {N : Type 0} (sheet : Sheet) {ask : Asks (Counted N)} (h : Near sheet ask) where
@@ -271,11 +267,7 @@ module _ {N : Type 0} (sheet : Sheet) {ask : Asks (Counted N)} (h : Near sheet a
   into : {at k : ℕ} → Stands sheet at k → side-of k ≡ 1 → scope sheet (at + 1) ≤ scope sheet at
   into {at} t e = scope-in sheet at (record { goes = side t .goes ∙ e }) (t .here)
 
-  -- an assignment operator stands before the end; so do the tokens of an async arrow of one name, none of which is a bracket
-  operator-stands : (at : ℕ) → is-assignment-operator (token sheet at) ≡ true → at < length (sheet .kinds)
-  unfolding is-assignment-operator
-  operator-stands at t = inside sheet at is-assignment-operator refl t
-
+  -- the tokens of an async arrow of one name stand before the end, and none of them is a bracket
   async-level : (at : ℕ) → is-async-name sheet at ≡ true → scope sheet at ≡ scope sheet (at + 2 + 1)
   unfolding is-async-name
   async-level at t =
@@ -285,43 +277,22 @@ module _ {N : Type 0} (sheet : Sheet) {ask : Asks (Counted N)} (h : Near sheet a
       lv (skip (flat (λ k. k is Async) refl refl refl refl refl refl (and-left (token sheet at is Async) _ t))
       (skip (name-flat (and-left (is-name (token sheet (at + 1))) _ named)) (two at (skip (flat (λ k. k is Arrow) refl refl refl refl refl refl rest) none)))) (omega arith)
 
-  word-stands : (at : ℕ) → is-word (token sheet at) ≡ true → at < length (sheet .kinds)
-  unfolding is-word
-  word-stands at t = inside sheet at is-word refl t
-
-  argued-spread : (at : ℕ) → token sheet at is Dot3 ≡ true → (m : Counted N) → Spends m (Done sheet (spread at) m) (Lost sheet (spread at) m) (ask (spread at))
-      → Spends m (Argued sheet at m) (Unargued sheet at m) (ask (spread at))
-  argued-spread at e m s =
+  -- a spread from its `...` on, or what else the list is of
+  argument-costs : (at : ℕ) (dots : Bool) (other : Job) → token sheet at is Dot3 ≡ dots → (m : Counted N) → Spends m (Argued sheet at m) (Unargued sheet at 12 m) (ask other)
+      → Spends m (Argued sheet at m) (Unargued sheet at 12 m) (ask (if dots then spread at else other))
+  argument-costs at true other e m s =
       let i = inside sheet at (λ k. k is Dot3) refl e in
       let flat-there = past (flat (λ k. k is Dot3) refl refl refl refl refl refl e) i in
-      so s (λ end m₂ c. omega (arith, lv (c .shape) (c .inside))) (λ m₂ c. omega arith)
+      so (asked (spread at) (omega arith) m) (λ end m₂ c. omega (arith, lv (c .shape) (c .inside))) (λ m₂ c. omega arith)
+  argument-costs at false other e m s = s
 
   converted-still : (role : Role) (at : ℕ) (t : Tree) (m : Counted N) {F : Counted N → Type 0} → F m → Spends m (Still sheet m at) F (converted role at t)
   converted-still role at t m f = converts role at t (record { there = refl; same-steps = refl; same-due = refl }) f
 
-  -- 13.16
-  expression-costs : (at : ℕ) → Here sheet (expression at) → (m : Counted N) → Spends (tick m) (Paid sheet (expression at) m) (Lost sheet (expression at) m) (expression-of sheet ask at)
-  unfolding expression-of
-  expression-costs at here m =
-      follows (asked (assignment at) (omega arith) (tick m)) (λ m′ c. omega arith)
-      (λ part m₁ b. token-test sheet _ _
-      (λ t. so (asked (sequence at (part .end) (part .end) (part .trees)) (omega arith) m₁) (λ end m₂ c. omega arith) (λ m₂ c. omega (arith, lv (b .shape) (b .inside))))
-      (yields _ _ (omega arith)))
-
-  sequence-costs : (first comma at : ℕ) (so-far : Forest) → Here sheet (sequence first comma at so-far) → (m : Counted N)
-      → Spends (tick m) (Paid sheet (sequence first comma at so-far) m) (Lost sheet (sequence first comma at so-far) m) (sequence-of sheet ask first comma at so-far)
-  unfolding sequence-of side-of
-  sequence-costs first comma at so-far here m =
-      token-test sheet _ _
-      (λ t. follows (asked (assignment (at + 1)) (omega arith) (tick m)) (λ m′ c. omega (arith, on t refl))
-      (λ part m₁ b. so (asked (sequence first comma (part .end) (join so-far (part .trees))) (omega arith) m₁) (λ end m₂ c. omega arith)
-      (λ m₂ c. omega (arith, on t refl, lv (b .shape) (b .inside)))))
-      (yields _ _ (omega arith))
-
   -- 13.15 and 13.14
   after-binary-costs : (at : ℕ) (left : Part) (m m₁ : Counted N) → Done sheet (binary 0 at) (tick m) (left .end) m₁
       → Spends m₁ (Paid sheet (value at) m) (Lost sheet (value at) m) (after-binary sheet ask at left)
-  unfolding after-binary side-of
+  unfolding after-binary side-of is-assignment-operator
   after-binary-costs at left m m₁ b =
       let level = lv (b .shape) (b .inside) in
       test (kind-of (tree left) is Row.Identifier and token sheet (left .end) is Arrow)
@@ -330,303 +301,24 @@ module _ {N : Type 0} (sheet : Sheet) {ask : Asks (Counted N)} (h : Near sheet a
       let flat-there = past (flat (λ k. k is Arrow) refl refl refl refl refl refl arrow) i in
       so (asked (body Row.Arrow at (left .end) (one (leaf Row.BindingName at))) (omega arith) m₁) (λ end m₂ c. omega arith) (λ m₂ c. omega arith))
       (λ _. test (is-assignment-operator (token sheet (left .end)))
-      (λ t. let i = operator-stands (left .end) t in
+      (λ t. let i = inside sheet (left .end) is-assignment-operator refl t in
       let flat-there = past (assignment-flat t) i in
       so (asked (assign at (left .end) (tree left)) (omega arith) m₁) (λ end m₂ c. omega arith) (λ m₂ c. omega arith))
       (λ _. token-test sheet _ _
       (λ t. so (asked (conditional at (left .end) (tree left)) (omega arith) m₁) (λ end m₂ c. omega arith) (λ m₂ c. omega (arith, on t refl)))
       (yields _ _ (omega arith))))
 
-  value-costs : (at : ℕ) → Here sheet (value at) → (m : Counted N) → Spends (tick m) (Paid sheet (value at) m) (Lost sheet (value at) m) (value-of sheet ask at)
-  unfolding value-of
-  value-costs at here m =
-      test (is-async-name sheet at)
-      (λ t. so (asked (body Row.AsyncArrow at (at + 2) (one (leaf Row.BindingName (at + 1)))) (omega (arith, async-inside sheet at t)) (tick m)) (λ end m₂ c. omega arith)
-      (λ m₂ c. omega (arith, async-level at t)))
-      (λ _. follows (asked (binary 0 at) (omega arith) (tick m)) (λ m′ c. omega arith) (λ left m₁ b. after-binary-costs at left m m₁ b))
-
-  assign-costs : (first at : ℕ) (left : Tree) → Here sheet (assign first at left) → (m : Counted N)
-      → Spends (tick m) (Paid sheet (assign first at left) m) (Lost sheet (assign first at left) m) (assign-of sheet ask first at left)
-  unfolding assign-of
-  assign-costs first at left here m =
-      follows (converted-still (if token sheet at is Eq then any else simple) at left (tick m) {F = Lost sheet (assign first at left) m} (omega (arith, up (at + 1)))) (λ m′ c. c)
-      (λ target m₁ b. follows (asked (assignment (at + 1)) (omega arith) m₁) (λ m′ c. omega arith) (λ right m₂ c. yields _ _ (omega arith)))
-
-  conditional-costs : (first at : ℕ) (left : Tree) → Here sheet (conditional first at left) → (m : Counted N)
-      → Spends (tick m) (Paid sheet (conditional first at left) m) (Lost sheet (conditional first at left) m) (conditional-of sheet ask first at left)
-  unfolding conditional-of side-of
-  conditional-costs first at left here m =
-      follows (asked (assignment (at + 1)) (omega arith) (tick m)) (λ m′ c. omega arith)
-      (λ if-true m₁ b. let level = lv (b .shape) (b .inside) in token-test sheet _ _
-      (λ t. follows (asked (assignment (if-true .end + 1)) (omega arith) m₁) (λ m′ c. omega (arith, on t refl)) (λ if-false m₂ c. yields _ _ (omega arith)))
-      (refuses _ (omega (arith, up (if-true .end)))))
-
-  -- 13.6 to 13.13
-  binary-costs : (floor at : ℕ) → Here sheet (binary floor at) → (m : Counted N) → Spends (tick m) (Paid sheet (binary floor at) m) (Lost sheet (binary floor at) m) (binary-of sheet ask floor at)
-  unfolding binary-of
-  binary-costs floor at here m =
-      follows (asked (unary at) (omega arith) (tick m)) (λ m′ c. omega arith)
-      (λ left m₁ b. so (asked (operators floor at (left .end) (tree left)) (omega arith) m₁) (λ end m₂ c. omega arith) (λ m₂ c. omega (arith, lv (b .shape) (b .inside))))
-
-  operators-costs : (floor first at : ℕ) (left : Tree) → Here sheet (operators floor first at left) → (m : Counted N)
-      → Spends (tick m) (Paid sheet (operators floor first at left) m) (Lost sheet (operators floor first at left) m) (operators-of sheet ask floor first at left)
-  unfolding operators-of
-  operators-costs floor first at left here m =
-      test (ltb floor (expression-level (token sheet at)))
-      (λ t. let i = operator-inside sheet at floor t in let flat-there = past (operator-flat floor t) i in
-      follows (asked (binary (right-floor (token sheet at)) (at + 1)) (omega arith) (tick m)) (λ m′ c. omega arith)
-      (λ right m₁ b. says _ (so (asked (operators floor first (right .end) (node (operation-kind (token sheet at)) at first (right .end) (cons left (right .trees)))) (omega arith) m₁)
-      (λ end m₂ c. omega arith) (λ m₂ c. omega (arith, lv (b .shape) (b .inside))))))
-      (λ _. yields _ _ (omega arith))
-
-  -- 13.5 and 13.4
-  unary-stands : (at : ℕ) → is-unary-operator (token sheet at) ≡ true → at < length (sheet .kinds)
-  unfolding is-unary-operator
-  unary-stands at t = inside sheet at is-unary-operator refl t
-
-  update-stands : (at : ℕ) → is-update-operator (token sheet at) ≡ true → at < length (sheet .kinds)
-  unfolding is-update-operator
-  update-stands at t = inside sheet at is-update-operator refl t
-
-  unary-costs : (at : ℕ) → Here sheet (unary at) → (m : Counted N) → Spends (tick m) (Paid sheet (unary at) m) (Lost sheet (unary at) m) (unary-of sheet ask at)
-  unfolding unary-of
-  unary-costs at here m =
-      test (is-unary-operator (token sheet at))
-      (λ t. let i = unary-stands at t in let flat-there = past (unary-flat t) i in
-      follows (asked (unary (at + 1)) (omega arith) (tick m)) (λ m′ c. omega arith) (λ operand m₁ b. yields _ _ (omega arith)))
-      (λ _. test (is-update-operator (token sheet at))
-      (λ t. let i = update-stands at t in let flat-there = past (update-flat t) i in
-      follows (asked (unary (at + 1)) (omega arith) (tick m)) (λ m′ c. omega arith)
-      (λ operand m₁ b. follows (converted-still simple (operand .end) (tree operand) m₁ {F = Lost sheet (unary at) m} (omega (arith, lv (b .shape) (b .inside), up (operand .end)))) (λ m′ c. c)
-      (λ target m₂ c. yields _ _ (omega arith))))
-      (λ _. so (asked (postfix at) (omega arith) (tick m)) (λ end m₂ c. omega arith) (λ m₂ c. omega arith)))
-
-  postfix-costs : (at : ℕ) → Here sheet (postfix at) → (m : Counted N) → Spends (tick m) (Paid sheet (postfix at) m) (Lost sheet (postfix at) m) (postfix-of sheet ask at)
-  unfolding postfix-of
-  postfix-costs at here m =
-      follows (asked (left-hand-side at) (omega arith) (tick m)) (λ m′ c. omega arith)
-      (λ operand m₁ b. test (is-update-operator (token sheet (operand .end)) and not (break-before sheet (operand .end)))
-      (λ t. follows (converted-still simple (operand .end) (tree operand) m₁ {F = Lost sheet (postfix at) m} (omega (arith, lv (b .shape) (b .inside), up (operand .end)))) (λ m′ c. c)
-      (λ target m₂ c. yields _ _ (omega arith)))
-      (λ _. yields _ _ (omega arith)))
-
-  -- 13.3
-  left-hand-side-costs : (at : ℕ) → Here sheet (left-hand-side at) → (m : Counted N)
-      → Spends (tick m) (Paid sheet (left-hand-side at) m) (Lost sheet (left-hand-side at) m) (left-hand-side-of sheet ask at)
-  unfolding left-hand-side-of
-  left-hand-side-costs at here m =
-      follows (asked (primary at) (omega arith) (tick m)) (λ m′ c. omega arith)
-      (λ base m₁ b. so (asked (links at (base .end) (tree base)) (omega arith) m₁) (λ end m₂ c. omega arith) (λ m₂ c. omega (arith, lv (b .shape) (b .inside))))
-
-  links-costs : (first at : ℕ) (left : Tree) → Here sheet (links first at left) → (m : Counted N)
-      → Spends (tick m) (Paid sheet (links first at left) m) (Lost sheet (links first at left) m) (links-of sheet ask first at left)
-  unfolding links-of side-of
-  links-costs first at left here m =
-      token-test sheet _ _
-      (λ t. test (is-word (token sheet (at + 1)))
-      (λ w. let i = word-stands (at + 1) w in
-      so (asked (links first (at + 2) (node Row.Member (at + 1) first (at + 2) (one left))) (omega arith) (tick m)) (λ end m₂ c. omega arith)
-      (λ m₂ c. omega (arith, lv (skip (record { goes = side t .goes }) (skip (word-flat w) (two at none))) (omega arith))))
-      (λ _. refuses _ (omega (arith, up at))))
-      (token-test sheet _ _
-      (λ t. follows (asked (expression (at + 1)) (omega arith) (tick m)) (λ m′ c. omega (arith, into t refl))
-      (λ inner m₁ b. token-test sheet _ _
-      (λ u. so (asked (links first (inner .end + 1) (node Row.Index first first (inner .end + 1) (cons left (inner .trees)))) (omega arith) m₁) (λ end m₂ c. omega arith)
-      (λ m₂ c. omega (arith, lv (around t refl (b .shape) u refl) (omega arith))))
-      (refuses _ (omega (arith, into t refl, lv (b .shape) (b .inside), up (inner .end))))))
-      (token-test sheet _ _
-      (λ t. follows (asked (arguments first (at + 1) (one left)) (omega arith) (tick m)) (λ m′ c. omega (arith, into t refl))
-      (λ call m₁ b. so (asked (links first (call .end) (tree call)) (omega arith) m₁) (λ end m₂ c. omega arith) (λ m₂ c. omega (arith, lv (around-list t refl (b .shape)) (b .inside)))))
-      (yields _ _ (omega arith))))
-
-  argument-costs : (at : ℕ) (dots : Bool) → token sheet at is Dot3 ≡ dots → at ≤ length (sheet .kinds) → (m : Counted N)
-      → Spends m (Argued sheet at m) (Unargued sheet at m) (ask (if dots then spread at else assignment at))
-  argument-costs at true e l m = argued-spread at e m (asked (spread at) (omega (arith, inside sheet at (λ k. k is Dot3) refl e)) m)
-  argument-costs at false e l m = so (asked (assignment at) (omega arith) m) (λ end m₂ c. omega (arith, lv (c .shape) (c .inside))) (λ m₂ c. omega arith)
-
-  arguments-costs : (first at : ℕ) (so-far : Forest) → Here sheet (arguments first at so-far) → (m : Counted N)
-      → Spends (tick m) (Paid sheet (arguments first at so-far) m) (Lost sheet (arguments first at so-far) m) (arguments-of sheet ask first at so-far)
-  unfolding arguments-of side-of
-  arguments-costs first at so-far here m =
-      token-test sheet _ _ (λ t. yields _ _ (omega arith))
-      (follows (argument-costs at (token sheet at is Dot3) refl (omega arith) (tick m)) (λ m′ c. omega arith)
-      (λ argument m₁ b. token-test sheet _ _
-      (λ t. so (asked (arguments first (argument .end + 1) (join so-far (argument .trees))) (omega arith) m₁) (λ end m₂ c. omega arith) (λ m₂ c. omega (arith, on t refl)))
-      (token-test sheet _ _ (λ t. yields _ _ (omega arith)) (refuses _ (omega (arith, up (argument .end)))))))
-
-  -- 13.2
-  primary-costs : (at : ℕ) → Here sheet (primary at) → (m : Counted N) → Spends (tick m) (Paid sheet (primary at) m) (Lost sheet (primary at) m) (primary-of sheet ask at)
-  unfolding primary-of parenthesized-of side-of
-  primary-costs at here m =
-      test (is-name (token sheet at)) (λ t. yields _ _ (omega arith))
-      (λ _. token-test sheet _ _ (λ t. yields _ _ (omega arith))
-      (test (is-literal (token sheet at)) (λ t. yields _ _ (omega arith))
-      (λ _. token-test sheet _ _
-      (λ t. follows (asked (expression (at + 1)) (omega arith) (tick m)) (λ m′ c. omega (arith, into t refl))
-      (λ inner m₁ b. token-test sheet _ _ (λ u. yields _ _ (omega arith)) (refuses _ (omega (arith, into t refl, lv (b .shape) (b .inside), up (inner .end))))))
-      (token-test sheet _ _ (λ t. so (asked (elements at (at + 1) Row.Array nil) (omega arith) (tick m)) (λ end m₂ c. omega arith) (λ m₂ c. omega (arith, into t refl)))
-      (token-test sheet _ _ (λ t. so (asked (properties at (at + 1) Row.Object nil) (omega arith) (tick m)) (λ end m₂ c. omega arith) (λ m₂ c. omega (arith, into t refl)))
-      (refuses _ (omega (arith, up at))))))))
-
-  spread-costs : (at : ℕ) → Here sheet (spread at) → (m : Counted N) → Spends (tick m) (Paid sheet (spread at) m) (Lost sheet (spread at) m) (spread-of sheet ask at)
-  unfolding spread-of
-  spread-costs at here m = follows (asked (assignment (at + 1)) (omega arith) (tick m)) (λ m′ c. omega arith) (λ argument m₁ b. yields _ _ (omega arith))
-
-  elements-costs : (first at kind : ℕ) (so-far : Forest) → Here sheet (elements first at kind so-far) → (m : Counted N)
-      → Spends (tick m) (Paid sheet (elements first at kind so-far) m) (Lost sheet (elements first at kind so-far) m) (elements-of sheet ask first at kind so-far)
-  unfolding elements-of side-of
-  elements-costs first at kind so-far here m =
-      token-test sheet _ _ (λ t. yields _ _ (omega arith))
-      (token-test sheet _ _
-      (λ t. so (asked (elements first (at + 1) Row.Array (join so-far (one (leaf Row.Hole at)))) (omega arith) (tick m)) (λ end m₂ c. omega arith) (λ m₂ c. omega (arith, on t refl)))
-      (follows (argument-costs at (token sheet at is Dot3) refl (omega arith) (tick m)) (λ m′ c. omega arith)
-      (λ element m₁ b. token-test sheet _ _
-      (λ t. so (asked (elements first (element .end + 1) (if token sheet at is Dot3 then Row.ArrayRestComma else Row.Array) (join so-far (element .trees))) (omega arith) m₁)
-      (λ end m₂ c. omega arith) (λ m₂ c. omega (arith, on t refl)))
-      (token-test sheet _ _ (λ t. yields _ _ (omega arith)) (refuses _ (omega (arith, up (element .end))))))))
-
-  property-or-spread-costs : (at : ℕ) (dots : Bool) → token sheet at is Dot3 ≡ dots → at ≤ length (sheet .kinds) → (m : Counted N)
-      → Spends m (Argued sheet at m) (Unargued sheet at m) (ask (if dots then spread at else property at))
-  property-or-spread-costs at true e l m = argued-spread at e m (asked (spread at) (omega (arith, inside sheet at (λ k. k is Dot3) refl e)) m)
-  property-or-spread-costs at false e l m = so (asked (property at) (omega arith) m) (λ end m₂ c. omega (arith, lv (c .shape) (c .inside))) (λ m₂ c. omega arith)
-
-  properties-costs : (first at kind : ℕ) (so-far : Forest) → Here sheet (properties first at kind so-far) → (m : Counted N)
-      → Spends (tick m) (Paid sheet (properties first at kind so-far) m) (Lost sheet (properties first at kind so-far) m) (properties-of sheet ask first at kind so-far)
-  unfolding properties-of side-of
-  properties-costs first at kind so-far here m =
-      token-test sheet _ _ (λ t. yields _ _ (omega arith))
-      (follows (property-or-spread-costs at (token sheet at is Dot3) refl (omega arith) (tick m)) (λ m′ c. omega arith)
-      (λ part m₁ b. token-test sheet _ _
-      (λ t. so (asked (properties first (part .end + 1) (if token sheet at is Dot3 then Row.ObjectRestComma else Row.Object) (join so-far (part .trees))) (omega arith) m₁)
-      (λ end m₂ c. omega arith) (λ m₂ c. omega (arith, on t refl)))
-      (token-test sheet _ _ (λ t. yields _ _ (omega arith)) (refuses _ (omega (arith, up (part .end)))))))
-
-  name-stands : (at : ℕ) → is-name (token sheet at) ≡ true → at < length (sheet .kinds)
-  unfolding is-name
-  name-stands at t = inside sheet at is-name refl t
-
   -- a shorthand: its name, and an initializer after `=`
   shorthand-level : (at : ℕ) → is-name (token sheet at) ≡ true → Stands sheet (at + 1) Eq → scope sheet at ≡ scope sheet (at + 2)
   unfolding side-of
   shorthand-level at n u = lv (skip (name-flat n) (skip (record { goes = side u .goes }) (two at none))) (omega arith)
 
-  property-costs : (at : ℕ) → Here sheet (property at) → (m : Counted N) → Spends (tick m) (Paid sheet (property at) m) (Lost sheet (property at) m) (property-of sheet ask at)
-  unfolding property-of shorthand-of side-of
-  property-costs at here m =
-      test (is-name (token sheet at) and not (token sheet (at + 1) is Colon))
-      (λ n. token-test sheet _ _
-      (λ t. follows (asked (assignment (at + 2)) (omega arith) (tick m)) (λ m′ c. omega (arith, shorthand-level at (and-left (is-name (token sheet at)) _ n) t))
-      (λ initializer m₁ b. yields _ _ (omega arith)))
-      (yields _ _ (omega arith)))
-      (λ _. follows (asked (key at) (omega arith) (tick m)) (λ m′ c. omega arith)
-      (λ name m₁ b. let level = lv (b .shape) (b .inside) in token-test sheet _ _
-      (λ t. follows (asked (assignment (name .end + 1)) (omega arith) m₁) (λ m′ c. omega (arith, on t refl)) (λ content m₂ c. yields _ _ (omega arith)))
-      (refuses _ (omega (arith, up (name .end))))))
-
-  key-costs : (at : ℕ) → Here sheet (key at) → (m : Counted N) → Spends (tick m) (Paid sheet (key at) m) (Lost sheet (key at) m) (key-of sheet ask at)
-  unfolding key-of side-of
-  key-costs at here m =
-      test (is-word (token sheet at) or token sheet at is Str or token sheet at is Number) (λ t. yields _ _ (omega arith))
-      (λ _. token-test sheet _ _
-      (λ t. follows (asked (assignment (at + 1)) (omega arith) (tick m)) (λ m′ c. omega (arith, into t refl))
-      (λ inner m₁ b. token-test sheet _ _ (λ u. yields _ _ (omega arith)) (refuses _ (omega (arith, into t refl, lv (b .shape) (b .inside), up (inner .end))))))
-      (refuses _ (omega (arith, up at))))
-
-  -- 14.3.3
-  binding-costs : (at : ℕ) → Here sheet (binding at) → (m : Counted N) → Spends (tick m) (Paid sheet (binding at) m) (Lost sheet (binding at) m) (binding-of sheet ask at)
-  unfolding binding-of side-of
-  binding-costs at here m =
-      test (is-name (token sheet at)) (λ t. yields _ _ (omega arith))
-      (λ _. token-test sheet _ _ (λ t. so (asked (binding-elements at (at + 1) nil) (omega arith) (tick m)) (λ end m₂ c. omega arith) (λ m₂ c. omega (arith, into t refl)))
-      (token-test sheet _ _ (λ t. so (asked (binding-properties at (at + 1) nil) (omega arith) (tick m)) (λ end m₂ c. omega arith) (λ m₂ c. omega (arith, into t refl)))
-      (refuses _ (omega (arith, up at)))))
-
-  binding-element-costs : (at : ℕ) → Here sheet (binding-element at) → (m : Counted N)
-      → Spends (tick m) (Paid sheet (binding-element at) m) (Lost sheet (binding-element at) m) (binding-element-of sheet ask at)
-  unfolding binding-element-of side-of
-  binding-element-costs at here m =
-      follows (asked (binding at) (omega arith) (tick m)) (λ m′ c. omega arith)
-      (λ target m₁ b. token-test sheet _ _
-      (λ t. follows (asked (assignment (target .end + 1)) (omega arith) m₁) (λ m′ c. omega (arith, on t refl, lv (b .shape) (b .inside))) (λ initializer m₂ c. yields _ _ (omega arith)))
-      (yields _ _ (omega arith)))
-
-  binding-rest-costs : (at : ℕ) → Here sheet (binding-rest at) → (m : Counted N) → Spends (tick m) (Paid sheet (binding-rest at) m) (Lost sheet (binding-rest at) m) (binding-rest-of sheet ask at)
-  unfolding binding-rest-of
-  binding-rest-costs at here m =
-      follows (asked (binding-element (at + 1)) (omega arith) (tick m)) (λ m′ c. omega arith) (λ argument m₁ b. says _ (yields _ _ (omega arith)))
-
   -- a rest from its `...` on
-  rest-costs : (at : ℕ) → Stands sheet at Dot3 → (m : Counted N) → Spends m (Argued sheet at m) (Rested sheet at m) (ask (binding-rest at))
+  rest-costs : (at : ℕ) → Stands sheet at Dot3 → (m : Counted N) → Spends m (Argued sheet at m) (Unargued sheet at 1 m) (ask (binding-rest at))
   unfolding side-of
   rest-costs at t m =
       let flat-there = on t refl in
       so (asked (binding-rest at) (omega arith) m) (λ end m₂ c. omega (arith, lv (c .shape) (c .inside))) (λ m₂ c. omega arith)
-
-  binding-elements-costs : (first at : ℕ) (so-far : Forest) → Here sheet (binding-elements first at so-far) → (m : Counted N)
-      → Spends (tick m) (Paid sheet (binding-elements first at so-far) m) (Lost sheet (binding-elements first at so-far) m) (binding-elements-of sheet ask first at so-far)
-  unfolding binding-elements-of side-of
-  binding-elements-costs first at so-far here m =
-      token-test sheet _ _ (λ t. yields _ _ (omega arith))
-      (token-test sheet _ _
-      (λ t. so (asked (binding-elements first (at + 1) (join so-far (one (leaf Row.Hole at)))) (omega arith) (tick m)) (λ end m₂ c. omega arith) (λ m₂ c. omega (arith, on t refl)))
-      (token-test sheet _ _
-      (λ t. follows (rest-costs at t (tick m)) (λ m′ c. omega arith)
-      (λ rest m₁ b. token-test sheet _ _ (λ u. yields _ _ (omega arith)) (refuses _ (omega (arith, up (rest .end))))))
-      (follows (asked (binding-element at) (omega arith) (tick m)) (λ m′ c. omega arith)
-      (λ element m₁ b. let level = lv (b .shape) (b .inside) in token-test sheet _ _
-      (λ t. so (asked (binding-elements first (element .end + 1) (join so-far (element .trees))) (omega arith) m₁) (λ end m₂ c. omega arith) (λ m₂ c. omega (arith, on t refl)))
-      (token-test sheet _ _ (λ t. yields _ _ (omega arith)) (refuses _ (omega (arith, up (element .end)))))))))
-
-  binding-properties-costs : (first at : ℕ) (so-far : Forest) → Here sheet (binding-properties first at so-far) → (m : Counted N)
-      → Spends (tick m) (Paid sheet (binding-properties first at so-far) m) (Lost sheet (binding-properties first at so-far) m) (binding-properties-of sheet ask first at so-far)
-  unfolding binding-properties-of side-of
-  binding-properties-costs first at so-far here m =
-      token-test sheet _ _ (λ t. yields _ _ (omega arith))
-      (token-test sheet _ _
-      (λ t. follows (rest-costs at t (tick m)) (λ m′ c. omega arith)
-      (λ rest m₁ b. token-test sheet _ _
-      (λ u. test (kind-of (argument-of (tree rest)) is Row.BindingName) (λ _. yields _ _ (omega arith)) (λ _. refuses _ (omega (arith, up (rest .end)))))
-      (refuses _ (omega (arith, up (rest .end))))))
-      (follows (asked (binding-property at) (omega arith) (tick m)) (λ m′ c. omega arith)
-      (λ part m₁ b. let level = lv (b .shape) (b .inside) in token-test sheet _ _
-      (λ t. so (asked (binding-properties first (part .end + 1) (join so-far (part .trees))) (omega arith) m₁) (λ end m₂ c. omega arith) (λ m₂ c. omega (arith, on t refl)))
-      (token-test sheet _ _ (λ t. yields _ _ (omega arith)) (refuses _ (omega (arith, up (part .end))))))))
-
-  binding-property-costs : (at : ℕ) → Here sheet (binding-property at) → (m : Counted N)
-      → Spends (tick m) (Paid sheet (binding-property at) m) (Lost sheet (binding-property at) m) (binding-property-of sheet ask at)
-  unfolding binding-property-of binding-shorthand-of side-of
-  binding-property-costs at here m =
-      test (is-name (token sheet at) and not (token sheet (at + 1) is Colon))
-      (λ n. token-test sheet _ _
-      (λ t. follows (asked (assignment (at + 2)) (omega arith) (tick m)) (λ m′ c. omega (arith, shorthand-level at (and-left (is-name (token sheet at)) _ n) t))
-      (λ initializer m₁ b. yields _ _ (omega arith)))
-      (yields _ _ (omega arith)))
-      (λ _. follows (asked (key at) (omega arith) (tick m)) (λ m′ c. omega arith)
-      (λ name m₁ b. let level = lv (b .shape) (b .inside) in token-test sheet _ _
-      (λ t. follows (asked (binding-element (name .end + 1)) (omega arith) m₁) (λ m′ c. omega (arith, on t refl)) (λ content m₂ c. yields _ _ (omega arith)))
-      (refuses _ (omega (arith, up (name .end))))))
-
-  -- 15.3 and 15.9
-  parameters-costs : (at : ℕ) (so-far : Forest) → Here sheet (parameters at so-far) → (m : Counted N)
-      → Spends (tick m) (Paid sheet (parameters at so-far) m) (Lost sheet (parameters at so-far) m) (parameters-of sheet ask at so-far)
-  unfolding parameters-of side-of
-  parameters-costs at so-far here m =
-      token-test sheet _ _ (λ t. yields _ _ (omega arith))
-      (token-test sheet _ _
-      (λ t. follows (rest-costs at t (tick m)) (λ m′ c. omega arith)
-      (λ rest m₁ b. token-test sheet _ _ (λ u. yields _ _ (omega arith)) (refuses _ (omega (arith, up (rest .end))))))
-      (follows (asked (binding-element at) (omega arith) (tick m)) (λ m′ c. omega arith)
-      (λ parameter m₁ b. let level = lv (b .shape) (b .inside) in token-test sheet _ _
-      (λ t. so (asked (parameters (parameter .end + 1) (join so-far (parameter .trees))) (omega arith) m₁) (λ end m₂ c. omega arith) (λ m₂ c. omega (arith, on t refl)))
-      (token-test sheet _ _ (λ t. yields _ _ (omega arith)) (refuses _ (omega (arith, up (parameter .end))))))))
-
-  body-costs : (kind first at : ℕ) (so-far : Forest) → Here sheet (body kind first at so-far) → (m : Counted N)
-      → Spends (tick m) (Paid sheet (body kind first at so-far) m) (Lost sheet (body kind first at so-far) m) (body-of sheet ask kind first at so-far)
-  unfolding body-of
-  body-costs kind first at so-far here m =
-      says _ (test (not (token sheet (at + 1) is LCurly))
-      (λ _. follows (asked (assignment (at + 1)) (omega arith) (tick m)) (λ m′ c. omega arith) (λ inner m₁ b. yields _ _ (omega arith)))
-      (λ _. refuses _ (omega (arith, up (at + 1)))))
 
   -- how far a head can look
   reach-later : (at : ℕ) → at ≤ reach sheet at
@@ -664,15 +356,6 @@ module _ {N : Type 0} (sheet : Sheet) {ask : Asks (Counted N)} (h : Near sheet a
       (refuses _ (omega (arith, closed-scope (b .shape) (b .inside), lv (around-list t refl (b .shape)) (b .inside), up (list .end))))))
       (refuses _ (omega (arith, reach-later at)))
 
-  head-costs : (at : ℕ) → Here sheet (head at) → (m : Counted N) → Spends (tick m) (Paid sheet (head at) m) (Lost sheet (head at) m) (head-of sheet ask at)
-  unfolding head-of side-of
-  head-costs at here m =
-      token-test sheet _ _
-      (λ t. test (not (break-before sheet (at + 1)))
-      (λ _. parenthesized-head-costs at (at + 1) (omega arith) (omega arith) (on t refl) (reach-async at (t .kind-is)) m)
-      (λ _. refuses _ (omega (arith, reach-later at))))
-      (parenthesized-head-costs at at (omega arith) (omega arith) refl (reach-bare at) m)
-
   -- 13.15, where a head is tried
   due-more : (at : ℕ) (places : List ℕ) → due sheet (at ∷ places) ≡ 13 * (reach sheet at - at) + 5 + due sheet places
   unfolding due price
@@ -691,10 +374,22 @@ module _ {N : Type 0} (sheet : Sheet) {ask : Asks (Counted N)} (h : Near sheet a
       let further = past (record { goes = rw (b .shape .arrow) }) i in
       so (asked (body (if token sheet at is Async then Row.AsyncArrow else Row.Arrow) at (list .end) (list .trees)) (omega arith) m₁) (λ end m₂ c. omega arith) (λ m₂ c. omega arith)
 
-  assignment-costs : (policy : Policy N) (at : ℕ) → Here sheet (assignment at) → (m : Counted N)
-      → Spends (tick m) (Paid sheet (assignment at) m) (Lost sheet (assignment at) m) (assignment-of (counting policy) sheet ask at)
-  unfolding assignment-of
-  assignment-costs policy at here m =
+  -- every production
+  step-costs : (policy : Policy N) (job : Job) → Here sheet job → (m : Counted N) → Spends (tick m) (Paid sheet job m) (Lost sheet job m) (step (counting policy) sheet ask job)
+  unfolding step expression-of sequence-of side-of value-of assign-of conditional-of binary-of operators-of unary-of postfix-of left-hand-side-of links-of arguments-of primary-of parenthesized-of spread-of elements-of properties-of property-of shorthand-of key-of binding-of binding-element-of binding-rest-of binding-elements-of binding-properties-of binding-property-of binding-shorthand-of parameters-of body-of head-of assignment-of is-unary-operator is-update-operator is-word
+  -- 13.16
+  step-costs policy (expression at) here m =
+      follows (asked (assignment at) (omega arith) (tick m)) (λ m′ c. omega arith)
+      (λ part m₁ b. token-test sheet _ _
+      (λ t. so (asked (sequence at (part .end) (part .end) (part .trees)) (omega arith) m₁) (λ end m₂ c. omega arith) (λ m₂ c. omega (arith, lv (b .shape) (b .inside))))
+      (yields _ _ (omega arith)))
+  step-costs policy (sequence first comma at so-far) here m =
+      token-test sheet _ _
+      (λ t. follows (asked (assignment (at + 1)) (omega arith) (tick m)) (λ m′ c. omega (arith, on t refl))
+      (λ part m₁ b. so (asked (sequence first comma (part .end) (join so-far (part .trees))) (omega arith) m₁) (λ end m₂ c. omega arith)
+      (λ m₂ c. omega (arith, on t refl, lv (b .shape) (b .inside)))))
+      (yields _ _ (omega arith))
+  step-costs policy (assignment at) here m =
       let past-it : Spends (tick m) (Paid sheet (assignment at) m) (Lost sheet (assignment at) m) (ask (value at)) =
       so (asked (value at) (omega arith) (tick m)) (λ end m₂ c. omega arith) (λ m₂ c. omega arith) in
       test (token sheet at is LParen or token sheet at is Async)
@@ -705,72 +400,213 @@ module _ {N : Type 0} (sheet : Sheet) {ask : Asks (Counted N)} (h : Near sheet a
       (λ end m₂ d. omega (arith, due-more at (m₁ .dropped), reach-later at)) (λ m₂ d. omega (arith, due-more at (m₁ .dropped), reach-later at)))))
       (follows (asked (head at) (omega arith) (tick m)) (λ m′ c. omega (arith, reach-inside at)) (λ list m₁ b. arrow-costs (counting policy) at list m m₁ b)))
       (λ _. past-it)
-
--- every production
-step-costs : {N : Type 0} (policy : Policy N) (sheet : Sheet) {ask : Asks (Counted N)} → Near sheet ask → (job : Job) → Here sheet job → (m : Counted N)
-    → Spends (tick m) (Paid sheet job m) (Lost sheet job m) (step (counting policy) sheet ask job)
-unfolding step
-step-costs policy sheet h (expression at) here m = expression-costs sheet h at here m
-step-costs policy sheet h (sequence first comma at so-far) here m = sequence-costs sheet h first comma at so-far here m
-step-costs policy sheet h (assignment at) here m = assignment-costs sheet h policy at here m
-step-costs policy sheet h (value at) here m = value-costs sheet h at here m
-step-costs policy sheet h (assign first at left) here m = assign-costs sheet h first at left here m
-step-costs policy sheet h (conditional first at left) here m = conditional-costs sheet h first at left here m
-step-costs policy sheet h (binary floor at) here m = binary-costs sheet h floor at here m
-step-costs policy sheet h (operators floor first at left) here m = operators-costs sheet h floor first at left here m
-step-costs policy sheet h (unary at) here m = unary-costs sheet h at here m
-step-costs policy sheet h (postfix at) here m = postfix-costs sheet h at here m
-step-costs policy sheet h (left-hand-side at) here m = left-hand-side-costs sheet h at here m
-step-costs policy sheet h (links first at left) here m = links-costs sheet h first at left here m
-step-costs policy sheet h (arguments first at so-far) here m = arguments-costs sheet h first at so-far here m
-step-costs policy sheet h (primary at) here m = primary-costs sheet h at here m
-step-costs policy sheet h (elements first at kind so-far) here m = elements-costs sheet h first at kind so-far here m
-step-costs policy sheet h (properties first at kind so-far) here m = properties-costs sheet h first at kind so-far here m
-step-costs policy sheet h (property at) here m = property-costs sheet h at here m
-step-costs policy sheet h (key at) here m = key-costs sheet h at here m
-step-costs policy sheet h (spread at) here m = spread-costs sheet h at here m
-step-costs policy sheet h (binding at) here m = binding-costs sheet h at here m
-step-costs policy sheet h (binding-element at) here m = binding-element-costs sheet h at here m
-step-costs policy sheet h (binding-elements first at so-far) here m = binding-elements-costs sheet h first at so-far here m
-step-costs policy sheet h (binding-properties first at so-far) here m = binding-properties-costs sheet h first at so-far here m
-step-costs policy sheet h (binding-property at) here m = binding-property-costs sheet h at here m
-step-costs policy sheet h (binding-rest at) here m = binding-rest-costs sheet h at here m
-step-costs policy sheet h (head at) here m = head-costs sheet h at here m
-step-costs policy sheet h (parameters at so-far) here m = parameters-costs sheet h at so-far here m
-step-costs policy sheet h (body kind first at so-far) here m = body-costs sheet h kind first at so-far here m
+  step-costs policy (value at) here m =
+      test (is-async-name sheet at)
+      (λ t. so (asked (body Row.AsyncArrow at (at + 2) (one (leaf Row.BindingName (at + 1)))) (omega (arith, async-inside sheet at t)) (tick m)) (λ end m₂ c. omega arith)
+      (λ m₂ c. omega (arith, async-level at t)))
+      (λ _. follows (asked (binary 0 at) (omega arith) (tick m)) (λ m′ c. omega arith) (λ left m₁ b. after-binary-costs at left m m₁ b))
+  step-costs policy (assign first at left) here m =
+      follows (converted-still (if token sheet at is Eq then any else simple) at left (tick m) {F = Lost sheet (assign first at left) m} (omega (arith, up (at + 1)))) (λ m′ c. c)
+      (λ target m₁ b. follows (asked (assignment (at + 1)) (omega arith) m₁) (λ m′ c. omega arith) (λ right m₂ c. yields _ _ (omega arith)))
+  step-costs policy (conditional first at left) here m =
+      follows (asked (assignment (at + 1)) (omega arith) (tick m)) (λ m′ c. omega arith)
+      (λ if-true m₁ b. let level = lv (b .shape) (b .inside) in token-test sheet _ _
+      (λ t. follows (asked (assignment (if-true .end + 1)) (omega arith) m₁) (λ m′ c. omega (arith, on t refl)) (λ if-false m₂ c. yields _ _ (omega arith)))
+      (refuses _ (omega (arith, up (if-true .end)))))
+  -- 13.6 to 13.13
+  step-costs policy (binary floor at) here m =
+      follows (asked (unary at) (omega arith) (tick m)) (λ m′ c. omega arith)
+      (λ left m₁ b. so (asked (operators floor at (left .end) (tree left)) (omega arith) m₁) (λ end m₂ c. omega arith) (λ m₂ c. omega (arith, lv (b .shape) (b .inside))))
+  step-costs policy (operators floor first at left) here m =
+      test (ltb floor (expression-level (token sheet at)))
+      (λ t. let i = operator-inside sheet at floor t in let flat-there = past (operator-flat floor t) i in
+      follows (asked (binary (right-floor (token sheet at)) (at + 1)) (omega arith) (tick m)) (λ m′ c. omega arith)
+      (λ right m₁ b. says _ (so (asked (operators floor first (right .end) (node (operation-kind (token sheet at)) at first (right .end) (cons left (right .trees)))) (omega arith) m₁)
+      (λ end m₂ c. omega arith) (λ m₂ c. omega (arith, lv (b .shape) (b .inside))))))
+      (λ _. yields _ _ (omega arith))
+  step-costs policy (unary at) here m =
+      test (is-unary-operator (token sheet at))
+      (λ t. let i = inside sheet at is-unary-operator refl t in let flat-there = past (unary-flat t) i in
+      follows (asked (unary (at + 1)) (omega arith) (tick m)) (λ m′ c. omega arith) (λ operand m₁ b. yields _ _ (omega arith)))
+      (λ _. test (is-update-operator (token sheet at))
+      (λ t. let i = inside sheet at is-update-operator refl t in let flat-there = past (update-flat t) i in
+      follows (asked (unary (at + 1)) (omega arith) (tick m)) (λ m′ c. omega arith)
+      (λ operand m₁ b. follows (converted-still simple (operand .end) (tree operand) m₁ {F = Lost sheet (unary at) m} (omega (arith, lv (b .shape) (b .inside), up (operand .end)))) (λ m′ c. c)
+      (λ target m₂ c. yields _ _ (omega arith))))
+      (λ _. so (asked (postfix at) (omega arith) (tick m)) (λ end m₂ c. omega arith) (λ m₂ c. omega arith)))
+  step-costs policy (postfix at) here m =
+      follows (asked (left-hand-side at) (omega arith) (tick m)) (λ m′ c. omega arith)
+      (λ operand m₁ b. test (is-update-operator (token sheet (operand .end)) and not (break-before sheet (operand .end)))
+      (λ t. follows (converted-still simple (operand .end) (tree operand) m₁ {F = Lost sheet (postfix at) m} (omega (arith, lv (b .shape) (b .inside), up (operand .end)))) (λ m′ c. c)
+      (λ target m₂ c. yields _ _ (omega arith)))
+      (λ _. yields _ _ (omega arith)))
+  -- 13.3
+  step-costs policy (left-hand-side at) here m =
+      follows (asked (primary at) (omega arith) (tick m)) (λ m′ c. omega arith)
+      (λ base m₁ b. so (asked (links at (base .end) (tree base)) (omega arith) m₁) (λ end m₂ c. omega arith) (λ m₂ c. omega (arith, lv (b .shape) (b .inside))))
+  step-costs policy (links first at left) here m =
+      token-test sheet _ _
+      (λ t. test (is-word (token sheet (at + 1)))
+      (λ w. let i = inside sheet (at + 1) is-word refl w in
+      so (asked (links first (at + 2) (node Row.Member (at + 1) first (at + 2) (one left))) (omega arith) (tick m)) (λ end m₂ c. omega arith)
+      (λ m₂ c. omega (arith, lv (skip (record { goes = side t .goes }) (skip (word-flat w) (two at none))) (omega arith))))
+      (λ _. refuses _ (omega (arith, up at))))
+      (token-test sheet _ _
+      (λ t. follows (asked (expression (at + 1)) (omega arith) (tick m)) (λ m′ c. omega (arith, into t refl))
+      (λ inner m₁ b. token-test sheet _ _
+      (λ u. so (asked (links first (inner .end + 1) (node Row.Index first first (inner .end + 1) (cons left (inner .trees)))) (omega arith) m₁) (λ end m₂ c. omega arith)
+      (λ m₂ c. omega (arith, lv (around t refl (b .shape) u refl) (omega arith))))
+      (refuses _ (omega (arith, into t refl, lv (b .shape) (b .inside), up (inner .end))))))
+      (token-test sheet _ _
+      (λ t. follows (asked (arguments first (at + 1) (one left)) (omega arith) (tick m)) (λ m′ c. omega (arith, into t refl))
+      (λ call m₁ b. so (asked (links first (call .end) (tree call)) (omega arith) m₁) (λ end m₂ c. omega arith) (λ m₂ c. omega (arith, lv (around-list t refl (b .shape)) (b .inside)))))
+      (yields _ _ (omega arith))))
+  step-costs policy (arguments first at so-far) here m =
+      token-test sheet _ _ (λ t. yields _ _ (omega arith))
+      (follows (argument-costs at (token sheet at is Dot3) (assignment at) refl (tick m)
+      (so (asked (assignment at) (omega arith) (tick m)) (λ end m₂ c. omega (arith, lv (c .shape) (c .inside))) (λ m₂ c. omega arith))) (λ m′ c. omega arith)
+      (λ argument m₁ b. token-test sheet _ _
+      (λ t. so (asked (arguments first (argument .end + 1) (join so-far (argument .trees))) (omega arith) m₁) (λ end m₂ c. omega arith) (λ m₂ c. omega (arith, on t refl)))
+      (token-test sheet _ _ (λ t. yields _ _ (omega arith)) (refuses _ (omega (arith, up (argument .end)))))))
+  -- 13.2
+  step-costs policy (primary at) here m =
+      test (is-name (token sheet at)) (λ t. yields _ _ (omega arith))
+      (λ _. token-test sheet _ _ (λ t. yields _ _ (omega arith))
+      (test (is-literal (token sheet at)) (λ t. yields _ _ (omega arith))
+      (λ _. token-test sheet _ _
+      (λ t. follows (asked (expression (at + 1)) (omega arith) (tick m)) (λ m′ c. omega (arith, into t refl))
+      (λ inner m₁ b. token-test sheet _ _ (λ u. yields _ _ (omega arith)) (refuses _ (omega (arith, into t refl, lv (b .shape) (b .inside), up (inner .end))))))
+      (token-test sheet _ _ (λ t. so (asked (elements at (at + 1) Row.Array nil) (omega arith) (tick m)) (λ end m₂ c. omega arith) (λ m₂ c. omega (arith, into t refl)))
+      (token-test sheet _ _ (λ t. so (asked (properties at (at + 1) Row.Object nil) (omega arith) (tick m)) (λ end m₂ c. omega arith) (λ m₂ c. omega (arith, into t refl)))
+      (refuses _ (omega (arith, up at))))))))
+  step-costs policy (elements first at kind so-far) here m =
+      token-test sheet _ _ (λ t. yields _ _ (omega arith))
+      (token-test sheet _ _
+      (λ t. so (asked (elements first (at + 1) Row.Array (join so-far (one (leaf Row.Hole at)))) (omega arith) (tick m)) (λ end m₂ c. omega arith) (λ m₂ c. omega (arith, on t refl)))
+      (follows (argument-costs at (token sheet at is Dot3) (assignment at) refl (tick m)
+      (so (asked (assignment at) (omega arith) (tick m)) (λ end m₂ c. omega (arith, lv (c .shape) (c .inside))) (λ m₂ c. omega arith))) (λ m′ c. omega arith)
+      (λ element m₁ b. token-test sheet _ _
+      (λ t. so (asked (elements first (element .end + 1) (if token sheet at is Dot3 then Row.ArrayRestComma else Row.Array) (join so-far (element .trees))) (omega arith) m₁)
+      (λ end m₂ c. omega arith) (λ m₂ c. omega (arith, on t refl)))
+      (token-test sheet _ _ (λ t. yields _ _ (omega arith)) (refuses _ (omega (arith, up (element .end))))))))
+  step-costs policy (properties first at kind so-far) here m =
+      token-test sheet _ _ (λ t. yields _ _ (omega arith))
+      (follows (argument-costs at (token sheet at is Dot3) (property at) refl (tick m)
+      (so (asked (property at) (omega arith) (tick m)) (λ end m₂ c. omega (arith, lv (c .shape) (c .inside))) (λ m₂ c. omega arith))) (λ m′ c. omega arith)
+      (λ part m₁ b. token-test sheet _ _
+      (λ t. so (asked (properties first (part .end + 1) (if token sheet at is Dot3 then Row.ObjectRestComma else Row.Object) (join so-far (part .trees))) (omega arith) m₁)
+      (λ end m₂ c. omega arith) (λ m₂ c. omega (arith, on t refl)))
+      (token-test sheet _ _ (λ t. yields _ _ (omega arith)) (refuses _ (omega (arith, up (part .end)))))))
+  step-costs policy (property at) here m =
+      test (is-name (token sheet at) and not (token sheet (at + 1) is Colon))
+      (λ n. token-test sheet _ _
+      (λ t. follows (asked (assignment (at + 2)) (omega arith) (tick m)) (λ m′ c. omega (arith, shorthand-level at (and-left (is-name (token sheet at)) _ n) t))
+      (λ initializer m₁ b. yields _ _ (omega arith)))
+      (yields _ _ (omega arith)))
+      (λ _. follows (asked (key at) (omega arith) (tick m)) (λ m′ c. omega arith)
+      (λ name m₁ b. let level = lv (b .shape) (b .inside) in token-test sheet _ _
+      (λ t. follows (asked (assignment (name .end + 1)) (omega arith) m₁) (λ m′ c. omega (arith, on t refl)) (λ content m₂ c. yields _ _ (omega arith)))
+      (refuses _ (omega (arith, up (name .end))))))
+  step-costs policy (key at) here m =
+      test (is-word (token sheet at) or token sheet at is Str or token sheet at is Number) (λ t. yields _ _ (omega arith))
+      (λ _. token-test sheet _ _
+      (λ t. follows (asked (assignment (at + 1)) (omega arith) (tick m)) (λ m′ c. omega (arith, into t refl))
+      (λ inner m₁ b. token-test sheet _ _ (λ u. yields _ _ (omega arith)) (refuses _ (omega (arith, into t refl, lv (b .shape) (b .inside), up (inner .end))))))
+      (refuses _ (omega (arith, up at))))
+  step-costs policy (spread at) here m = follows (asked (assignment (at + 1)) (omega arith) (tick m)) (λ m′ c. omega arith) (λ argument m₁ b. yields _ _ (omega arith))
+  -- 14.3.3
+  step-costs policy (binding at) here m =
+      test (is-name (token sheet at)) (λ t. yields _ _ (omega arith))
+      (λ _. token-test sheet _ _ (λ t. so (asked (binding-elements at (at + 1) nil) (omega arith) (tick m)) (λ end m₂ c. omega arith) (λ m₂ c. omega (arith, into t refl)))
+      (token-test sheet _ _ (λ t. so (asked (binding-properties at (at + 1) nil) (omega arith) (tick m)) (λ end m₂ c. omega arith) (λ m₂ c. omega (arith, into t refl)))
+      (refuses _ (omega (arith, up at)))))
+  step-costs policy (binding-element at) here m =
+      follows (asked (binding at) (omega arith) (tick m)) (λ m′ c. omega arith)
+      (λ target m₁ b. token-test sheet _ _
+      (λ t. follows (asked (assignment (target .end + 1)) (omega arith) m₁) (λ m′ c. omega (arith, on t refl, lv (b .shape) (b .inside))) (λ initializer m₂ c. yields _ _ (omega arith)))
+      (yields _ _ (omega arith)))
+  step-costs policy (binding-elements first at so-far) here m =
+      token-test sheet _ _ (λ t. yields _ _ (omega arith))
+      (token-test sheet _ _
+      (λ t. so (asked (binding-elements first (at + 1) (join so-far (one (leaf Row.Hole at)))) (omega arith) (tick m)) (λ end m₂ c. omega arith) (λ m₂ c. omega (arith, on t refl)))
+      (token-test sheet _ _
+      (λ t. follows (rest-costs at t (tick m)) (λ m′ c. omega arith)
+      (λ rest m₁ b. token-test sheet _ _ (λ u. yields _ _ (omega arith)) (refuses _ (omega (arith, up (rest .end))))))
+      (follows (asked (binding-element at) (omega arith) (tick m)) (λ m′ c. omega arith)
+      (λ element m₁ b. let level = lv (b .shape) (b .inside) in token-test sheet _ _
+      (λ t. so (asked (binding-elements first (element .end + 1) (join so-far (element .trees))) (omega arith) m₁) (λ end m₂ c. omega arith) (λ m₂ c. omega (arith, on t refl)))
+      (token-test sheet _ _ (λ t. yields _ _ (omega arith)) (refuses _ (omega (arith, up (element .end)))))))))
+  step-costs policy (binding-properties first at so-far) here m =
+      token-test sheet _ _ (λ t. yields _ _ (omega arith))
+      (token-test sheet _ _
+      (λ t. follows (rest-costs at t (tick m)) (λ m′ c. omega arith)
+      (λ rest m₁ b. token-test sheet _ _
+      (λ u. test (kind-of (argument-of (tree rest)) is Row.BindingName) (λ _. yields _ _ (omega arith)) (λ _. refuses _ (omega (arith, up (rest .end)))))
+      (refuses _ (omega (arith, up (rest .end))))))
+      (follows (asked (binding-property at) (omega arith) (tick m)) (λ m′ c. omega arith)
+      (λ part m₁ b. let level = lv (b .shape) (b .inside) in token-test sheet _ _
+      (λ t. so (asked (binding-properties first (part .end + 1) (join so-far (part .trees))) (omega arith) m₁) (λ end m₂ c. omega arith) (λ m₂ c. omega (arith, on t refl)))
+      (token-test sheet _ _ (λ t. yields _ _ (omega arith)) (refuses _ (omega (arith, up (part .end))))))))
+  step-costs policy (binding-property at) here m =
+      test (is-name (token sheet at) and not (token sheet (at + 1) is Colon))
+      (λ n. token-test sheet _ _
+      (λ t. follows (asked (assignment (at + 2)) (omega arith) (tick m)) (λ m′ c. omega (arith, shorthand-level at (and-left (is-name (token sheet at)) _ n) t))
+      (λ initializer m₁ b. yields _ _ (omega arith)))
+      (yields _ _ (omega arith)))
+      (λ _. follows (asked (key at) (omega arith) (tick m)) (λ m′ c. omega arith)
+      (λ name m₁ b. let level = lv (b .shape) (b .inside) in token-test sheet _ _
+      (λ t. follows (asked (binding-element (name .end + 1)) (omega arith) m₁) (λ m′ c. omega (arith, on t refl)) (λ content m₂ c. yields _ _ (omega arith)))
+      (refuses _ (omega (arith, up (name .end))))))
+  step-costs policy (binding-rest at) here m =
+      follows (asked (binding-element (at + 1)) (omega arith) (tick m)) (λ m′ c. omega arith) (λ argument m₁ b. says _ (yields _ _ (omega arith)))
+  step-costs policy (head at) here m =
+      token-test sheet _ _
+      (λ t. test (not (break-before sheet (at + 1)))
+      (λ _. parenthesized-head-costs at (at + 1) (omega arith) (omega arith) (on t refl) (reach-async at (t .kind-is)) m)
+      (λ _. refuses _ (omega (arith, reach-later at))))
+      (parenthesized-head-costs at at (omega arith) (omega arith) refl (reach-bare at) m)
+  -- 15.3 and 15.9
+  step-costs policy (parameters at so-far) here m =
+      token-test sheet _ _ (λ t. yields _ _ (omega arith))
+      (token-test sheet _ _
+      (λ t. follows (rest-costs at t (tick m)) (λ m′ c. omega arith)
+      (λ rest m₁ b. token-test sheet _ _ (λ u. yields _ _ (omega arith)) (refuses _ (omega (arith, up (rest .end))))))
+      (follows (asked (binding-element at) (omega arith) (tick m)) (λ m′ c. omega arith)
+      (λ parameter m₁ b. let level = lv (b .shape) (b .inside) in token-test sheet _ _
+      (λ t. so (asked (parameters (parameter .end + 1) (join so-far (parameter .trees))) (omega arith) m₁) (λ end m₂ c. omega arith) (λ m₂ c. omega (arith, on t refl)))
+      (token-test sheet _ _ (λ t. yields _ _ (omega arith)) (refuses _ (omega (arith, up (parameter .end))))))))
+  step-costs policy (body kind first at so-far) here m =
+      says _ (test (not (token sheet (at + 1) is LCurly))
+      (λ _. follows (asked (assignment (at + 1)) (omega arith) (tick m)) (λ m′ c. omega arith) (λ inner m₁ b. yields _ _ (omega arith)))
+      (λ _. refuses _ (omega (arith, up (at + 1)))))
 
 -- THE STATEMENT, with any policy
 module _ {N : Type 0} (policy : Policy N) (sheet : Sheet) where
   -- what else is known of a nonterminal that is done
-  bounded : (f : ℕ) → Answers {N = Counted N} (λ job. Unit {0}) (λ job. Bound (limits sheet job)) (λ cause. Unit {0}) (count policy sheet f)
+  known : (Good : Job → Meaning)
+      → ((ask : Asks (Counted N)) → Answers (λ job. Unit {0}) Good (λ cause. Unit {0}) ask → (job : Job) → Reads (Good job) (λ cause. Unit {0}) (step (counting policy) sheet ask job))
+      → (f : ℕ) → Answers (λ job. Unit {0}) Good (λ cause. Unit {0}) (count policy sheet f)
   unfolding count
-  bounded zero = record { with = λ job _. record { with = λ m. ends-stuck refl } }
-  bounded (suc f) = record { with = λ job _. record { with = λ m. step-bound (counting policy) sheet (bounded f) job .with (tick m) } }
+  known Good p zero = record { with = λ job _. record { with = λ m. ends-stuck refl } }
+  known Good p (suc f) = record { with = λ job _. record { with = λ m. p _ (known Good p f) job .with (tick m) } }
 
-  shaped : (f : ℕ) → Answers {N = Counted N} (λ job. Unit {0}) (Shaped sheet) (λ cause. Unit {0}) (count policy sheet f)
-  unfolding count
-  shaped zero = record { with = λ job _. record { with = λ m. ends-stuck refl } }
-  shaped (suc f) = record { with = λ job _. record { with = λ m. step-shape (counting policy) sheet (shaped f) job .with (tick m) } }
-
-  all-known : (job : Job) (m : Counted N) {out : Out (Counted N)} → Costs (Paid sheet job m) (Lost sheet job m) out → Ends (Bound (limits sheet job)) (λ cause. Unit {0}) out
-      → Ends (Shaped sheet job) (λ cause. Unit {0}) out → Costs (Done sheet job m) (Lost sheet job m) out
-  all-known job m (costs-done end trees records m′ e p) (ends-done end₁ trees₁ records₁ m₁ e₁ b) (ends-done end₂ trees₂ records₂ m₂ e₂ c) =
+  all-known : (job : Job) (m : Counted N) {out : Out (Counted N)} → Costs (Paid sheet job m) (Lost sheet job m) out
+      → Ends (λ end trees records. Bound (limits sheet job) end trees records × Shaped sheet job end trees records) (λ cause. Unit {0}) out → Costs (Done sheet job m) (Lost sheet job m) out
+  all-known job m (costs-done end trees records m′ e p) (ends-done end₁ _ _ _ e₁ b) =
+      let bound = b .0 in
       let q : end₁ ≡ end = cc in
-      let r : end₂ ≡ end = cc in
-      costs-done end trees records m′ e (record { forward = omega arith; inside = omega arith; paid = p .paid; shape = rw r at c })
-  all-known job m (costs-done end trees records m′ e p) (ends-done end₁ trees₁ records₁ m₁ e₁ b) (ends-fail cause m₂ e₂ c) = let z : _≡_ {A = ℕ} 0 1 = cc in absurd (omega arith)
-  all-known job m (costs-done end trees records m′ e p) (ends-done end₁ trees₁ records₁ m₁ e₁ b) (ends-stuck e₂) = let z : _≡_ {A = ℕ} 0 1 = cc in absurd (omega arith)
-  all-known job m (costs-done end trees records m′ e p) (ends-fail cause m₁ e₁ b) c = let z : _≡_ {A = ℕ} 0 1 = cc in absurd (omega arith)
-  all-known job m (costs-done end trees records m′ e p) (ends-stuck e₁) c = let z : _≡_ {A = ℕ} 0 1 = cc in absurd (omega arith)
-  all-known job m (costs-fail cause m′ e f) b c = costs-fail cause m′ e f
-  all-known job m (costs-stuck e) b c = costs-stuck e
+      costs-done end trees records m′ e (record { forward = omega arith; inside = omega arith; paid = p .paid; shape = rw q at (b .1) })
+  all-known job m (costs-done end trees records m′ e p) (ends-fail _ _ e₁ _) = let z : _≡_ {A = ℕ} 0 1 = cc in absurd (omega arith)
+  all-known job m (costs-done end trees records m′ e p) (ends-stuck e₁) = let z : _≡_ {A = ℕ} 0 1 = cc in absurd (omega arith)
+  all-known job m (costs-fail cause m′ e f) b = costs-fail cause m′ e f
+  all-known job m (costs-stuck e) b = costs-stuck e
 
   pub works : (f : ℕ) → Near {N = N} sheet (count policy sheet f)
   unfolding count
   works zero = record { with = λ job here m. record { with = costs-stuck refl } }
   works (suc f) =
+      let bound = known (λ job. Bound (limits sheet job)) (λ ask a job. step-bound (counting policy) sheet a job) (suc f) in
+      let shape = known (Shaped sheet) (λ ask a job. step-shape (counting policy) sheet a job) (suc f) in
       record {
-        with = λ job here m. record {
-          with = all-known job m (step-costs policy sheet (works f) job here m .with) (bounded (suc f) .with job tt .with m) (shaped (suc f) .with job tt .with m);
-        };
+        with = λ job here m. record { with = all-known job m (step-costs sheet (works f) policy job here m .with) (both (bound .with job tt) (shape .with job tt) .with m) };
       }

@@ -1,9 +1,9 @@
 -- What comes of an AssignmentExpression where a head may open (13.15), by the way there and by the head: each way. For `start`.
 -- Assumes nothing.
-use Prim.Native.Nat.{ℕ, _+_, _≤_, _<_}
-use mathlib.Core.Path.{_≡_, refl, sym, ap, subst, _∙_}
+use Prim.Native.Nat.{ℕ, _<_}
+use mathlib.Core.Path.{_≡_, refl, sym, ap, _∙_}
 use mathlib.Core.Bool.{Bool, true, false}
-use mathlib.Core.List.{List, _++_}
+use mathlib.Core.List.{List}
 use native.Mathlib.Omega.{arith}
 use lib.ListN.{length, set, getD}
 use Rattle.tokens.specs.Bool.{if_then_else_}
@@ -13,11 +13,9 @@ use Rattle.rows.specs.Record.{Record}
 use Rattle.grammar.specs.Sheet.{sheet-of, Out, done, after-records}
 use Rattle.grammar.specs.Job.{Job, assignment, value, head, body}
 use Rattle.grammar.specs.Arrow as Grammar
-use Rattle.trees.proofs.Walks.{some-rows}
 use Rattle.grammar.specs.Reading.{box}
 use Rattle.laws.proofs.Good.{inside}
-use Rattle.laws.proofs.Bounds.{bounded}
-use Rattle.build.specs.Post.{Room, Comes, Met, MetAfter, MetList, HeadFits}
+use Rattle.build.specs.Post.{Room, Comes, Met, MetAfter, MetList}
 use Rattle.heads.specs.Heads.{Dropped, is-pass, is-commit, may-open, way-at, way-of, arrow-kind}
 use Rattle.build.specs.declared.cursor.Cursor.{Cursor}
 use Rattle.build.specs.declared.cursor.Step.{Step}
@@ -26,23 +24,25 @@ use Rattle.heads.specs.declared.Head.{Head}
 use Rattle.heads.specs.declared.Way.{Way}
 use Rattle.build.proofs.Ways.{assignment-passes, assignment-tries, assignment-gives-up, assignment-commits, assignment-fails}
 use Rattle.build.proofs.Ends.{is-fail}
-use Rattle.build.proofs.Makes.{stands-now, made-over, unmade-over, made-again, unmade-again}
+use Rattle.waiting.proofs.Shared.{never}
+use Rattle.waiting.proofs.Value.{goes-on}
+use Rattle.build.proofs.Makes.{stands-now, made-again, unmade-again}
 
 -- what the tests of a way tell
 pub is-passed : (w : Way) {b : Bool} → b ≡ is-pass w → b ≡ true → w ≡ Way.Pass
 is-passed Way.Pass i j = refl
-is-passed Way.Attempt i j = let z : _≡_ {A = Bool} true false = sym j ∙ i in let y : _≡_ {A = ℕ} 0 1 = cc in absurd (omega arith)
-is-passed Way.Commit i j = let z : _≡_ {A = Bool} true false = sym j ∙ i in let y : _≡_ {A = ℕ} 0 1 = cc in absurd (omega arith)
+is-passed Way.Attempt i j = absurd (never (cc))
+is-passed Way.Commit i j = absurd (never (cc))
 
 pub is-committed : (w : Way) {b : Bool} → b ≡ is-commit w → b ≡ true → w ≡ Way.Commit
-is-committed Way.Pass i j = let z : _≡_ {A = Bool} true false = sym j ∙ i in let y : _≡_ {A = ℕ} 0 1 = cc in absurd (omega arith)
-is-committed Way.Attempt i j = let z : _≡_ {A = Bool} true false = sym j ∙ i in let y : _≡_ {A = ℕ} 0 1 = cc in absurd (omega arith)
+is-committed Way.Pass i j = absurd (never (cc))
+is-committed Way.Attempt i j = absurd (never (cc))
 is-committed Way.Commit i j = refl
 
 pub is-tried : (w : Way) {b q : Bool} → b ≡ is-pass w → b ≡ false → q ≡ is-commit w → q ≡ false → w ≡ Way.Attempt
-is-tried Way.Pass i j k l = let z : _≡_ {A = Bool} true false = sym i ∙ j in let y : _≡_ {A = ℕ} 0 1 = cc in absurd (omega arith)
+is-tried Way.Pass i j k l = absurd (never (cc))
 is-tried Way.Attempt i j k l = refl
-is-tried Way.Commit i j k l = let z : _≡_ {A = Bool} true false = sym k ∙ l in let y : _≡_ {A = ℕ} 0 1 = cc in absurd (omega arith)
+is-tried Way.Commit i j k l = absurd (never (cc))
 
 -- where a head is tried, a token stands
 pub tried-stands : (ks fs m : List ℕ) (at : ℕ) {w : Way} → way-of w ≡ way-at ks fs m at → w ≡ Way.Attempt → at < length ks
@@ -56,29 +56,6 @@ tried-stands ks fs m at {w} t e = go (may-open (getD ks at 0)) refl
         let y : _≡_ {A = ℕ} 0 1 = cc in
         absurd (omega arith)
 
--- how far a head goes
-pub record Headed (ks : List ℕ) (at n k : ℕ) (d : Cursor) (kids : ℕ) : Type 0 where
-  pub forward : at < d .at
-  pub arrow : d .at < length ks
-  pub more : n ≤ d .rows
-  pub few : d .rows + at ≤ n + d .at
-  pub said : d .records + at ≤ k + d .at
-  pub kids-few : kids ≤ d .at
-
-pub headed : {ks fs r₀ s₀ m₀ r s m : List ℕ} {at n k kids : ℕ} {y : Listed} {d : Cursor} → MetList ks fs r₀ s₀ m₀ r s m (head at) n k y → y ≡ Listed.Done d kids → Headed ks at n k d kids
-headed a q =
-    let g = a .list-to _ _ q in
-    let b = bounded (g .comes .settles) in
-    let u = g .made .grown .used in
-    let v = g .made .recorded .used in
-    let w = g .counted in
-    let z = some-rows (g .trees) in
-    record { forward = omega arith; arrow = omega arith; more = omega arith; few = omega arith; said = omega arith; kids-few = omega arith }
-
--- the head that was read fits its body
-pub head-fits : (ks : List ℕ) {at n k kids kind : ℕ} {d : Cursor} {h : Head} → Headed ks at n k d kids → h ≡ record { kind = kind; first = at; from = n; kids = kids } → HeadFits ks d h
-head-fits ks w e = rw e record { arrow = w .arrow; first-before = w .forward; from-before = w .more; kids-few = w .kids-few }
-
 module _ {ks fs r₀ s₀ m₀ : List ℕ} {c : Cursor} where
   assign-passes : {r s m : List ℕ} {x : Step} {w : Way} → way-of w ≡ way-at ks fs m₀ (c .at) → w ≡ Way.Pass
       → Met ks fs r₀ s₀ m₀ r s m (value (c .at)) (c .rows) (c .records) x → Met ks fs r₀ s₀ m₀ r s m (assignment (c .at)) (c .rows) (c .records) x
@@ -90,7 +67,6 @@ module _ {ks fs r₀ s₀ m₀ : List ℕ} {c : Cursor} where
         fail-at = λ p q. let g = a .fail-at p q in record { comes = assignment-passes w (g .comes); unmade = g .unmade };
       }
 
-  -- a head that was read, and its body
   arrow-of : {r₁ s₁ m₁ r s m : List ℕ} {x : Step} {y : Listed} {d : Cursor} {kids : ℕ} {h : Head} → Room ks r₀ s₀ c
       → ((p : ℕ) (ts : Forest) (rs : List Record) (out : Out (List ℕ)) → Comes ks fs (head (c .at)) m₀ (done p ts rs m₁) → Comes ks fs (body (arrow-kind ks (c .at)) (c .at) p ts) m₁ out
       → Comes ks fs (assignment (c .at)) m₀ (after-records rs out))
@@ -98,34 +74,11 @@ module _ {ks fs r₀ s₀ m₀ : List ℕ} {c : Cursor} where
       → h ≡ record { kind = arrow-kind ks (c .at); first = c .at; from = c .rows; kids = kids }
       → MetAfter ks fs r₁ s₁ m₁ r s m (body (h .kind) (h .first) (d .at)) (h .from) (d .rows) (h .kids) (d .records) x
       → Met ks fs r₀ s₀ m₀ r s m (assignment (c .at)) (c .rows) (c .records) x
-  unfolding after-records
   arrow-of {r₁} {s₁} {m₁} {r} {s} {m} {x} {d = d} {kids} {h} room rule a q e b =
       let g = a .list-to _ _ q in
-      let b′ : MetAfter ks fs r₁ s₁ m₁ r s m (body (arrow-kind ks (c .at)) (c .at) (d .at)) (c .rows) (d .rows) kids (d .records) x =
-      subst (λ (h : Head). MetAfter ks fs r₁ s₁ m₁ r s m (body (h .kind) (h .first) (d .at)) (h .from) (d .rows) (h .kids) (d .records) x) e b in
+      let b′ = rw e at b in
       let f = b′ .over-all (g .trees) (g .counted) (stands-now (omega (arith, room)) (g .made .grown)) in
-      record {
-        done-to = λ u w. let t = f .done-to u w in
-            record { trees = t .trees; records = g .records ++ t .records; comes = rule _ _ _ _ (g .comes) (t .comes); made = made-over (omega (arith, room)) (g .made) (t .made) };
-        fail-at = λ p w. let t = f .fail-at p w in
-            record { comes = rule _ _ _ _ (g .comes) (t .comes); unmade = unmade-over (omega (arith, room)) (omega (arith, room)) (g .made) (t .unmade) };
-      }
-
-  assign-tries : {r₁ s₁ m₁ r s m : List ℕ} {x : Step} {y : Listed} {d : Cursor} {kids : ℕ} {h : Head} {w : Way} → Room ks r₀ s₀ c → way-of w ≡ way-at ks fs m₀ (c .at)
-      → w ≡ Way.Attempt → MetList ks fs r₀ s₀ m₀ r₁ s₁ m₁ (head (c .at)) (c .rows) (c .records) y → y ≡ Listed.Done d kids
-      → h ≡ record { kind = arrow-kind ks (c .at); first = c .at; from = c .rows; kids = kids }
-      → MetAfter ks fs r₁ s₁ m₁ r s m (body (h .kind) (h .first) (d .at)) (h .from) (d .rows) (h .kids) (d .records) x
-      → Met ks fs r₀ s₀ m₀ r s m (assignment (c .at)) (c .rows) (c .records) x
-  unfolding way-of
-  assign-tries room t e a q u b = arrow-of room (λ p ts rs out i j. assignment-tries (sym t ∙ ap way-of e) i j) a q u b
-
-  assign-commits : {r₁ s₁ m₁ r s m : List ℕ} {x : Step} {y : Listed} {d : Cursor} {kids : ℕ} {h : Head} {w : Way} → Room ks r₀ s₀ c → way-of w ≡ way-at ks fs m₀ (c .at)
-      → w ≡ Way.Commit → MetList ks fs r₀ s₀ m₀ r₁ s₁ m₁ (head (c .at)) (c .rows) (c .records) y → y ≡ Listed.Done d kids
-      → h ≡ record { kind = arrow-kind ks (c .at); first = c .at; from = c .rows; kids = kids }
-      → MetAfter ks fs r₁ s₁ m₁ r s m (body (h .kind) (h .first) (d .at)) (h .from) (d .rows) (h .kids) (d .records) x
-      → Met ks fs r₀ s₀ m₀ r s m (assignment (c .at)) (c .rows) (c .records) x
-  unfolding way-of
-  assign-commits room t e a q u b = arrow-of room (λ p ts rs out i j. assignment-commits (sym t ∙ ap way-of e) i j) a q u b
+      goes-on room (λ out u. rule _ _ _ out (g .comes) u) (g .made) f
 
   -- a head that was read, and its body
   pub assign-arrows : {r₁ s₁ m₁ r s m : List ℕ} {x : Step} {y : Listed} {d : Cursor} {kids : ℕ} {h : Head} (w : Way) {b : Bool} → Room ks r₀ s₀ c → way-of w ≡ way-at ks fs m₀ (c .at)
@@ -133,9 +86,10 @@ module _ {ks fs r₀ s₀ m₀ : List ℕ} {c : Cursor} where
       → h ≡ record { kind = arrow-kind ks (c .at); first = c .at; from = c .rows; kids = kids }
       → MetAfter ks fs r₁ s₁ m₁ r s m (body (h .kind) (h .first) (d .at)) (h .from) (d .rows) (h .kids) (d .records) x
       → Met ks fs r₀ s₀ m₀ r s m (assignment (c .at)) (c .rows) (c .records) x
-  assign-arrows Way.Pass room t i j a q u b = let z : _≡_ {A = Bool} true false = sym i ∙ j in let y : _≡_ {A = ℕ} 0 1 = cc in absurd (omega arith)
-  assign-arrows Way.Attempt room t i j a q u b = assign-tries room t refl a q u b
-  assign-arrows Way.Commit room t i j a q u b = assign-commits room t refl a q u b
+  unfolding way-of
+  assign-arrows Way.Pass room t i j a q u b = absurd (never (cc))
+  assign-arrows Way.Attempt room t i j a q u b = arrow-of room (λ p ts rs out i j. assignment-tries (sym t) i j) a q u b
+  assign-arrows Way.Commit room t i j a q u b = arrow-of room (λ p ts rs out i j. assignment-commits (sym t) i j) a q u b
 
   pub assign-fails : {r₁ s₁ m₁ : List ℕ} {y : Listed} {p : Cause} {w : Way} → way-of w ≡ way-at ks fs m₀ (c .at) → w ≡ Way.Commit
       → MetList ks fs r₀ s₀ m₀ r₁ s₁ m₁ (head (c .at)) (c .rows) (c .records) y → y ≡ Listed.Fail p

@@ -1,14 +1,7 @@
 pub mod Assign
-pub mod Assigned
-pub mod Binary
-pub mod Body
-pub mod Choice
 pub mod Root
 pub mod Shared
 pub mod Value
-pub mod Cuts
 pub mod Links
-pub mod Steps
-pub mod Parts
 pub mod Groups
 pub mod Starts

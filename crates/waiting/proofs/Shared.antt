@@ -1,6 +1,7 @@
 -- What the laws of several functions share: records before records, and what a nonterminal comes to, by an equation.
 -- Assumes nothing.
 use Prim.Native.Nat.{ℕ}
+use native.Mathlib.Omega.{arith}
 use mathlib.Core.Path.{_≡_, refl, sym, ap, subst}
 use mathlib.Core.List.{List, [], _++_, append-nil, append-assoc}
 use Rattle.tokens.specs.declared.cause.Cause.{Cause}
@@ -9,6 +10,10 @@ use Rattle.rows.specs.Record.{Record}
 use Rattle.grammar.specs.Sheet.{Out, done, fail, stuck, after-records}
 use Rattle.grammar.specs.Job.{Job}
 use Rattle.build.specs.Post.{Comes}
+
+-- two constructors are never equal: `cc` says so as 0 ≡ 1
+pub never : _≡_ {A = ℕ} 0 1 → ⊥
+never e = omega arith
 
 -- no records, and records before records
 pub after-none : {N : Type 0} (out : Out N) → after-records [] out ≡ out

@@ -23,26 +23,23 @@ use Rattle.heads.specs.Heads.{is-pass, way-at, way-of, arrow-kind}
 use Rattle.heads.specs.declared.Way.{Way}
 use Rattle.build.proofs.Ends.{is-fail, moved}
 use Rattle.heads.specs.declared.Head.{Head}
-use Rattle.waiting.proofs.Assign.{Past, headed, head-fits, assign-arrows, assign-fails}
-use Rattle.waiting.proofs.Value.{async-stands, value-asyncs, value-refuses}
-use Rattle.waiting.proofs.Binary.{binary-grouped, binary-refuses}
+use Rattle.waiting.proofs.Shared.{never}
+use Rattle.trees.proofs.Walks.{some-rows}
+use Rattle.laws.proofs.Bounds.{bounded}
+use Rattle.waiting.proofs.Assign.{Past, assign-arrows, assign-fails}
+use Rattle.waiting.proofs.Value.{binary-grouped, binary-refuses, async-stands, value-asyncs, value-refuses}
 use Rattle.waiting.specs.Waiting.{Choice, is-operation, floor-of, begun, Whole, all-words, Spare, Comes-all, Outcome, Starts, Opens, Ends, Awaits}
 use Rattle.waiting.specs.Post.{spot, start-of, GroupAt, BodyFits, WaitsBody, Goes, StartFits, AfterStart}
 use Rattle.waiting.specs.Post.{OpenedTo, OperandTo, MetStart}
 use Rattle.waiting.specs.declared.Next.{Next}
 use Rattle.waiting.specs.declared.Spot.{Spot}
 use Rattle.waiting.specs.declared.Start.{Start}
-use Rattle.waiting.proofs.Cuts.{met-from, met-wider, grown-inside, same-first, held-lent}
-use Rattle.waiting.proofs.Links.{room-below}
-use Rattle.waiting.proofs.Parts.{goes-fail}
-use Rattle.waiting.proofs.Groups.{body-awaits}
-
-never : _≡_ {A = Bool} true false → ⊥
-never e = let z : _≡_ {A = ℕ} 0 1 = cc in omega arith
+use Rattle.waiting.proofs.Links.{met-from, met-wider, grown-inside, same-first, held-lent, room-below}
+use Rattle.waiting.proofs.Groups.{goes-fail, body-awaits}
 
 is-true : (b : Bool) → not b ≡ false → b ≡ true
 is-true true e = refl
-is-true false e = let z : _≡_ {A = ℕ} 0 1 = cc in absurd (omega arith)
+is-true false e = absurd (never (cc))
 
 -- where the whole begins
 abbrev pub whole-of : List ℕ → List ℕ → List ℕ → Cursor → Whole
@@ -55,7 +52,7 @@ awaits-first {ks} {fs} {r} {s} {m} {c} {base} room e =
       waiting = [];
       held = record { rows = omega arith; room = omega (arith, e); tail = drop (6 * base) r; text = refl };
       forward = omega arith;
-      spare = record { short = room .short; wide = omega (arith, room, e); deep = room .deep; inside = room .inside; few = room .few; said = room .said };
+      spare = omega (arith, room, e);
       operand = refl;
       starts = record {
         goes = λ r′ s′ m′ x long a.
@@ -84,9 +81,7 @@ module _ {ks fs : List ℕ} {all : Whole} {m₀ r₀ s₀ : List ℕ} {base top 
   job-as : (b : Bool) → part ≡ b → {r′ s′ m′ : List ℕ} {x : Step} → length s′ ≡ length s₀
       → Met ks fs r₀ s₀ m₀ r′ s′ m′ (if b then assignment (c .at) else binary (floor-of ks (w .waiting)) (c .at)) (c .rows) (c .records) x
       → Outcome ks fs all (Ends ks fs all base (w .waiting)) r′ s′ m′ x
-  job-as b e {r′} {s′} {m′} {x} l a =
-      w .starts .goes r′ s′ m′ x l
-      (subst (λ (b : Bool). Met ks fs r₀ s₀ m₀ r′ s′ m′ (if b then assignment (c .at) else binary (floor-of ks (w .waiting)) (c .at)) (c .rows) (c .records) x) (sym e) a)
+  job-as b e {r′} {s′} {m′} {x} l a = w .starts .goes r′ s′ m′ x l (rw e a)
 
   module _ (low s m : List ℕ) (long : length low ≡ 6 * top) (deep : length s ≡ length s₀) where
     now-long : length (low ++ drop (6 * top) r₀) ≡ length r₀
@@ -107,25 +102,10 @@ module _ {ks fs : List ℕ} {all : Whole} {m₀ r₀ s₀ : List ℕ} {base top 
     -- a head
     module _ {d : Cursor} {h : Head} (o : OpenedTo ks fs (take (6 * top) r₀) s₀ m₀ low s m part (c .at) (c .rows) (c .records) d h) where
       opened-spare : Spare ks s top d
-      opened-spare =
-          let p = w .spare in
-          let f = o .fits in
-          record { short = p .short; wide = omega (arith, p, o); deep = omega (arith, p, deep); inside = omega (arith, f); few = omega (arith, p, o); said = omega (arith, p, o) }
+      opened-spare = omega (arith, w .spare, o .fits, o .forward, o .more, o .few, o .said, deep)
 
       pub opened-fits : BodyFits (length (low ++ drop (6 * top) r₀)) (length s) d h top
-      opened-fits =
-          let p = opened-spare in
-          let f = o .fits in
-          record {
-            some = omega (arith, p, f);
-            inside = omega (arith, now-long, top-inside);
-            place-small = omega (arith, p);
-            deep = omega (arith, p, f);
-            records-small = omega (arith, p);
-            first-small = omega (arith, p, f);
-            kids-small = omega (arith, p, f);
-            from-small = omega (arith, p, f);
-          }
+      opened-fits = omega (arith, opened-spare, o .fits, now-long, top-inside)
 
       opens : Opens ks fs all (Ends ks fs all base (w .waiting)) (low ++ drop (6 * top) r₀) s m d h
       opens =
@@ -157,26 +137,20 @@ module _ {ks fs : List ℕ} {all : Whole} {m₀ r₀ s₀ : List ℕ} {base top 
       read = met-wider (let e = low-long in let f = o .rows-long in omega (arith, rows-below)) (drop (6 * top) r₀) (omega (arith, rows-below, long)) (o .read)
 
       spare₁ : Spare ks (o .records₁) top c
-      spare₁ = let p = w .spare in record { short = p .short; wide = p .wide; deep = omega (arith, p, o .records-long); inside = p .inside; few = p .few; said = p .said }
+      spare₁ = omega (arith, w .spare, o .records-long)
 
       room₁ : 6 * top ≤ length (o .rows₁)
       room₁ = let e = low-long in let f = o .rows-long in omega arith
 
       starts₁ : Starts ks fs all (Ends ks fs all base (w .waiting)) (begun ks (w .waiting) (c .at)) (o .rows₁) (o .records₁) (o .notes₁) c
-      starts₁ = go part refl
+      starts₁ = rw (w .operand) (go part refl)
         where
-          go : (b : Bool) → part ≡ b → Starts ks fs all (Ends ks fs all base (w .waiting)) (begun ks (w .waiting) (c .at)) (o .rows₁) (o .records₁) (o .notes₁) c
-          go true e =
-              subst (λ (b : Bool). Starts ks fs all (Ends ks fs all base (w .waiting)) (if b then binary (floor-of ks (w .waiting)) (c .at) else value (c .at)) (o .rows₁) (o .records₁) (o .notes₁) c)
-              (sym (w .operand ∙ ap not e))
-              record { goes = λ r′ s′ m′ x l a. job-as true e (l ∙ o .records-long) (whole-met (o .past e r′ s′ m′ x a)) }
+          go : (b : Bool) → part ≡ b
+              → Starts ks fs all (Ends ks fs all base (w .waiting)) (if not b then binary (floor-of ks (w .waiting)) (c .at) else value (c .at)) (o .rows₁) (o .records₁) (o .notes₁) c
+          go true e = record { goes = λ r′ s′ m′ x l a. job-as true e (l ∙ o .records-long) (whole-met (o .past e r′ s′ m′ x a)) }
           go false e =
-              subst (λ (b : Bool). Starts ks fs all (Ends ks fs all base (w .waiting)) (if b then binary (floor-of ks (w .waiting)) (c .at) else value (c .at)) (o .rows₁) (o .records₁) (o .notes₁) c)
-              (sym (w .operand ∙ ap not e))
               record {
-                goes = λ r′ s′ m′ x l a.
-                    job-as false e (l ∙ o .records-long)
-                    (whole-met (rw (sym (o .rows-same e), sym (o .records-same e), sym (o .notes-same e)) a));
+                goes = λ r′ s′ m′ x l a. job-as false e (l ∙ o .records-long) (whole-met (rw (sym (o .rows-same e), sym (o .records-same e), sym (o .notes-same e)) a));
               }
 
       pub operand-group : GroupAt ks fs all m (w .waiting) (low ++ drop (6 * top) r₀) s (record { at = d .at; rows = d .rows; records = d .records; first = c .at; from = c .rows; top = top }) base
@@ -198,52 +172,15 @@ module _ {ks fs : List ℕ} {all : Whole} {m₀ r₀ s₀ : List ℕ} {base top 
           }
 
 -- THE WAYS OUT OF `start`
-same-opened : {c d : Cursor} {h k : Head} → Start.Opened c h ≡ Start.Opened d k → c ≡ d
-same-opened e = cc
+-- what is asked of each is enough
+module _ (ks fs r₀ s₀ m₀ r s m : List ℕ) (part : Bool) (at n k : ℕ) where
+  abbrev Got : Start → Type 0
+  Got (Start.Opened d h) = OpenedTo ks fs r₀ s₀ m₀ r s m part at n k d h
+  Got (Start.Operand d) = OperandTo ks fs r₀ s₀ m₀ r s m part at n k d
+  Got (Start.Fail cause) = Refused ks fs r₀ s₀ m₀ r s m (if part then assignment at else unary at) n k cause
 
-same-head : {c d : Cursor} {h k : Head} → Start.Opened c h ≡ Start.Opened d k → h ≡ k
-same-head e = cc
-
-same-operand : {c d : Cursor} → Start.Operand c ≡ Start.Operand d → c ≡ d
-same-operand e = cc
-
-same-fail : {p q : Cause} → Start.Fail p ≡ Start.Fail q → p ≡ q
-same-fail e = cc
-
-opened-no-operand : {c d : Cursor} {h : Head} → Start.Opened c h ≡ Start.Operand d → ⊥
-opened-no-operand e = let z : _≡_ {A = ℕ} 0 1 = cc in omega arith
-
-opened-no-fail : {c : Cursor} {h : Head} {p : Cause} → Start.Opened c h ≡ Start.Fail p → ⊥
-opened-no-fail e = let z : _≡_ {A = ℕ} 0 1 = cc in omega arith
-
-operand-no-fail : {c : Cursor} {p : Cause} → Start.Operand c ≡ Start.Fail p → ⊥
-operand-no-fail e = let z : _≡_ {A = ℕ} 0 1 = cc in omega arith
-
-module _ {ks fs r₀ s₀ m₀ r s m : List ℕ} {part : Bool} {at n k : ℕ} where
-  is-opened : {d : Cursor} {h : Head} → OpenedTo ks fs r₀ s₀ m₀ r s m part at n k d h → MetStart ks fs r₀ s₀ m₀ r s m part at n k (Start.Opened d h)
-  is-opened {d} {h} o =
-      record {
-        opened-to = λ c j e.
-            subst (λ (z : Cursor). OpenedTo ks fs r₀ s₀ m₀ r s m part at n k z j) (same-opened e) (subst (λ (z : Head). OpenedTo ks fs r₀ s₀ m₀ r s m part at n k d z) (same-head e) o);
-        operand-to = λ c e. absurd (opened-no-operand e);
-        fail-at = λ p e. absurd (opened-no-fail e);
-      }
-
-  is-operand : {d : Cursor} → OperandTo ks fs r₀ s₀ m₀ r s m part at n k d → MetStart ks fs r₀ s₀ m₀ r s m part at n k (Start.Operand d)
-  is-operand {d} o =
-      record {
-        opened-to = λ c j e. absurd (opened-no-operand (sym e));
-        operand-to = λ c e. subst (λ (z : Cursor). OperandTo ks fs r₀ s₀ m₀ r s m part at n k z) (same-operand e) o;
-        fail-at = λ p e. absurd (operand-no-fail e);
-      }
-
-  is-refused : {cause : Cause} → Refused ks fs r₀ s₀ m₀ r s m (if part then assignment at else unary at) n k cause → MetStart ks fs r₀ s₀ m₀ r s m part at n k (Start.Fail cause)
-  is-refused {cause} f =
-      record {
-        opened-to = λ c j e. absurd (opened-no-fail (sym e));
-        operand-to = λ c e. absurd (operand-no-fail (sym e));
-        fail-at = λ p e. subst (λ (z : Cause). Refused ks fs r₀ s₀ m₀ r s m (if part then assignment at else unary at) n k z) (same-fail e) f;
-      }
+  starts-so : (x : Start) → Got x → MetStart ks fs r₀ s₀ m₀ r s m part at n k x
+  starts-so x a = record { opened-to = λ d h e. rw e at a; operand-to = λ d e. rw e at a; fail-at = λ cause e. rw e at a }
 
 -- arrows are no operators
 arrow-no-operation : (async : Bool) → is-operation (if async then Row.AsyncArrow else Row.Arrow) ≡ false
@@ -262,15 +199,20 @@ module _ {ks fs r₀ s₀ m₀ : List ℕ} {part : Bool} {c : Cursor} (room : Ro
       → MetStart ks fs r₀ s₀ m₀ r s m part (c .at) (c .rows) (c .records) (Start.Opened d h)
   unfolding arrow-kind
   start-opens {d = d} {kids} {h} w p t i j a q e =
-      let g = headed a q in
+      let g = a .list-to _ _ q in
+      let b = bounded (g .comes .settles) in
+      let rows = g .made .grown .used in
+      let records = g .made .recorded .used in
+      let counted = g .counted in
+      let some = some-rows (g .trees) in
       let kind : h .kind ≡ arrow-kind ks (c .at) = ap (λ (z : Head). z .kind) e in
-      is-opened record {
+      starts-so _ _ _ _ _ _ _ _ _ _ _ _ (Start.Opened _ _) record {
         is-part = p;
-        fits = head-fits ks g e;
-        forward = g .forward;
-        more = g .more;
-        few = g .few;
-        said = g .said;
+        fits = rw e (omega arith);
+        forward = omega arith;
+        more = omega arith;
+        few = omega arith;
+        said = omega arith;
         no-operation = ap is-operation kind ∙ arrow-no-operation (getD ks (c .at) 0 is Async);
         no-choice = λ z. arrow-no-choice (getD ks (c .at) 0 is Async) (sym kind ∙ z);
         goes = λ r′ s′ m′ x f. assign-arrows w room t i j a q e f;
@@ -281,7 +223,7 @@ module _ {ks fs r₀ s₀ m₀ : List ℕ} {part : Bool} {c : Cursor} (room : Ro
       → MetList ks fs r₀ s₀ m₀ r s m (head (c .at)) (c .rows) (c .records) y → y ≡ Listed.Fail cause
       → MetStart ks fs r₀ s₀ m₀ r s m part (c .at) (c .rows) (c .records) (Start.Fail cause)
   start-commits {r} {s} {m} {cause = cause} p t e a q =
-      is-refused (subst (λ (b : Bool). Refused ks fs r₀ s₀ m₀ r s m (if b then assignment (c .at) else unary (c .at)) (c .rows) (c .records) cause) (sym p) (assign-fails t e a q .fail-at _ refl))
+      starts-so _ _ _ _ _ _ _ _ _ _ _ _ (Start.Fail _) (subst (λ (b : Bool). Refused ks fs r₀ s₀ m₀ r s m (if b then assignment (c .at) else unary (c .at)) (c .rows) (c .records) cause) (sym p) (assign-fails t e a q .fail-at _ refl))
 
   -- Async and a name before `=>`, past a head
   pub start-asyncs : {r₁ s₁ m₁ r : List ℕ} {k : ℕ} {b : Bool} {d : Cursor} {h : Head} → part ≡ true → Past ks fs r₀ s₀ m₀ r₁ s₁ m₁ k c → b ≡ is-async-name (sheet-of ks fs) (c .at) → b ≡ true
@@ -293,14 +235,14 @@ module _ {ks fs r₀ s₀ m₀ : List ℕ} {part : Bool} {c : Cursor} (room : Ro
       let rows = ap (λ (z : Cursor). z .rows) (top .is) in
       let records = ap (λ (z : Cursor). z .records) (top .is) in
       let here : Room ks r₁ s₁ (cursor (c .at) (c .rows) k) =
-      record { short = room .short; wide = omega (arith, room, past .long); deep = omega (arith, room, past .deep); inside = room .inside; few = room .few; said = omega (arith, room, past .same) } in
+      omega (arith, room, past .long, past .deep, past .same) in
       let first = ap (λ (z : Head). z .first) e in
       let from = ap (λ (z : Head). z .from) e in
       let kids = ap (λ (z : Head). z .kids) e in
       let kind = ap (λ (z : Head). z .kind) e in
-      is-opened record {
+      starts-so _ _ _ _ _ _ _ _ _ _ _ _ (Start.Opened _ _) record {
         is-part = p;
-        fits = record { arrow = omega (arith, stands, place); first-before = omega (arith, place, first); from-before = omega (arith, rows, from); kids-few = omega (arith, place, kids) };
+        fits = omega (arith, stands, place, first, rows, from, kids);
         forward = omega (arith, place);
         more = omega (arith, rows);
         few = omega (arith, place, rows);
@@ -309,8 +251,7 @@ module _ {ks fs r₀ s₀ m₀ : List ℕ} {part : Bool} {c : Cursor} (room : Ro
         no-choice = λ z. omega (arith, kind, z);
         goes = λ r′ s′ m′ x f.
             past .goes r′ s′ m′ x
-            (value-asyncs here i j top
-            (subst (λ (h : Head). MetAfter ks fs r s₁ m₁ r′ s′ m′ (body (h .kind) (h .first) (d .at)) (h .from) (d .rows) (h .kids) (d .records) x) e f));
+            (value-asyncs here i j top (rw e at f));
       }
 
 -- where an operand starts: past a head, or where none could be
@@ -334,9 +275,9 @@ module _ {ks fs r₀ s₀ m₀ r₁ s₁ m₁ : List ℕ} {part : Bool} {k : ℕ
         same = h ∙ past .same;
         plain = λ z. sym i ∙ j;
         past = λ z r s m x a. past .goes r s m x (rw (sym e, sym f, sym g, past .same) a);
-        rows-same = λ z. absurd (never (sym p ∙ z));
-        records-same = λ z. absurd (never (sym p ∙ z));
-        notes-same = λ z. absurd (never (sym p ∙ z));
+        rows-same = λ z. absurd (never (cc));
+        records-same = λ z. absurd (never (cc));
+        notes-same = λ z. absurd (never (cc));
       }
 
   pub passed-operand : part ≡ false → r₁ ≡ r₀ → s₁ ≡ s₀ → m₁ ≡ m₀ → k ≡ c .records → Passed ks fs r₀ s₀ m₀ r₁ s₁ m₁ part k c
@@ -345,8 +286,8 @@ module _ {ks fs r₀ s₀ m₀ r₁ s₁ m₁ : List ℕ} {part : Bool} {k : ℕ
         long = ap length e;
         deep = ap length f;
         same = h;
-        plain = λ z. absurd (never (sym z ∙ p));
-        past = λ z. absurd (never (sym z ∙ p));
+        plain = λ z. absurd (never (cc));
+        past = λ z. absurd (never (cc));
         rows-same = λ z. e;
         records-same = λ z. f;
         notes-same = λ z. g;
@@ -363,7 +304,7 @@ module _ {ks fs r₀ s₀ m₀ r₁ s₁ m₁ : List ℕ} {part : Bool} {k : ℕ
 
   pub start-operand : {d : Cursor} → x ≡ Step.Done d → MetStart ks fs r₀ s₀ m₀ r s m part (c .at) (c .rows) (c .records) (Start.Operand d)
   start-operand {d} e =
-      is-operand record {
+      starts-so _ _ _ _ _ _ _ _ _ _ _ _ (Start.Operand _) record {
         rows₁ = r₁;
         records₁ = s₁;
         notes₁ = m₁;
@@ -378,13 +319,13 @@ module _ {ks fs r₀ s₀ m₀ r₁ s₁ m₁ : List ℕ} {part : Bool} {k : ℕ
       }
 
   pub start-fails : {cause : Cause} → x ≡ Step.Fail cause → MetStart ks fs r₀ s₀ m₀ r s m part (c .at) (c .rows) (c .records) (Start.Fail cause)
-  start-fails {cause} e = is-refused (go part refl)
+  start-fails {cause} e = starts-so _ _ _ _ _ _ _ _ _ _ _ _ (Start.Fail cause) (go part refl)
     where
       failed : Met ks fs r₁ s₁ m₁ r s m (unary (c .at)) (c .rows) (c .records) (Step.Fail cause)
       failed = subst (λ (y : Step). Met ks fs r₁ s₁ m₁ r s m (unary (c .at)) (c .rows) (c .records) y) e operand-met
 
       here : Room ks r₁ s₁ c
-      here = record { short = room .short; wide = omega (arith, room, p .long); deep = omega (arith, room, p .deep); inside = room .inside; few = room .few; said = room .said }
+      here = omega (arith, room, p .long, p .deep)
 
       go : (b : Bool) → part ≡ b → Refused ks fs r₀ s₀ m₀ r s m (if b then assignment (c .at) else unary (c .at)) (c .rows) (c .records) cause
       go true q = p .past q r s m _ (value-refuses here refl (p .plain q) (binary-refuses here failed refl) refl) .fail-at _ refl

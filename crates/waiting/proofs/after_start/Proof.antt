@@ -3,7 +3,7 @@
 use mathlib.Core.Path.{refl, sym, ap, _∙_}
 use native.Mathlib.Omega.{arith}
 use borrow.Author.Needs.{needs}
-use Rattle.waiting.proofs.Steps.{after-fail, after-opened, after-operand}
+use Rattle.waiting.proofs.Groups.{after-fail, after-opened, after-operand}
 use Rattle.waiting.proofs.after_start.Statement.{statement}
 use Rattle.waiting.proofs.after_start.Tie as tie
 

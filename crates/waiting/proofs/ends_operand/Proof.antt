@@ -3,7 +3,7 @@
 use native.Mathlib.Omega.{arith}
 use borrow.Author.Needs.{needs}
 use borrow.Author.Tests.{le-ltb}
-use Rattle.waiting.proofs.Steps.{operator-waits, part-waits}
+use Rattle.waiting.proofs.Groups.{operator-waits, part-waits}
 use Rattle.waiting.proofs.ends_operand.Statement.{statement}
 use Rattle.waiting.proofs.ends_operand.Tie as tie
 

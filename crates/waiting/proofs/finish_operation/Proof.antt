@@ -6,7 +6,7 @@ use native.Mathlib.Omega.{arith}
 use borrow.Author.Needs.{needs}
 use lib.ListN.{length, take, length-append, length-drop}
 use lib.Seq.{length-take-le}
-use Rattle.waiting.proofs.Steps.{operation-made}
+use Rattle.waiting.proofs.Groups.{operation-made}
 use Rattle.waiting.proofs.finish_operation.Statement.{statement}
 use Rattle.waiting.proofs.finish_operation.Tie as tie
 

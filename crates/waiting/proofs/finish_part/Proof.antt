@@ -3,7 +3,7 @@
 use mathlib.Core.Path.{refl, sym, ap, _∙_}
 use native.Mathlib.Omega.{arith}
 use borrow.Author.Needs.{needs}
-use Rattle.waiting.proofs.Steps.{part-made}
+use Rattle.waiting.proofs.Groups.{part-made}
 use Rattle.waiting.proofs.finish_part.Statement.{statement}
 use Rattle.waiting.proofs.finish_part.Tie as tie
 

@@ -7,7 +7,7 @@ use native.Mathlib.Decide.{ℕ-discrete}
 use lib.ListN.{length, getD}
 use borrow.Author.Needs.{needs}
 use Rattle.build.specs.declared.cursor.Cursor.{Cursor}
-use Rattle.waiting.proofs.Parts.{goes-at, Finishing, finishing-starts, parts-inside, parts-fit, parts-made, parts-end, parts-choice-place, parts-choice}
+use Rattle.waiting.proofs.Groups.{goes-at, Finishing, finishing-starts, parts-inside, parts-fit, parts-made, parts-end, parts-choice-place, parts-choice}
 use Rattle.waiting.proofs.finish_parts.Statement.{statement}
 use Rattle.waiting.proofs.finish_parts.Tie as tie
 

@@ -6,8 +6,7 @@ use native.Mathlib.Omega.{arith}
 use lib.ListN.{length, getD}
 use borrow.Author.Needs.{needs}
 use Rattle.operators.specs.Precedence.{expression-level}
-use Rattle.waiting.proofs.Parts.{goes-at}
-use Rattle.waiting.proofs.Groups.{Following, following-starts, following-inside, following-fits, following-made, following-floor, following-level, group-fits, operand-awaits}
+use Rattle.waiting.proofs.Groups.{goes-at, Following, following-starts, following-inside, following-fits, following-made, following-floor, following-level, group-fits, operand-awaits}
 use Rattle.waiting.proofs.follow.Statement.{statement}
 use Rattle.waiting.proofs.follow.Tie as tie
 

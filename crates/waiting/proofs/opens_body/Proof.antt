@@ -3,7 +3,7 @@
 use mathlib.Core.Path.{refl, sym, ap, _∙_}
 use native.Mathlib.Omega.{arith}
 use borrow.Author.Needs.{needs}
-use Rattle.waiting.proofs.Steps.{opens-at-arrow, opens-nowhere}
+use Rattle.waiting.proofs.Groups.{opens-at-arrow, opens-nowhere}
 use Rattle.waiting.proofs.opens_body.Statement.{statement}
 use Rattle.waiting.proofs.opens_body.Tie as tie
 

@@ -3,7 +3,7 @@
 use mathlib.Core.Path.{refl, sym, ap, _∙_}
 use native.Mathlib.Omega.{arith}
 use borrow.Author.Needs.{needs}
-use Rattle.waiting.proofs.Steps.{otherwise-stops, otherwise-goes}
+use Rattle.waiting.proofs.Groups.{otherwise-stops, otherwise-goes}
 use Rattle.waiting.proofs.otherwise.Statement.{statement}
 use Rattle.waiting.proofs.otherwise.Tie as tie
 

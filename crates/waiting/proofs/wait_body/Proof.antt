@@ -5,8 +5,8 @@ use native.Mathlib.Omega.{arith}
 use borrow.Author.Needs.{needs}
 use mathlib.Core.Logic.{⊎-elim}
 use Rattle.build.specs.Post.{cursor}
-use Rattle.waiting.proofs.Body.{breaks, no-break, breaks-as}
-use Rattle.waiting.proofs.Steps.{body-stops, body-goes}
+use Rattle.waiting.proofs.Value.{breaks, no-break, breaks-as}
+use Rattle.waiting.proofs.Groups.{body-stops, body-goes}
 use Rattle.waiting.proofs.wait_body.Statement.{statement}
 use Rattle.waiting.proofs.wait_body.Tie as tie
 

@@ -3,7 +3,7 @@
 use mathlib.Core.Path.{refl, sym, ap, _∙_}
 use native.Mathlib.Omega.{arith}
 use borrow.Author.Needs.{needs}
-use Rattle.waiting.proofs.Steps.{operand-waits}
+use Rattle.waiting.proofs.Groups.{operand-waits}
 use Rattle.waiting.proofs.wait_operand.Statement.{statement}
 use Rattle.waiting.proofs.wait_operand.Tie as tie
 

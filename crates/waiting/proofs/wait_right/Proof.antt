@@ -7,8 +7,8 @@ use lib.ListN.{length, take, length-append, length-drop}
 use lib.Seq.{length-take-le}
 use borrow.Author.Needs.{needs}
 use mathlib.Core.Logic.{⊎-elim}
-use Rattle.waiting.proofs.Assigned.{assigned-room, assigned-few, plain-kind, compound-kind}
-use Rattle.waiting.proofs.Steps.{right-stops, right-goes}
+use Rattle.waiting.proofs.Value.{assigned-room, assigned-few, plain-kind, compound-kind}
+use Rattle.waiting.proofs.Groups.{right-stops, right-goes}
 use Rattle.waiting.proofs.wait_right.Statement.{statement}
 use Rattle.waiting.proofs.wait_right.Tie as tie
 
