@@ -28,7 +28,7 @@ use Rattle.grammar.specs.Reading.{way-of, unconverted, unconverteds, at-end, re
 use lib.ListN.{length, replicate}
 use Rattle.grammar.specs.Job.{expression}
 use Rattle.laws.specs.Settles.{μ}
-use Rattle.agreement.specs.Count.{Counted, fresh, count}
+use Rattle.agreement.specs.Terms.{Counted, fresh, count}
 use Rattle.agreement.specs.Terms.{ReadAs, Early}
 
 -- a call of the name at a place with one spread name: Identifier, Identifier, Spread, Call

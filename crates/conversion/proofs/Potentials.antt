@@ -18,7 +18,7 @@ use Rattle.conversion.specs.Conversion.{Outcome, turned, refused, Role, 
 use Rattle.tokens.specs.Cause.{number, place}
 use Rattle.conversion.proofs.Relabelled.{Relabel, kept, target}
 use Rattle.conversion.proofs.KidRoles.{elements, properties, key-and-value, name-and-initializer}
-use Rattle.conversion.specs.Potential.{may-record, potential, potentials}
+use Rattle.conversion.specs.Conversion.{may-record, potential, potentials}
 use Rattle.conversion.proofs.RuleHolds.{either-way, both-true, refused-turned, follows, cons-parts}
 pub use Rattle.conversion.proofs.RuleHolds.{turned-is, turned-records}
 

@@ -41,9 +41,9 @@ use Rattle.conversion.proofs.EntryRule.{no-error}
 use Rattle.laws.specs.Promises.{Inside as Stands}
 use Rattle.grammar.specs.Told.{number-of, first-of, second-of, third-of, Told, ToldThreeWay, ToldSubtree}
 use Rattle.rows.specs.Row as row
-use Rattle.rows.specs.Words.{WellFormed}
+use Rattle.rows.specs.Part.{WellFormed}
 use Rattle.grammar.proofs.Checked.{ready}
-use Rattle.agreement.specs.Count.{Counted, Ended, ended-done, ended-fail}
+use Rattle.agreement.specs.Terms.{Counted, Ended, ended-done, ended-fail}
 use Rattle.agreement.proofs.Steps.{Start, ListWork, ReadWork, list-work, read-work, checked-work}
 use Rattle.exact.proofs.Sound.{Standard, clean-expression, clean-binding}
 use Rattle.exact.proofs.Unambiguous.{clean-is-derived, clean-is-bound}

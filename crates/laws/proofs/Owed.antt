@@ -13,7 +13,7 @@ use Rattle.rows.specs.Row as Row
 use Rattle.rows.specs.Tree.{Tree, Forest, node, nil, cons, join}
 use Rattle.rows.specs.Record.{Record, shorthand-initializer}
 use Rattle.conversion.specs.Conversion.{turned, Role, convert-as}
-use Rattle.conversion.specs.Potential.{may-record}
+use Rattle.conversion.specs.Conversion.{may-record}
 use Rattle.conversion.proofs.RuleHolds.{either-way}
 use Rattle.conversion.proofs.Potentials as Potentials
 use Rattle.grammar.specs.Reading.{unconverted, unconverteds}

@@ -13,7 +13,7 @@ use Rattle.tokens.specs.Bool.{_and_}
 use Rattle.rows.specs.Tree.{Tree, Forest, node, nil, cons, one, join, count, size, sizes, row, kind-of, kids-of}
 use Rattle.rows.specs.Shape.{well-formed, all-well-formed, is-shaped, is-listed, all-fit, fits, last-kind, least, shape-of}
 use Rattle.rows.specs.Part.{Part, Rooted}
-use Rattle.rows.specs.Stands.{Decides, Stands, KidsStand, LastKind, KidFits}
+use Rattle.rows.specs.Part.{Decides, Stands, KidsStand, LastKind, KidFits}
 use Rattle.rows.proofs.Rows.{sizes-join, count-join, join-nil, join-assoc, Next, next}
 use Rattle.rows.proofs.Flat.{some-row}
 use Rattle.rows.proofs.Parts.{part-none, part-join, part-left, part-right, part-kids, part-node, row-of-words}
