@@ -157,7 +157,8 @@ module _ (sheet : Sheet) (q : ℕ) (arrow-there : token sheet q ≡ Arrow) where
   -- THE STATEMENT: no use can be made of the way past a head that ends here
   pub covered : {N : Type 0} (policy : Policy N) (at steps : ℕ) → Headed sheet at q → μ sheet (value at) ≤ steps → (notes : N) → Halt sheet true (read policy sheet steps (value at) notes)
   covered {N} policy at steps d le notes =
-      go (all-told (λ job o. Ended {job = job} o) policy sheet (Answers (λ job. Unit {0}) (Shaped sheet) Nothing) (all-balanced policy sheet) (λ ask g h job o. step-over policy g h o) steps .with (value at) (on-value d) .with notes)
+      go (all-told (λ job o. Ended {job = job} o) policy sheet (Answers (λ job. Unit {0}) (Shaped sheet) Nothing) (all-balanced policy sheet)
+      (λ ask g h job o. step-over policy g h o) steps .with (value at) (on-value d) .with notes)
     where
       go : Ends (λ end trees records. end ≡ q) Nothing (read policy sheet steps (value at) notes) → Halt sheet true (read policy sheet steps (value at) notes)
       go (ends-done end trees records after e t) = halt-dead refl end trees records after e (arrow (rw t arrow-there))

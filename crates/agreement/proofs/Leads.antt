@@ -1,6 +1,6 @@
 -- One reader leads and another follows, over one grammar with two policies: where the leader is done, the follower is done with the same. The leader may
 -- fail, or be done before a token that nothing allows after what was read, `=>` or `{`: of the follower only that is said then which stays so as it reads on.
--- One lemma a production but for the one that has the policy in it; `led`, at the end, puts them together. Assumes nothing.
+-- One case a production but for the one that has the policy in it; `led`, at the end, puts them together. Assumes nothing.
 use Prim.Native.Nat.{ℕ, zero, suc, _+_, _-_, _*_, _≤_, _<_}
 use mathlib.Core.Path.{_≡_, refl, sym, _∙_}
 use mathlib.Core.Bool.{Bool, true, false, not}
