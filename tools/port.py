@@ -3,7 +3,7 @@
 
     tools/port.py    fails if one of these does not hold
 
-Every function that the page cites, `parse/src/lib.rt expression assign`, is in that file; every function of a file that stands under "The port" is named there.
+Every function that the page cites, `parse/src/lib.rt comma assign`, is in that file; every function of a file that stands under "The port" is named there.
 A comment above a function may say "Follows `x` and a part of `y`." or "Stands for `x`.", where x and y are functions of the crate: each of them has a row
 in the tables, and that row names the function. Where one function of a file says so, all of that file's do to which the tables give a row.
 The crate's own files are not in the repository, so its names and lines are held to nothing.

@@ -28,8 +28,8 @@ use waiting::Next;
 use waiting::Spot;
 use waiting::Start;
 
-// 13.16 Expression: one part, or a Sequence of them. Stands for `parse_expr`.
-pub fn expression(
+// 13.16 Expression: one part, or a Sequence of them.
+pub fn comma(
     kinds: &[u8],
     flags: &[u8],
     rows: &mut [u32],
@@ -69,7 +69,6 @@ pub fn expression(
 }
 
 // 13.15 AssignmentExpression: one token by itself; or parts and operands, one after the other, while what still lacks its last part waits.
-// Stands for `parse_assignment_expression_or_higher`.
 fn assign(
     kinds: &[u8],
     flags: &[u8],
@@ -118,7 +117,6 @@ fn assign(
 }
 
 // Where a part starts, a head that is tried or read for good, or Async and a name before `=>`; else, and where an operand starts, an operand.
-// Follows `try_parse_parenthesized_arrow_function_expression` and `try_parse_async_simple_arrow_function_expression`.
 fn start(
     kinds: &[u8],
     flags: &[u8],
@@ -167,7 +165,7 @@ fn start(
     }
 }
 
-// A head up to its `=>`: optional Async with no break after it, and parameters in parentheses. Follows `parse_parenthesized_arrow_function_head`.
+// A head up to its `=>`: optional Async with no break after it, and parameters in parentheses.
 fn head(
     kinds: &[u8],
     flags: &[u8],
@@ -191,7 +189,7 @@ fn head(
     if tokens::kind_at(kinds, open) != kind::L_PAREN {
         return Listed::Fail(Cause::Unexpected(open));
     }
-    let got = parameters(kinds, flags, rows, records, notes, open + 1, made, said);
+    let got = params(kinds, flags, rows, records, notes, open + 1, made, said);
     let Listed::Done(d, kids) = got else {
         return got
     };
@@ -203,8 +201,7 @@ fn head(
 }
 
 // 15.1 FormalParameters: bindings with optional defaults, one trailing comma unless a rest is last, up to past the `)`.
-// Stands for `parse_formal_parameters`.
-fn parameters(
+fn params(
     kinds: &[u8],
     flags: &[u8],
     rows: &mut [u32],
@@ -241,7 +238,7 @@ fn parameters(
                 Step::Done(d) => break d,
             }
         }
-        let got = binding_element(kinds, flags, rows, records, notes, c.at, c.rows, c.records);
+        let got = element(kinds, flags, rows, records, notes, c.at, c.rows, c.records);
         match got {
             Step::Fail(cause) => return Listed::Fail(cause),
             Step::Done(d) => c = d,
@@ -325,7 +322,7 @@ fn left(
                 c = over(rows, d, row::INDEX, at, at, d.at, 2, made);
             }
             kind::L_PAREN => {
-                let call = arguments(kinds, flags, rows, records, notes, place, n, used, at, made);
+                let call = args(kinds, flags, rows, records, notes, place, n, used, at, made);
                 let Step::Done(d) = call else { return call };
                 c = d;
             }
@@ -337,7 +334,7 @@ fn left(
 }
 
 // 13.3: a Call, from its `(` on.
-fn arguments(
+fn args(
     kinds: &[u8],
     flags: &[u8],
     rows: &mut [u32],
@@ -402,7 +399,7 @@ fn inside(
     requires { ⌜ at < length (now kinds) ⌝ }
     ensures { λ x. ⌜ MetClosed (now (kinds .entry)) (now (flags .entry)) (now (rows .entry)) (now (records .entry)) (now (notes .entry)) (now (rows .exit)) (now (records .exit)) (now (notes .exit)) (Job.expression (at + 1)) close Cause.Unexpected made said x ⌝ }
 {
-    let got = expression(kinds, flags, rows, records, notes, at + 1, made, said);
+    let got = comma(kinds, flags, rows, records, notes, at + 1, made, said);
     let Step::Done(d) = got else { return got };
     let end = d.at;
     if tokens::kind_at(kinds, end) != close {
@@ -470,7 +467,7 @@ fn item(
     Step::Done(over(rows, d, row::SPREAD, at, at, d.at, 1, made))
 }
 
-// 13.2.4 SpreadElement. Follows `parse_spread_element`.
+// 13.2.4 SpreadElement.
 fn spread(
     kinds: &[u8],
     flags: &[u8],
@@ -548,7 +545,7 @@ fn array(
     Step::Done(read)
 }
 
-// 13.2.5 ObjectLiteral: properties up to the `}`. Follows `parse_object_expression`, with the loop of `parse_delimited_list`.
+// 13.2.5 ObjectLiteral: properties up to the `}`.
 fn object(
     kinds: &[u8],
     flags: &[u8],
@@ -597,7 +594,7 @@ fn object(
     Step::Done(read)
 }
 
-// A part of an object literal: a spread or a property. Follows `parse_object_expression_property`.
+// A part of an object literal: a spread or a property.
 fn part(
     kinds: &[u8],
     flags: &[u8],
@@ -618,7 +615,7 @@ fn part(
     property(kinds, flags, rows, records, notes, at, made, said)
 }
 
-// 13.2.5 PropertyDefinition: a shorthand, or a key with its value. Follows `parse_object_literal_element`.
+// 13.2.5 PropertyDefinition: a shorthand, or a key with its value.
 fn property(
     kinds: &[u8],
     flags: &[u8],
@@ -668,8 +665,7 @@ fn property(
 }
 
 // A name's initializer, from its `=` on: the name's row stands at `from`, and its token just before.
-// Follows `parse_initializer` and a part of `parse_object_literal_element`.
-fn initializer(
+fn init(
     kinds: &[u8],
     flags: &[u8],
     rows: &mut [u32],
@@ -696,7 +692,6 @@ fn initializer(
 }
 
 // 13.2.5 PropertyName: a word, a string, a number, or `[` an AssignmentExpression `]`.
-// Follows `parse_property_name` and `parse_computed_property_name`.
 fn key(
     kinds: &[u8],
     flags: &[u8],
@@ -726,7 +721,7 @@ fn key(
     Step::Done(over(rows, d, row::COMPUTED_KEY, at, at, end + 1, 1, made))
 }
 
-// 14.3.3 BindingPattern, or a BindingIdentifier. Follows `parse_binding_pattern` and `parse_binding_pattern_identifier`.
+// 14.3.3 BindingPattern, or a BindingIdentifier.
 fn binding(
     kinds: &[u8],
     flags: &[u8],
@@ -745,14 +740,14 @@ fn binding(
         return Step::Done(leaf(rows, at, made, said, row::BINDING_NAME));
     }
     match k {
-        kind::L_BRACK => binding_array(kinds, flags, rows, records, notes, at, made, said),
-        kind::L_CURLY => binding_object(kinds, flags, rows, records, notes, at, made, said),
+        kind::L_BRACK => barray(kinds, flags, rows, records, notes, at, made, said),
+        kind::L_CURLY => bobject(kinds, flags, rows, records, notes, at, made, said),
         _ => Step::Fail(Cause::Unexpected(at)),
     }
 }
 
-// 14.3.3 BindingElement: a binding with an optional initializer. Follows `parse_binding_pattern_with_initializer` and `parse_initializer`.
-pub fn binding_element(
+// 14.3.3 BindingElement: a binding with an optional initializer.
+pub fn element(
     kinds: &[u8],
     flags: &[u8],
     rows: &mut [u32],
@@ -782,7 +777,7 @@ pub fn binding_element(
     Step::Done(over(rows, e, row::BINDING_DEFAULT, mark, at, e.at, 2, made))
 }
 
-// 14.3.3 BindingRestElement: an initializer is record 2 at its `=`. Follows `parse_rest_element` and `parse_rest_element_for_formal_parameter`.
+// 14.3.3 BindingRestElement: an initializer is record 2 at its `=`.
 fn rest(
     kinds: &[u8],
     flags: &[u8],
@@ -797,7 +792,7 @@ fn rest(
     requires { ⌜ at < length (now kinds) ⌝ }
     ensures { λ x. ⌜ Met (now (kinds .entry)) (now (flags .entry)) (now (rows .entry)) (now (records .entry)) (now (notes .entry)) (now (rows .exit)) (now (records .exit)) (now (notes .exit)) (Job.binding-rest at) made said x ⌝ }
 {
-    let got = binding_element(kinds, flags, rows, records, notes, at + 1, made, said);
+    let got = element(kinds, flags, rows, records, notes, at + 1, made, said);
     let Step::Done(d) = got else { return got };
     let root = d.rows - 1;
     if rows::row_word(rows, root, 0) != row::BINDING_DEFAULT {
@@ -808,7 +803,7 @@ fn rest(
     Step::Done(over(rows, c, row::BINDING_REST, at, at, c.at, 1, made))
 }
 
-// A rest and its closing token, or 12. Stands for a part of `parse_delimited_list_with_rest`.
+// A rest and its closing token, or 12.
 fn last(
     kinds: &[u8],
     flags: &[u8],
@@ -838,8 +833,7 @@ fn last(
 }
 
 // 14.3.3 ArrayBindingPattern: elements, holes and a closing rest up to the `]`.
-// Follows `parse_array_binding_pattern` and `parse_array_binding_element`, with the loop of `parse_delimited_list_with_rest`.
-fn binding_array(
+fn barray(
     kinds: &[u8],
     flags: &[u8],
     rows: &mut [u32],
@@ -878,7 +872,7 @@ fn binding_array(
             let Step::Done(d) = got else { return got };
             break over(rows, d, row::BINDING_ARRAY, at, at, d.at, kids, made);
         }
-        let got = binding_element(kinds, flags, rows, records, notes, c.at, c.rows, c.records);
+        let got = element(kinds, flags, rows, records, notes, c.at, c.rows, c.records);
         let Step::Done(d) = got else { return got };
         let close = d.at;
         let next = tokens::kind_at(kinds, close);
@@ -895,8 +889,7 @@ fn binding_array(
 }
 
 // 14.3.3 ObjectBindingPattern: properties and a closing rest of a bare name, or 11, up to the `}`.
-// Follows `parse_object_binding_pattern`, with the loop of `parse_delimited_list_with_rest`.
-fn binding_object(
+fn bobject(
     kinds: &[u8],
     flags: &[u8],
     rows: &mut [u32],
@@ -934,7 +927,7 @@ fn binding_object(
             }
             break over(rows, d, row::BINDING_OBJECT, at, at, d.at, kids, made);
         }
-        let got = binding_property(kinds, flags, rows, records, notes, c.at, c.rows, c.records);
+        let got = bproperty(kinds, flags, rows, records, notes, c.at, c.rows, c.records);
         let Step::Done(d) = got else { return got };
         let close = d.at;
         let next = tokens::kind_at(kinds, close);
@@ -950,8 +943,8 @@ fn binding_object(
     Step::Done(read)
 }
 
-// 14.3.3 BindingProperty: a shorthand, or a key with its element. Follows `parse_binding_property`.
-fn binding_property(
+// 14.3.3 BindingProperty: a shorthand, or a key with its element.
+fn bproperty(
     kinds: &[u8],
     flags: &[u8],
     rows: &mut [u32],
@@ -970,7 +963,7 @@ fn binding_property(
         if tokens::kind_at(kinds, at + 1) != kind::EQ {
             return Step::Done(over(rows, d, row::BINDING_SHORTHAND, at, at, at + 1, 1, made));
         }
-        return initializer(
+        return init(
             kinds,
             flags,
             rows,
@@ -990,7 +983,7 @@ fn binding_property(
         return Step::Fail(Cause::Unexpected(colon));
     }
     let start = colon + 1;
-    let more = binding_element(kinds, flags, rows, records, notes, start, d.rows, d.records);
+    let more = element(kinds, flags, rows, records, notes, start, d.rows, d.records);
     let Step::Done(e) = more else { return more };
     Step::Done(over(rows, e, row::PROPERTY, at, at, e.at, 2, made))
 }

@@ -16,7 +16,7 @@ pub fn read(kinds: &[u8], flags: &[u8], rows: &mut [u32], records: &mut [u32]) -
         Checked::Refused(cause) => Answer::Refused(cause),
         Checked::Fine => {
             let mut notes = [0u8; 2048]; // no head of the sheet has failed yet
-            let got = parse::expression(kinds, flags, rows, records, &mut notes, 0, 0, 0);
+            let got = parse::comma(kinds, flags, rows, records, &mut notes, 0, 0, 0);
             frame::finish(kinds, rows, records, &notes, got)
         }
     }
@@ -31,7 +31,7 @@ pub fn pattern(kinds: &[u8], flags: &[u8], rows: &mut [u32], records: &mut [u32]
         Checked::Refused(cause) => Answer::Refused(cause),
         Checked::Fine => {
             let mut notes = [0u8; 2048]; // no head of an initializer has failed yet
-            let got = parse::binding_element(kinds, flags, rows, records, &mut notes, 0, 0, 0);
+            let got = parse::element(kinds, flags, rows, records, &mut notes, 0, 0, 0);
             frame::finish(kinds, rows, records, &notes, got)
         }
     }

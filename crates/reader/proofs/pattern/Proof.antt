@@ -17,11 +17,11 @@ enum-known-checked c = search needs
 enum-told : tie.Need-enum-told
 enum-told c = search needs
 
-binding-element-requires : tie.Need-binding-element-requires
-binding-element-requires c κs = begins (c .before .before .before .before .before .check .ensures) (c .before .before .before .enum-told .given .1)
+element-requires : tie.Need-element-requires
+element-requires c κs = begins (c .before .before .before .before .before .check .ensures) (c .before .before .before .enum-told .given .1)
 
 finish-requires : tie.Need-finish-requires
-finish-requires c κs = (ends (c .before .before .before .before .before .before .before .before .before .before .before .before .before .check .ensures) (c .before .before .before .before .before .before .before .before .before .before .before .enum-told .given .1) (c .before .before .before .before .before .before .before .binding-element .kept .1 .1 .0) (c .before .before .before .before .before .before .before .binding-element .kept .1 .1 .1 .0), came-out (binding-element 0) refl refl (c .before .before .before .before .before .before .before .binding-element .ensures))
+finish-requires c κs = (ends (c .before .before .before .before .before .before .before .before .before .before .before .before .before .check .ensures) (c .before .before .before .before .before .before .before .before .before .before .before .enum-told .given .1) (c .before .before .before .before .before .before .before .element .kept .1 .1 .0) (c .before .before .before .before .before .before .before .element .kept .1 .1 .1 .0), came-out (binding-element 0) refl refl (c .before .before .before .before .before .before .before .element .ensures))
 
 same-length : tie.Need-same-length
 same-length c = omega arith
@@ -33,13 +33,13 @@ returns : tie.Need-returns
 returns c = entry-refuses (binding-element 0) (c .before .before .before .check .ensures) (c .before .checked .given .1)
 
 same-length-3 : tie.Need-same-length-3
-same-length-3 c = omega (arith, c .before .before .before .before .before .before .before .before .before .before .before .before .binding-element .kept, c .before .before .before .before .finish .kept)
+same-length-3 c = omega (arith, c .before .before .before .before .before .before .before .before .before .before .before .before .element .kept, c .before .before .before .before .finish .kept)
 
 same-length-4 : tie.Need-same-length-4
-same-length-4 c = omega (arith, c .before .before .before .before .before .before .before .before .before .before .before .before .binding-element .kept, c .before .before .before .before .finish .kept)
+same-length-4 c = omega (arith, c .before .before .before .before .before .before .before .before .before .before .before .before .element .kept, c .before .before .before .before .finish .kept)
 
 returns-2 : tie.Need-returns-2
-returns-2 c = entry-ends (binding-element 0) refl refl (c .before .before .before .before .before .before .before .before .before .before .before .before .before .before .before .before .before .before .check .ensures) (c .before .before .before .before .before .before .before .before .before .before .before .before .before .before .before .before .enum-told .given .1) (c .before .before .before .before .before .before .before .before .before .before .before .before .binding-element .ensures) (c .before .before .before .before .before .before .before .before .before .before .before .before .binding-element .kept .1 .1 .0) (c .before .before .before .before .before .before .before .before .before .before .before .before .binding-element .kept .1 .1 .1 .0) (c .before .before .before .before .finish .ensures)
+returns-2 c = entry-ends (binding-element 0) refl refl (c .before .before .before .before .before .before .before .before .before .before .before .before .before .before .before .before .before .before .check .ensures) (c .before .before .before .before .before .before .before .before .before .before .before .before .before .before .before .before .enum-told .given .1) (c .before .before .before .before .before .before .before .before .before .before .before .before .element .ensures) (c .before .before .before .before .before .before .before .before .before .before .before .before .element .kept .1 .1 .0) (c .before .before .before .before .before .before .before .before .before .before .before .before .element .kept .1 .1 .1 .0) (c .before .before .before .before .finish .ensures)
 
 pub pattern-spec : {M : Type 1} → statement M
-pattern-spec = tie.close (tie.spec check-requires enum-known-checked enum-told binding-element-requires finish-requires same-length same-length-2 returns same-length-3 same-length-4 returns-2)
+pattern-spec = tie.close (tie.spec check-requires enum-known-checked enum-told element-requires finish-requires same-length same-length-2 returns same-length-3 same-length-4 returns-2)

@@ -17,11 +17,11 @@ enum-known-checked c = search needs
 enum-told : tie.Need-enum-told
 enum-told c = search needs
 
-expression-requires : tie.Need-expression-requires
-expression-requires c κs = begins (c .before .before .before .before .before .check .ensures) (c .before .before .before .enum-told .given .1)
+comma-requires : tie.Need-comma-requires
+comma-requires c κs = begins (c .before .before .before .before .before .check .ensures) (c .before .before .before .enum-told .given .1)
 
 finish-requires : tie.Need-finish-requires
-finish-requires c κs = (ends (c .before .before .before .before .before .before .before .before .before .before .before .before .before .check .ensures) (c .before .before .before .before .before .before .before .before .before .before .before .enum-told .given .1) (c .before .before .before .before .before .before .before .expression .kept .1 .1 .0) (c .before .before .before .before .before .before .before .expression .kept .1 .1 .1 .0), came-out (expression 0) refl refl (c .before .before .before .before .before .before .before .expression .ensures))
+finish-requires c κs = (ends (c .before .before .before .before .before .before .before .before .before .before .before .before .before .check .ensures) (c .before .before .before .before .before .before .before .before .before .before .before .enum-told .given .1) (c .before .before .before .before .before .before .before .comma .kept .1 .1 .0) (c .before .before .before .before .before .before .before .comma .kept .1 .1 .1 .0), came-out (expression 0) refl refl (c .before .before .before .before .before .before .before .comma .ensures))
 
 same-length : tie.Need-same-length
 same-length c = omega arith
@@ -33,13 +33,13 @@ returns : tie.Need-returns
 returns c = entry-refuses (expression 0) (c .before .before .before .check .ensures) (c .before .checked .given .1)
 
 same-length-3 : tie.Need-same-length-3
-same-length-3 c = omega (arith, c .before .before .before .before .before .before .before .before .before .before .before .before .expression .kept, c .before .before .before .before .finish .kept)
+same-length-3 c = omega (arith, c .before .before .before .before .before .before .before .before .before .before .before .before .comma .kept, c .before .before .before .before .finish .kept)
 
 same-length-4 : tie.Need-same-length-4
-same-length-4 c = omega (arith, c .before .before .before .before .before .before .before .before .before .before .before .before .expression .kept, c .before .before .before .before .finish .kept)
+same-length-4 c = omega (arith, c .before .before .before .before .before .before .before .before .before .before .before .before .comma .kept, c .before .before .before .before .finish .kept)
 
 returns-2 : tie.Need-returns-2
-returns-2 c = entry-ends (expression 0) refl refl (c .before .before .before .before .before .before .before .before .before .before .before .before .before .before .before .before .before .before .check .ensures) (c .before .before .before .before .before .before .before .before .before .before .before .before .before .before .before .before .enum-told .given .1) (c .before .before .before .before .before .before .before .before .before .before .before .before .expression .ensures) (c .before .before .before .before .before .before .before .before .before .before .before .before .expression .kept .1 .1 .0) (c .before .before .before .before .before .before .before .before .before .before .before .before .expression .kept .1 .1 .1 .0) (c .before .before .before .before .finish .ensures)
+returns-2 c = entry-ends (expression 0) refl refl (c .before .before .before .before .before .before .before .before .before .before .before .before .before .before .before .before .before .before .check .ensures) (c .before .before .before .before .before .before .before .before .before .before .before .before .before .before .before .before .enum-told .given .1) (c .before .before .before .before .before .before .before .before .before .before .before .before .comma .ensures) (c .before .before .before .before .before .before .before .before .before .before .before .before .comma .kept .1 .1 .0) (c .before .before .before .before .before .before .before .before .before .before .before .before .comma .kept .1 .1 .1 .0) (c .before .before .before .before .finish .ensures)
 
 pub read-spec : {M : Type 1} → statement M
-read-spec = tie.close (tie.spec check-requires enum-known-checked enum-told expression-requires finish-requires same-length same-length-2 returns same-length-3 same-length-4 returns-2)
+read-spec = tie.close (tie.spec check-requires enum-known-checked enum-told comma-requires finish-requires same-length same-length-2 returns same-length-3 same-length-4 returns-2)
