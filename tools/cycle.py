@@ -21,8 +21,9 @@ RANKS = {
     'bobject': 1, 'inside': 1, 'args': 1, 'init': 1,
 }
 MADE = '-- Made by tools/cycle.py. Assumes nothing.'
-# As many bytes as the name of a folder may have.
-LONGEST = 255
+# As many bytes as the name may have: the files of the proved crate have it between the crate's name and a member's, in 255 bytes. What has no such
+# file, every crate above proves anew.
+LONGEST = 198
 
 
 def members():
@@ -51,6 +52,11 @@ def folder_of(names):
     return folder
 
 
+def file_of(member):
+    """The name of a member's proof file: `binding_array` has BindingArray."""
+    return member.title().replace('_', '')
+
+
 def write(path, text):
     """Writes a file, with its folder."""
     os.makedirs(os.path.dirname(path), exist_ok=True)
@@ -58,16 +64,22 @@ def write(path, text):
         file.write(text)
 
 
+def word(member):
+    """A member's name in a proof, where the parts of a name are joined by hyphens."""
+    return member.replace('_', '-')
+
+
 def measures(names):
     """The file of measures: what a member is given at the measure t, and what a call of it asks below t."""
     out = ['-- The measures of the cycle: tokens left, and the order in which its members call each other at one place. What a member is given at the',
            '-- measure t, and what a call of it asks below t.', MADE, 'use Prim.Native.Nat.{ℕ, _+_, _-_, _*_, _<_}',
            'use lib.ListN.{length}', 'use borrow.Fn.Kinds.{In}', 'use borrow.Fn.PlainCycle.{Measures, is, falls, and}']
-    for m in names:
-        out += ['use %s%s.Reads as %s' % (BASE, m, m), 'use %s%s.Kinds as %s-kinds' % (BASE, m, m)]
-    for m in names:
+    for name in names:
+        out += ['use %s%s.Reads as %s' % (BASE, name, word(name)), 'use %s%s.Kinds as %s-kinds' % (BASE, name, word(name))]
+    for name in names:
+        m = word(name)
         out += ['', 'abbrev pub μ-%s : Measures 5 %s-kinds.ps ℕ' % (m, m),
-                'μ-%s κs a = 32 * (length (a .0 .now) - a .1 .1 .1 .1 .1 .0) + %d' % (m, RANKS[m]), '',
+                'μ-%s κs a = 32 * (length (a .0 .now) - a .1 .1 .1 .1 .1 .0) + %d' % (m, RANKS[name]), '',
                 'abbrev pub %s-at : ℕ → In 5 %s-kinds.ps' % (m, m),
                 '%s-at t = and 5 %s-kinds.ps (is 5 %s-kinds.ps μ-%s t) %s.Pre' % (m, m, m, m, m), '',
                 'abbrev pub %s-below : ℕ → In 5 %s-kinds.ps' % (m, m),
@@ -79,19 +91,20 @@ def tie(names, proved):
     """The file that ties the proofs of the members together; one that has no file yet is left open."""
     name = '+' + '+'.join(names)
     cycle = BASE + name
+    spec = word(name)
     out = ['-- The proof of the cycle of calls: a file for each member, below this one.', MADE, 'mod Measures']
-    out += ['mod %s' % m.title() for m in names if m in proved]
-    out += ['use %s.{statement}' % cycle, 'use %s.Tie.{close}' % cycle, 'use Measures.{%s}' % ', '.join('μ-' + m for m in names)]
-    out += ['use %s.{%s-closed}' % (m.title(), m) for m in names if m in proved]
-    closed = ' '.join('(λ t. %s-closed t)' % m if m in proved else '?' for m in names)
-    out += ['', 'pub %s-spec : {M : Type 1} → statement M' % name, '%s-spec = close %s %s' % (name, ' '.join('μ-' + m for m in names), closed)]
+    out += ['mod %s' % file_of(m) for m in names if m in proved]
+    out += ['use %s.{statement}' % cycle, 'use %s.Tie.{close}' % cycle, 'use Measures.{%s}' % ', '.join('μ-' + word(m) for m in names)]
+    out += ['use %s.{%s-closed}' % (file_of(m), word(m)) for m in names if m in proved]
+    closed = ' '.join('(λ t. %s-closed t)' % word(m) if m in proved else '?' for m in names)
+    out += ['', 'pub %s-spec : {M : Type 1} → statement M' % spec, '%s-spec = close %s %s' % (spec, ' '.join('μ-' + word(m) for m in names), closed)]
     return '\n'.join(out) + '\n'
 
 
 def main():
     names = members()
     folder = folder_of(names)
-    proved = {m for m in names if os.path.exists(os.path.join(folder, 'Proof', '%s.antt' % m.title()))}
+    proved = {m for m in names if os.path.exists(os.path.join(folder, 'Proof', '%s.antt' % file_of(m)))}
     write(os.path.join(folder, 'Proof', 'Measures.antt'), measures(names))
     write(os.path.join(folder, 'Proof.antt'), tie(names, proved))
     print('%d members, %d with a file' % (len(names), len(proved)))

@@ -28,7 +28,7 @@ use waiting::Next;
 use waiting::Spot;
 use waiting::Start;
 
-// 13.16 Expression: one part, or a Sequence of them.
+// 13.16 Expression: one part, or a Sequence of them. Stands for `parse_expr`.
 pub fn comma(
     kinds: &[u8],
     flags: &[u8],
@@ -69,6 +69,7 @@ pub fn comma(
 }
 
 // 13.15 AssignmentExpression: one token by itself; or parts and operands, one after the other, while what still lacks its last part waits.
+// Stands for `parse_assignment_expression_or_higher`.
 fn assign(
     kinds: &[u8],
     flags: &[u8],
@@ -117,6 +118,7 @@ fn assign(
 }
 
 // Where a part starts, a head that is tried or read for good, or Async and a name before `=>`; else, and where an operand starts, an operand.
+// Follows `try_parse_parenthesized_arrow_function_expression` and `try_parse_async_simple_arrow_function_expression`.
 fn start(
     kinds: &[u8],
     flags: &[u8],
@@ -165,7 +167,7 @@ fn start(
     }
 }
 
-// A head up to its `=>`: optional Async with no break after it, and parameters in parentheses.
+// A head up to its `=>`: optional Async with no break after it, and parameters in parentheses. Follows `parse_parenthesized_arrow_function_head`.
 fn head(
     kinds: &[u8],
     flags: &[u8],
@@ -201,6 +203,7 @@ fn head(
 }
 
 // 15.1 FormalParameters: bindings with optional defaults, one trailing comma unless a rest is last, up to past the `)`.
+// Stands for `parse_formal_parameters`.
 fn params(
     kinds: &[u8],
     flags: &[u8],
@@ -467,7 +470,7 @@ fn item(
     Step::Done(over(rows, d, row::SPREAD, at, at, d.at, 1, made))
 }
 
-// 13.2.4 SpreadElement.
+// 13.2.4 SpreadElement. Follows `parse_spread_element`.
 fn spread(
     kinds: &[u8],
     flags: &[u8],
@@ -545,7 +548,7 @@ fn array(
     Step::Done(read)
 }
 
-// 13.2.5 ObjectLiteral: properties up to the `}`.
+// 13.2.5 ObjectLiteral: properties up to the `}`. Follows `parse_object_expression`, with the loop of `parse_delimited_list`.
 fn object(
     kinds: &[u8],
     flags: &[u8],
@@ -594,7 +597,7 @@ fn object(
     Step::Done(read)
 }
 
-// A part of an object literal: a spread or a property.
+// A part of an object literal: a spread or a property. Follows `parse_object_expression_property`.
 fn part(
     kinds: &[u8],
     flags: &[u8],
@@ -615,7 +618,7 @@ fn part(
     property(kinds, flags, rows, records, notes, at, made, said)
 }
 
-// 13.2.5 PropertyDefinition: a shorthand, or a key with its value.
+// 13.2.5 PropertyDefinition: a shorthand, or a key with its value. Follows `parse_object_literal_element`.
 fn property(
     kinds: &[u8],
     flags: &[u8],
@@ -665,6 +668,7 @@ fn property(
 }
 
 // A name's initializer, from its `=` on: the name's row stands at `from`, and its token just before.
+// Follows `parse_initializer` and a part of `parse_object_literal_element`.
 fn init(
     kinds: &[u8],
     flags: &[u8],
@@ -692,6 +696,7 @@ fn init(
 }
 
 // 13.2.5 PropertyName: a word, a string, a number, or `[` an AssignmentExpression `]`.
+// Follows `parse_property_name` and `parse_computed_property_name`.
 fn key(
     kinds: &[u8],
     flags: &[u8],
@@ -721,7 +726,7 @@ fn key(
     Step::Done(over(rows, d, row::COMPUTED_KEY, at, at, end + 1, 1, made))
 }
 
-// 14.3.3 BindingPattern, or a BindingIdentifier.
+// 14.3.3 BindingPattern, or a BindingIdentifier. Follows `parse_binding_pattern` and `parse_binding_pattern_identifier`.
 fn binding(
     kinds: &[u8],
     flags: &[u8],
@@ -746,7 +751,7 @@ fn binding(
     }
 }
 
-// 14.3.3 BindingElement: a binding with an optional initializer.
+// 14.3.3 BindingElement: a binding with an optional initializer. Follows `parse_binding_pattern_with_initializer` and `parse_initializer`.
 pub fn element(
     kinds: &[u8],
     flags: &[u8],
@@ -777,7 +782,7 @@ pub fn element(
     Step::Done(over(rows, e, row::BINDING_DEFAULT, mark, at, e.at, 2, made))
 }
 
-// 14.3.3 BindingRestElement: an initializer is record 2 at its `=`.
+// 14.3.3 BindingRestElement: an initializer is record 2 at its `=`. Follows `parse_rest_element` and `parse_rest_element_for_formal_parameter`.
 fn rest(
     kinds: &[u8],
     flags: &[u8],
@@ -803,7 +808,7 @@ fn rest(
     Step::Done(over(rows, c, row::BINDING_REST, at, at, c.at, 1, made))
 }
 
-// A rest and its closing token, or 12.
+// A rest and its closing token, or 12. Stands for a part of `parse_delimited_list_with_rest`.
 fn last(
     kinds: &[u8],
     flags: &[u8],
@@ -833,6 +838,7 @@ fn last(
 }
 
 // 14.3.3 ArrayBindingPattern: elements, holes and a closing rest up to the `]`.
+// Follows `parse_array_binding_pattern` and `parse_array_binding_element`, with the loop of `parse_delimited_list_with_rest`.
 fn barray(
     kinds: &[u8],
     flags: &[u8],
@@ -889,6 +895,7 @@ fn barray(
 }
 
 // 14.3.3 ObjectBindingPattern: properties and a closing rest of a bare name, or 11, up to the `}`.
+// Follows `parse_object_binding_pattern`, with the loop of `parse_delimited_list_with_rest`.
 fn bobject(
     kinds: &[u8],
     flags: &[u8],
@@ -943,7 +950,7 @@ fn bobject(
     Step::Done(read)
 }
 
-// 14.3.3 BindingProperty: a shorthand, or a key with its element.
+// 14.3.3 BindingProperty: a shorthand, or a key with its element. Follows `parse_binding_property`.
 fn bproperty(
     kinds: &[u8],
     flags: &[u8],

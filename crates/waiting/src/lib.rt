@@ -56,7 +56,7 @@ pub struct Group {
     pub top: usize,
 }
 
-// Past a start: an arrow waits for its body, or what follows an operand is read.
+// Past a start: an arrow waits for its body, or what follows an operand is read. Follows `parse_parenthesized_arrow_function_expression`.
 pub fn after_start(
     kinds: &[u8],
     flags: &[u8],
@@ -87,6 +87,7 @@ pub fn after_start(
 }
 
 // 15.3, 15.9: an arrow waits for its body, from its `=>` on: a break before `=>` is record 1, and `{` as body is 8.
+// Follows `parse_arrow_function_expression_body`.
 fn wait_body(
     kinds: &[u8],
     flags: &[u8],
@@ -124,6 +125,7 @@ fn wait_body(
 }
 
 // 13.6 to 13.15: past an operand, what waits and ends here is made, and what begins here waits.
+// Stands for a part of `parse_binary_expression_or_higher`.
 fn follow(
     kinds: &[u8],
     flags: &[u8],
@@ -147,6 +149,7 @@ fn follow(
 }
 
 // Whether the innermost row that waits is an operator's, and its right operand ends before an operator of this level.
+// Stands for a part of `parse_binary_expression_or_higher`.
 fn ends_operand(rows: &[u32], top: usize, base: usize, level: u8) -> bool
     requires { ⌜ 6 * base ≤ length (now rows) ⌝ }
     ensures { λ r. ⌜ r ≡ ends-operand (now (rows .entry)) top base level ⌝ }
@@ -167,7 +170,7 @@ fn is_operation(kind: u32) -> bool
     kind == row::BINARY || kind == row::LOGICAL
 }
 
-// 13.6 to 13.13: the innermost row that waits is made, over its left operand and the group.
+// 13.6 to 13.13: the innermost row that waits is made, over its left operand and the group. Stands for a part of `parse_binary_expression_or_higher`.
 fn finish_operation(kinds: &[u8], rows: &mut [u32], records: &mut [u32], right: Group) -> Group
     requires { ⌜ OperationFits (now rows) (now records) right ⌝ }
     ensures { λ u. ⌜ FinishedOperation (now (kinds .entry)) (now (rows .entry)) (now (records .entry)) right (now (rows .exit)) (now (records .exit)) u ⌝ }
@@ -203,7 +206,7 @@ fn finish_operation(kinds: &[u8], rows: &mut [u32], records: &mut [u32], right: 
     }
 }
 
-// 13.6 to 13.13: an operator waits for its right operand.
+// 13.6 to 13.13: an operator waits for its right operand. Stands for a part of `parse_binary_expression_or_higher`.
 fn wait_operand(kinds: &[u8], rows: &mut [u32], left: Group) -> Next
     requires { ⌜ WaitFits (length (now rows)) left ⌝ }
     ensures { λ x. ⌜ WaitsOperand (now (kinds .entry)) (now (rows .entry)) left (now (rows .exit)) x ⌝ }
@@ -223,7 +226,7 @@ fn wait_operand(kinds: &[u8], rows: &mut [u32], left: Group) -> Next
     })
 }
 
-// 13.15, 13.14, 15.3: what may follow the binary level.
+// 13.15, 13.14, 15.3: what may follow the binary level. Stands for a part of `parse_assignment_expression_or_higher_impl`.
 fn after_binary(
     kinds: &[u8],
     flags: &[u8],
@@ -253,7 +256,7 @@ fn after_binary(
     finish_parts(kinds, rows, c, left.top, base)
 }
 
-// Whether `=>` stands after a group that is one Identifier.
+// Whether `=>` stands after a group that is one Identifier. Stands for a part of `parse_assignment_expression_or_higher_impl`.
 fn opens_body(kinds: &[u8], rows: &[u32], group: Group) -> bool
     requires { ⌜ 1 ≤ group .rows ⌝ }
     ensures { λ r. ⌜ r ≡ opens-body (now (kinds .entry)) (now (rows .entry)) group ⌝ }
@@ -264,7 +267,7 @@ fn opens_body(kinds: &[u8], rows: &[u32], group: Group) -> bool
     false
 }
 
-// 15.3: the name of an arrow without parentheses is a binding, and its body is waited for.
+// 15.3: the name of an arrow without parentheses is a binding, and its body is waited for. Follows `parse_simple_arrow_function_expression`.
 fn name_body(kinds: &[u8], flags: &[u8], rows: &mut [u32], records: &mut [u32], name: Group) -> Next
     requires { ⌜ WaitFits (length (now rows)) name ⌝ }
     requires { ⌜ name .from < name .top ⌝ }
@@ -287,7 +290,7 @@ fn name_body(kinds: &[u8], flags: &[u8], rows: &mut [u32], records: &mut [u32], 
     wait_body(kinds, flags, rows, records, c, head, name.top)
 }
 
-// 13.15: an assignment waits for its right side, once its left side is converted.
+// 13.15: an assignment waits for its right side, once its left side is converted. Stands for a part of `parse_assignment_expression_or_higher_impl`.
 fn wait_right(kinds: &[u8], rows: &mut [u32], records: &mut [u32], left: Group) -> Next
     requires { ⌜ WaitFits (length (now rows)) left ⌝ }
     requires { ⌜ Room (now kinds) (take (6 * left .top) (now rows)) (now records) (end-of left) ⌝ }
@@ -320,7 +323,7 @@ fn wait_right(kinds: &[u8], rows: &mut [u32], records: &mut [u32], left: Group) 
     }
 }
 
-// 13.14: a Conditional waits for its `:`.
+// 13.14: a Conditional waits for its `:`. Stands for a part of `parse_assignment_expression_or_higher_impl`.
 fn wait_choice(rows: &mut [u32], test: Group) -> Next
     requires { ⌜ WaitFits (length (now rows)) test ⌝ }
     ensures { λ x. ⌜ WaitsChoice (now (rows .entry)) test (now (rows .exit)) x ⌝ }
@@ -366,7 +369,7 @@ fn finish_part(rows: &mut [u32], c: Cursor, top: usize) -> Cursor
     over(rows, c, kind, mark, first, c.at, kids, from)
 }
 
-// 13.14: at its `:` a Conditional waits for its last part.
+// 13.14: at its `:` a Conditional waits for its last part. Stands for a part of `parse_assignment_expression_or_higher_impl`.
 fn otherwise(kinds: &[u8], rows: &mut [u32], c: Cursor, top: usize) -> Next
     requires { ⌜ RowInside (length (now rows)) top ⌝ }
     requires { ⌜ c .at ≤ 2048 ⌝ }
