@@ -1,21 +1,20 @@
 -- Where an arrow function's head could be read, the way past it, if it is read at all, ends right before that head's `=>`: a group or a call covers the same brackets.
 -- There nothing allows a `=>`: so to pass over a head that can be read never helps.
 -- The statement, at the end: `covered`, with any policy. Assumes nothing.
+use Rattle.std.specs.Prelude.{if◌then◌else◌}
 use Prim.Native.Nat.{ℕ, zero, suc, ◌+◌, ◌≤◌}
 use mathlib.Core.Path.{◌≡◌, refl}
 use mathlib.Core.Bool.{true, false}
-use mathlib.Core.List.{List}
 use native.Mathlib.Omega.{arith}
 use lib.Dec.{ltb}
 use borrow.Author.Tests.{ltb-true}
-use Rattle.tokens.specs.Bool.{◌is◌, if◌then◌else◌}
+use Rattle.tokens.specs.Bool.{◌is◌}
 use Rattle.tokens.specs.Kind.{LParen, Dot3, Arrow}
 use Rattle.tokens.specs.Token.{is_name, is_literal}
 use Rattle.tokens.specs.declared.cause.Cause.{Cause}
 use Rattle.operators.specs.Precedence.{level, expression_level}
 use Rattle.rows.specs.Row as Row
 use Rattle.rows.specs.Tree.{Tree, Forest, one, join, kind_of}
-use Rattle.rows.specs.Record.{Record}
 use Rattle.grammar.specs.Sheet.{Sheet, token, done, fail, stuck, Out, Reading, Part, first_tree, tree}
 use Rattle.grammar.specs.Job.{Job, expression, assignment, value, binary, operators, unary, postfix, left_hand_side, links, arguments, primary, spread, Asks}
 use Rattle.grammar.specs.Assignment.{is_assignment_operator, after_binary, is_async_name, value_of}

@@ -1,6 +1,7 @@
 -- One reader leads and another follows, over one grammar with two policies: where the leader is done, the follower is done with the same. The leader may
 -- fail, or be done before a token that nothing allows after what was read, `=>` or `{`: of the follower only that is said then which stays so as it reads on.
 -- One case a production but for the one that has the policy in it; `led`, at the end, puts them together. Assumes nothing.
+use Rattle.std.specs.Prelude.{if◌then◌else◌}
 use Prim.Native.Nat.{ℕ, zero, suc, ◌+◌, ◌-◌, ◌*◌, ◌≤◌, ◌<◌}
 use mathlib.Core.Path.{◌≡◌, refl, sym, ◌∙◌}
 use mathlib.Core.Bool.{Bool, true, false, not}
@@ -9,7 +10,7 @@ use native.Mathlib.Omega.{arith}
 use lib.Dec.{ltb}
 use lib.ListN.{length}
 use borrow.Author.Tests.{eqb-true, ne_eqb}
-use Rattle.tokens.specs.Bool.{◌or◌, ◌and◌, ◌is◌, if◌then◌else◌}
+use Rattle.tokens.specs.Bool.{◌or◌, ◌and◌, ◌is◌}
 use Rattle.tokens.specs.Kind.{Async, Str, Number, RParen, RBrack, LCurly, RCurly, Comma, Colon, Dot3, Arrow, Eq}
 use Rattle.tokens.specs.Token.{is_name, is_word, is_literal}
 use Rattle.tokens.specs.declared.cause.Cause.{Cause}

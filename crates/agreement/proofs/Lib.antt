@@ -3,6 +3,7 @@ pub mod Covers
 pub mod OneSided
 pub mod Heads
 pub mod Past
+pub mod Asking
 pub mod Notes
 pub mod Lookahead
 pub mod Agreement
@@ -10,6 +11,7 @@ pub mod Answers
 pub mod Exception
 pub mod Count
 pub mod Scope
+pub mod Bounds
 pub mod Work
 pub mod Nesting
 pub mod Steps

@@ -1,5 +1,5 @@
 -- The three-way answer is right, the early commit excepted: False means that the plain head fails; True means that no use can be made of the way past the head.
--- The statements: `false-means`, `true-means`, and the two together, `three_way_right`. Assumes nothing.
+-- The statement: `three_way_right`. Assumes nothing.
 use Prim.Native.Nat.{ℕ}
 use mathlib.Core.Path.{◌≡◌, refl}
 use mathlib.Core.Bool.{false}
@@ -13,7 +13,8 @@ use Rattle.grammar.specs.Reading.{plain, box}
 use Rattle.agreement.specs.Terms.{NoEarly}
 use Rattle.agreement.proofs.Heads.{false_fails}
 use Rattle.agreement.proofs.Past.{true_halts}
-use Rattle.agreement.proofs.Notes.{head_fails, asking, Right}
+use Rattle.agreement.proofs.Asking.{asking}
+use Rattle.agreement.proofs.Notes.{head_fails, Right}
 
 -- what the box's reader asks: the three-way answer with both flags off
 abbrev pub told : Sheet → ℕ → Tristate

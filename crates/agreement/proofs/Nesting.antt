@@ -1,5 +1,6 @@
 -- How long all brackets are together: at most the number of tokens times one more than the deepest nesting.
 -- `deepest` is the definition; the statements, at the end: `spans_bounded`, and `nesting_64`: after check 7 the deepest nesting is at most 64. Assumes nothing.
+use Rattle.std.specs.Prelude.{if◌then◌else◌}
 use Prim.Native.Nat.{ℕ, zero, suc, ◌+◌, ◌-◌, ◌*◌, ◌≤◌, ◌<◌, max}
 use mathlib.Core.Path.{◌≡◌, refl, sym, ap, ◌∙◌}
 use mathlib.Core.Bool.{Bool, true, false}
@@ -9,7 +10,7 @@ use native.Mathlib.Nat.{suc-mul}
 use lib.Dec.{ltb}
 use lib.ListN.{length, get_or}
 use borrow.Author.Tests.{ltb-false}
-use Rattle.tokens.specs.Bool.{◌or◌, ◌is◌, if◌then◌else◌}
+use Rattle.tokens.specs.Bool.{◌or◌, ◌is◌}
 use Rattle.tokens.specs.Kind.{LParen, RParen, LBrack, RBrack, LCurly, RCurly}
 use Rattle.tokens.specs.Check.{depth_after, nesting, check_nesting}
 use Rattle.tokens.specs.declared.cause.Cause.{Cause}

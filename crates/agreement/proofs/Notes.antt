@@ -18,13 +18,14 @@ use Rattle.rows.specs.Tree.{Forest}
 use Rattle.rows.specs.Record.{Record}
 use Rattle.grammar.specs.Sheet.{Sheet, token, Out, done, fail, stuck, after_records, and_then, or_else, ◌>>=◌, try}
 use Rattle.grammar.specs.Job.{Job, assignment, value, head}
-use Rattle.grammar.specs.Arrow.{Policy, by_way, choose, noting, arrow_of, assignment_of}
+use Rattle.grammar.specs.Arrow.{by_way, choose, noting, arrow_of, assignment_of}
 use Rattle.grammar.specs.Step.{read}
 use Rattle.laws.specs.Settles.{μ, Settles, looked_at}
 use Rattle.grammar.specs.Reading.{way_of, cleared, plain}
 use Rattle.laws.proofs.Bounds.{limits, Bound}
 use Rattle.laws.proofs.Rel.{Ready, Whatever}
 use Rattle.laws.proofs.Steady.{steps_do_not_matter}
+use Rattle.agreement.proofs.Asking.{asking}
 use Rattle.agreement.proofs.Leads.{open_ended, Halt, halt_fail, halt_dead, Led, both_done, halted, Leads, Near, Stays, forget, lead_test, led_after, arrow_led, led}
 use Rattle.agreement.proofs.Heads.{Fails}
 
@@ -58,11 +59,6 @@ all_clear (suc size) (suc place) = all_clear size place
 -- no note is sound
 pub sound_cleared : (sheet : Sheet) → Sound sheet cleared
 sound_cleared sheet = record { with = λ at n. absurd (n (all_clear 2048 at)) }
-
--- the policy of an answer with notes: it passes where the answer is False, and where it is Maybe and the place is noted; else it tries a head where it is Maybe, and
--- commits where it is True; a place whose head failed is noted
-abbrev pub asking : (ℕ → Tristate) → Policy (List ℕ)
-asking answer = record { way = λ at notes. way_of (answer at) (not (get_or notes at 0 is 0)); mark = λ at notes. set notes at 1 }
 
 -- An answer is right: where it is False the plain head fails; where it is True no use can be made of the plain way past the head: it fails, or is done before a token
 -- that nothing allows there.

@@ -12,7 +12,6 @@ use borrow.Author.Tests.{eqb-true, eqb-false, ltb-true, ltb-false, not-true, ne_
 use Rattle.tokens.specs.Bool.{◌or◌, ◌and◌, ◌is◌}
 use Rattle.tokens.specs.Kind.{Ident, Async, As, Satisfies, Modifier, Const, This, Await, Yield, LParen, RParen, LBrack, LCurly, Comma, Colon, Question, Dot, Dot3, Arrow, In, Eq}
 use Rattle.tokens.specs.Token.{is_name, is_literal, flag_at}
-use Rattle.tokens.specs.declared.cause.Cause.{Cause}
 use Rattle.operators.specs.Precedence.{among, level, expression_level}
 use Rattle.lookahead.specs.declared.Tristate.{Tristate}
 use Rattle.lookahead.specs.ThreeWay.{three_way}

@@ -1,11 +1,12 @@
 -- Where the brackets that are open at a place are closed: how far a nonterminal that starts there can look.
 -- The definition is `closing`; its laws follow. Assumes nothing.
+use Rattle.std.specs.Prelude.{if◌then◌else◌}
 use Prim.Native.Nat.{ℕ, zero, suc, ◌+◌, ◌-◌, ◌≤◌, ◌<◌, min}
 use mathlib.Core.Path.{◌≡◌, refl, ◌∙◌}
 use mathlib.Core.Bool.{Bool, true, false}
 use native.Mathlib.Omega.{arith}
 use lib.ListN.{length}
-use Rattle.tokens.specs.Bool.{◌is◌, if◌then◌else◌}
+use Rattle.tokens.specs.Bool.{◌is◌}
 use Rattle.tokens.specs.Kind.{Async, LParen}
 use Rattle.grammar.specs.Sheet.{Sheet, token}
 use Rattle.laws.proofs.Balanced.{side_of, Side, Balanced, none, skip, nest}

@@ -3,6 +3,7 @@
 -- A reader with any policy applies at most (13 · tokens + 12) · (1 + heads given up) productions. The box's reader gives up no head twice: at most (13 · tokens + 12) · (1 + abandoned),
 -- and at most 69 · tokens · (1 + deepest nesting), which after check 7 is at most 4,485 · tokens; and it never sticks, whether the list is read or refused.
 -- The statements, at the end: `any_work`, `box_work`, of a counting reader that is done or fails; of a whole list `list_work`, `read_work`, `checked_work`. Assumes nothing.
+use Rattle.std.specs.Prelude.{if◌then◌else◌}
 use Prim.Native.Nat.{ℕ, zero, suc, ◌+◌, ◌-◌, ◌*◌, ◌≤◌, ◌<◌, min}
 use mathlib.Core.Path.{◌≡◌, refl, sym, ap, ◌∙◌}
 use mathlib.Core.Bool.{Bool, true, false}
@@ -13,10 +14,9 @@ use native.Mathlib.Nat.{mul-suc, suc-mul, mul-le-mul_right, mul-le-mul_left, zer
 use lib.Dec.{ltb}
 use lib.ListN.{length, get_or-eq_default}
 use borrow.Author.Tests.{eq-eqb, ne_eqb, lt-ltb, le-ltb, eqb-true}
-use Rattle.tokens.specs.Bool.{◌is◌, if◌then◌else◌}
+use Rattle.tokens.specs.Bool.{◌is◌}
 use Rattle.tokens.specs.Kind.{Async, LParen}
 use Rattle.tokens.specs.Check.{check_nesting}
-use Rattle.tokens.specs.declared.cause.Cause.{Cause}
 use Rattle.tokens.specs.declared.check.Checked.{Checked}
 use Rattle.rows.specs.Tree.{Forest}
 use Rattle.rows.specs.Record.{Record}
@@ -33,6 +33,7 @@ use Rattle.laws.proofs.Rel.{Rel, both_done, both_fail}
 use Rattle.laws.proofs.Abandoned.{Alike, together}
 use Rattle.laws.specs.Promises.{Log, logging, times, Once}
 use Rattle.laws.proofs.Balanced.{side_of}
+use Rattle.agreement.proofs.Bounds.{BoxWork}
 use Rattle.agreement.proofs.Scope.{scope, head_start, reach, closing_later, closing_inside, scope_outside}
 use Rattle.agreement.proofs.Count.{counts_beside, Same, counts_the_same}
 use Rattle.agreement.specs.Terms.{Counted, fresh, count, deepest, Ended, ended_done, ended_fail}
@@ -180,9 +181,9 @@ record Spent {N : Type 0} (sheet : Sheet) (m : Counted N) : Type 0 where
   spent : m.steps ≤ 13 * length sheet.kinds + 12 + due sheet m.dropped
 
 raw_work : {N : Type 0} (policy : Policy N) (sheet : Sheet) (job : Job) → Start job → (notes : N) (f : ℕ) → Spends (fresh notes) (λ end m. Spent sheet m) (Spent sheet) (count policy sheet f job)
-raw_work policy sheet (expression zero) whole_list notes f =
+raw_work policy sheet job whole_list notes f =
     so ((works policy sheet f).with (expression 0) (omega arith) (fresh notes)) (λ end m p. omega arith) (λ m p. omega (arith, closing_inside sheet 0 0 (omega arith)))
-raw_work policy sheet (binding_element zero) pattern notes f =
+raw_work policy sheet job pattern notes f =
     so ((works policy sheet f).with (binding_element 0) (omega arith) (fresh notes)) (λ end m p. omega arith) (λ m p. omega (arith, closing_inside sheet 0 0 (omega arith)))
 
 -- a reader with any policy, at any bound on its steps: so many productions, unless the bound was too small for it (`costs_stuck`)
@@ -197,12 +198,6 @@ any_work {N} policy sheet job start notes f = (so (raw_work policy sheet job sta
     multiplied m spent =
         let k = 13 * length sheet.kinds + 12 in
         record { by_heads = omega (arith, due_length sheet m.dropped, mul-add k 1 (length m.dropped), mul-suc k 0, mul-zero k) }
-
--- the box's reader: the heads that it gives up are the noted places, none of them twice
-pub record BoxWork (sheet : Sheet) (m : Counted (List ℕ)) : Type 0 where
-  pub once : Once m.notes m.dropped
-  pub by_abandoned : m.steps ≤ (13 * length sheet.kinds + 12) * (1 + noted_places m.notes)
-  pub by_nesting : m.steps ≤ 69 * (length sheet.kinds * (1 + deepest sheet))
 
 module _ (sheet : Sheet) where
   -- any list, read or refused: how it ended, and the productions that were applied for it

@@ -1,6 +1,7 @@
 -- How much work a reading is, with any policy: from a place to another at most 13 productions a token and one more, and where it fails at most 13 a token up to where the
 -- open brackets are closed; and for each head that is given up at most 13 a token of that head and 5 more.
 -- The statement, at the end: `work`. Assumes nothing.
+use Rattle.std.specs.Prelude.{if◌then◌else◌}
 use Prim.Native.Nat.{ℕ, zero, suc, ◌+◌, ◌-◌, ◌*◌, ◌≤◌, ◌<◌, min}
 use mathlib.Core.Path.{◌≡◌, refl, ◌∙◌}
 use mathlib.Core.Bool.{Bool, true, false, not}
@@ -9,7 +10,7 @@ use native.Mathlib.Omega.{arith}
 use lib.Dec.{ltb}
 use lib.ListN.{length}
 use borrow.Author.Tests.{eqb-true, eq-eqb}
-use Rattle.tokens.specs.Bool.{◌or◌, ◌and◌, ◌is◌, if◌then◌else◌}
+use Rattle.tokens.specs.Bool.{◌or◌, ◌and◌, ◌is◌}
 use Rattle.tokens.specs.Kind.{Async, Str, Number, LParen, LCurly, Colon, Dot3, Arrow, Eq}
 use Rattle.tokens.specs.Token.{is_name, is_word, is_literal}
 use Rattle.tokens.specs.declared.cause.Cause.{Cause}
@@ -37,6 +38,7 @@ use Rattle.laws.proofs.Rel.{operator_inside, async_inside}
 use Rattle.laws.proofs.Balanced.{side_of, Side, Balanced, none, skip, name_flat, word_flat, operator_flat, flat}
 use Rattle.laws.proofs.Readings.{Closes, side, two, unary_flat, update_flat, assignment_flat, around, around_list, whole_head, Shape, Shaped, step_shape}
 use Rattle.agreement.specs.Terms.{Counted, tick, counting, count}
+use Rattle.agreement.proofs.Bounds.{spare}
 use Rattle.agreement.proofs.Scope.{scope, head_start, reach, closing_flat, closing_here, closing_later, closing_balanced, scope_in}
 
 -- the most that a head costs that is given up at a place
@@ -47,37 +49,6 @@ price sheet at = 13 * (reach sheet at - at) + 5
 unfoldable pub due : Sheet → List ℕ → ℕ
 due sheet [] = 0
 due sheet (at ∷ places) = price sheet at + due sheet places
-
--- the productions that a nonterminal leaves over of 13 a token and one more
-abbrev pub spare : Job → ℕ
-spare (expression at) = 1
-spare (sequence first comma at so_far) = 0
-spare (assignment at) = 3
-spare (value at) = 4
-spare (assign first at left) = 1
-spare (conditional first at left) = 1
-spare (binary floor at) = 5
-spare (operators floor first at left) = 0
-spare (unary at) = 7
-spare (postfix at) = 8
-spare (left_hand_side at) = 9
-spare (links first at left) = 0
-spare (arguments first at so_far) = 1
-spare (primary at) = 11
-spare (elements first at kind so_far) = 1
-spare (properties first at kind so_far) = 1
-spare (property at) = 1
-spare (key at) = 1
-spare (spread at) = 1
-spare (binding at) = 2
-spare (binding_element at) = 1
-spare (binding_elements first at so_far) = 1
-spare (binding_properties first at so_far) = 1
-spare (binding_property at) = 1
-spare (binding_rest at) = 1
-spare (head at) = 4
-spare (parameters at so_far) = 1
-spare (body kind first at so_far) = 1
 
 -- how far a nonterminal that fails has looked at most
 abbrev pub far : Sheet → Job → ℕ

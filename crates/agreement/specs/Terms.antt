@@ -1,5 +1,6 @@
 -- The words of the agreement: when a list is read, and the one exception. And the reader that counts the productions that it applies.
-use Rattle.rows.specs.Base.{ℕ, ◌+◌, zero, suc, max, ◌≡◌, false, List, [], ◌∷◌, Forest, Record, length, depth_after, Cause}
+use Rattle.std.specs.Prelude.{◌+◌, ◌≡◌, ◌∷◌}
+use Rattle.rows.specs.Base.{ℕ, zero, suc, max, false, List, [], Forest, Record, length, depth_after, Cause}
 use Rattle.tokens.specs.Kind.{Ident, Async, LParen, Dot3}
 use Rattle.grammar.specs.{Sheet.Sheet, Sheet.token, Sheet.break_before, Sheet.stuck, Sheet.done, Sheet.fail, Reading.Whole, Reading.whole, Reading.box, Reading.cleared}
 use Rattle.grammar.specs.{Job.Asks, Job.Job, Arrow.Policy, Step.step, Step.read, Step.plenty}

@@ -1,12 +1,13 @@
 -- The rules of the assignment level, by the way that the box takes at a place.
 -- Assumes nothing.
+use Rattle.std.specs.Prelude.{if◌then◌else◌}
 use Prim.Native.Nat.{ℕ}
 use mathlib.Core.Path.{◌≡◌, refl}
 use mathlib.Core.Bool.{Bool, true, false, not}
 use mathlib.Core.List.{List}
 use native.Mathlib.Omega.{arith}
 use lib.ListN.{get_or, set}
-use Rattle.tokens.specs.Bool.{◌is◌, if◌then◌else◌}
+use Rattle.tokens.specs.Bool.{◌is◌}
 use Rattle.tokens.specs.declared.cause.Cause.{Cause}
 use Rattle.lookahead.specs.ThreeWay.{three_way}
 use Rattle.rows.specs.Tree.{Forest}

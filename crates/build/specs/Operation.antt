@@ -1,5 +1,6 @@
 -- What is made of operators once their operands are read; and keys of object literals and object bindings.
-use Rattle.rows.specs.Base.{ℕ, ◌+◌, ◌-◌, ◌*◌, ◌≤◌, ◌<◌, ◌≡◌, Bool, true, not, List, ◌++◌, length, get_or, ◌or◌, ◌and◌, ◌is◌, if◌then◌else◌, Cause, Tree, node, cons, one, Record, is_name, is_word}
+use Rattle.std.specs.Prelude.{◌+◌, ◌-◌, ◌*◌, ◌≤◌, ◌<◌, ◌≡◌, ◌++◌, if◌then◌else◌}
+use Rattle.rows.specs.Base.{ℕ, Bool, true, not, List, length, get_or, ◌or◌, ◌and◌, ◌is◌, Cause, Tree, node, cons, one, Record, is_name, is_word}
 use Rattle.tokens.specs.Kind.{Question2, Star2, Str, Number, Colon}
 use Rattle.rows.specs.Post.{Grown}
 use Rattle.grammar.specs.{Sheet.sheet_of, Sheet.done, Sheet.fail, Job.left_hand_side, Job.postfix, Job.unary, Binary.operation_kind, Binary.operation_records}

@@ -1,6 +1,7 @@
 -- What the contracts of the reader say: the room that it asks, what a part of a reading comes to, and what it leaves in the lent buffers.
 -- ks and fs are the kinds and flags; r, s and m the words of the rows, of the records, and the notes.
-use Rattle.rows.specs.Base.{ℕ, ◌+◌, ◌-◌, ◌*◌, ◌^◌, ◌≤◌, ◌<◌, ◌≡◌, List, length, get_or, Cause, Tree, Forest, one, count, Record}
+use Rattle.std.specs.Prelude.{◌+◌, ◌-◌, ◌*◌, ◌^◌, ◌≤◌, ◌<◌, ◌≡◌}
+use Rattle.rows.specs.Base.{ℕ, List, length, get_or, Cause, Tree, Forest, one, count, Record}
 use Rattle.rows.specs.Post.{Pushed, PushedRecord, Grown, Kept, GrownRecords, KeptRecords}
 use Rattle.grammar.specs.{Sheet.sheet_of, Sheet.Out, Sheet.done, Sheet.fail, Job.Job, Job.assignment, Reading.box}
 use Rattle.laws.specs.Settles.{Settles}

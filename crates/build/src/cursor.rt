@@ -5,7 +5,7 @@ ghost use Rattle.build.specs.Post.{cursor, Leafed, LeafRoom, Topped, TopRoom, Sa
 use tokens::cause::Cause;
 
 // The place of the next token, and how many rows and records are used.
-#[derive(Drop)]
+#[derive(Clone, Copy)]
 pub struct Cursor {
     pub at: usize,
     pub rows: usize,
@@ -13,14 +13,14 @@ pub struct Cursor {
 }
 
 // What comes of reading a part: it is read up to a cursor, or refused.
-#[derive(Drop)]
+#[derive(Clone, Copy)]
 pub enum Step {
     Done(Cursor),
     Fail(Cause),
 }
 
 // What comes of reading a list: it is read up to a cursor, with so many kids, or refused.
-#[derive(Drop)]
+#[derive(Clone, Copy)]
 pub enum Listed {
     Done(Cursor, usize),
     Fail(Cause),

@@ -1,6 +1,7 @@
 -- Conversion turns potential into records: what it records and what could still be recorded of the converted tree is no more
 -- than what could be recorded of the tree, and of a comma that is handed down to the last kid.
 -- Assumes nothing.
+use Rattle.std.specs.Prelude.{if◌then◌else◌}
 use Prim.Native.Nat.{ℕ, ◌+◌, ◌≤◌}
 use mathlib.Core.Path.{◌≡◌, refl, sym, ap}
 use mathlib.Core.Bool.{Bool, true, false, not}
@@ -9,7 +10,7 @@ use native.Mathlib.Omega.{arith}
 use lib.Dec.{eqb}
 use lib.ListN.{length, length-append}
 use borrow.Author.Tests.{eqb-true}
-use Rattle.tokens.specs.Bool.{if◌then◌else◌, ◌and◌, ◌or◌}
+use Rattle.tokens.specs.Bool.{◌and◌, ◌or◌}
 use Rattle.tokens.specs.declared.cause.Cause.{Cause}
 use Rattle.rows.specs.Row as row
 use Rattle.rows.specs.Tree.{Tree, Forest, node, nil, cons, count, first_of, size, sizes}

@@ -1,7 +1,8 @@
 -- Conversion (RULES C1 to C11): what was read as an expression becomes an assignment target, or is refused.
 -- Each row is looked at in a role; the role says what the row becomes, and the roles of its kids. A row that is no expression, one
 -- already a target included, is 9; so is a row whose kids are not as RULES R8 has them, of which a well-formed tree has none.
-use Rattle.rows.specs.Base.{ℕ, ◌+◌, Bool, not, List, [], ◌∷◌, ◌++◌, if◌then◌else◌, ◌and◌, ◌or◌, ◌is◌, between, Cause, Tree, Forest, node, nil, cons, count, kind_of, first_of, Record, rest_argument, rest_comma, compound_default, eqb}
+use Rattle.std.specs.Prelude.{◌+◌, ◌∷◌, ◌++◌, if◌then◌else◌}
+use Rattle.rows.specs.Base.{ℕ, Bool, not, List, [], ◌and◌, ◌or◌, ◌is◌, between, Cause, Tree, Forest, node, nil, cons, count, kind_of, first_of, Record, rest_argument, rest_comma, compound_default, eqb}
 use Rattle.tokens.specs.declared.cause.Cause.TheVariants.{Target as NoTarget, Spread as SpreadNotLast}
 use Rattle.rows.specs.Row as row
 

@@ -1,5 +1,6 @@
 -- Conversion as its own entry (RULES X3): for any words, any row and any record buffer, the answer and every word of both buffers after it.
-use Rattle.rows.specs.Base.{ℕ, ◌+◌, ◌-◌, ◌*◌, ◌≤◌, ◌<◌, ◌≡◌, List, ◌++◌, length, take, drop, replicate, Cause, Answer, Tree, size, flat, record_words}
+use Rattle.std.specs.Prelude.{◌+◌, ◌-◌, ◌*◌, ◌≤◌, ◌<◌, ◌≡◌, ◌++◌}
+use Rattle.rows.specs.Base.{ℕ, List, length, take, drop, replicate, Cause, Answer, Tree, size, flat, record_words}
 use Rattle.tokens.specs.declared.cause.Cause.TheVariants.{Length, RecordRoom, Tree as NoTree, Outside}
 use Rattle.tokens.specs.declared.cause.Answer.TheVariants.{Read, Refused}
 use Rattle.rows.specs.Part.{WellFormed, subtree}

@@ -1,5 +1,6 @@
 -- What is proved of the definitions alone, and what is computed.
-use Rattle.rows.specs.Base.{ℕ, ◌≤◌, ◌+◌, ◌≡◌, List, [], ◌∷◌, ◌is◌, is_name, is_word, is_literal, Sheet, kind_at, flag_at, Forest, Tree, length, ◌↔◌, Record, Bool, false}
+use Rattle.std.specs.Prelude.{◌≤◌, ◌+◌, ◌≡◌, ◌∷◌, ◌↔◌}
+use Rattle.rows.specs.Base.{ℕ, List, [], ◌is◌, is_name, is_word, is_literal, Sheet, kind_at, flag_at, Forest, Tree, length, Record, Bool, false}
 use Rattle.tokens.specs.Kind.{Question2, Star2, Ident, Async, Modifier, LParen, Dot3}
 use Rattle.operators.specs.Precedence.{expression_level}
 use Rattle.ecma262.specs.Derives.{one_of, identifiers, identifier_names, literals, literal_property_names, update_operators, unary_operators, assignment_operators, TierExpression, LeftToRight, Derives, Nonterminal, Derived, Expression, BindingElement}

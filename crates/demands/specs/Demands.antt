@@ -1,7 +1,8 @@
 -- The three demands, of the functions of the archive that firmware calls. Each statement is about any output x that the contract of a function allows for an input i: `ByRead i x` is what
 -- vuolmaset_read promises, `ByPattern` and `ByConvert` likewise. exact/specs/Terms.antt has the words, to be read beside this file. Nothing is asked of an input but what a
 -- statement names: `Passes i`, it passes the checks 1 to 7; `NoEarly`, nowhere stand Async, `(` with no line break before it, `...` and kind 1. Assumes nothing.
-use Rattle.rows.specs.Base.{ℕ, ◌*◌, ◌≤◌, ◌≡◌, Bool, ◌↔◌, List, length, Tree, Forest, size, Record}
+use Rattle.std.specs.Prelude.{◌*◌, ◌≤◌, ◌≡◌, ◌↔◌}
+use Rattle.rows.specs.Base.{ℕ, Bool, List, length, Tree, Forest, size, Record}
 use Rattle.operators.specs.Precedence.{level, expression_level}
 use Rattle.lookahead.specs.Entry.{three_way_entry}
 use Rattle.rows.specs.Handed.{Inside, chosen}

@@ -8,7 +8,8 @@
 -- not tell a token's text, and the code is not strict.
 -- Nothing here converts, looks ahead, notes or counts steps, and no class or table of the reader is used: every terminal of every production is listed here.
 -- What is shared with the reader is the numbers of tokens (tokens/specs/Kind.antt) and rows (rows/specs/Row.antt), what a tree is, and the two lists of a Sheet.
-use Rattle.rows.specs.Base.{ℕ, ◌+◌, ◌≡◌, Bool, true, false, List, [], ◌∷◌, ◌++◌, get_or, ◌is◌, ◌or◌, if◌then◌else◌, Tree, Forest, node, nil, cons, one, join, Sheet}
+use Rattle.std.specs.Prelude.{◌+◌, ◌≡◌, ◌∷◌, ◌++◌, if◌then◌else◌}
+use Rattle.rows.specs.Base.{ℕ, Bool, true, false, List, [], get_or, ◌is◌, ◌or◌, Tree, Forest, node, nil, cons, one, join, Sheet}
 use Rattle.tokens.specs.Kind.{Ident, Async, As, Satisfies, Modifier, Const, This, Null, True, False, Str, Number, RegExp, Await, Yield, Extends, Reserved, LParen, RParen, LBrack, RBrack, LCurly, RCurly, Comma, Colon, Question, Dot, Dot3, Arrow, Bang, Tilde, Typeof, Void, Delete, New, Plus2, Minus2, Question2, Pipe2, Amp2, Pipe, Caret, Amp, Eq2, Eq3, Neq, Neq2, LAngle, RAngle, LtEq, GtEq, Instanceof, In, ShiftLeft, ShiftRight, ShiftRight3, Plus, Minus, Star, Slash, Percent, Star2, Eq, PlusEq, MinusEq, StarEq, SlashEq, PercentEq, ShiftLeftEq, ShiftRightEq, ShiftRight3Eq, PipeEq, CaretEq, AmpEq, Amp2Eq, Pipe2Eq, Question2Eq, Star2Eq}
 use Rattle.rows.specs.Row as Row
 

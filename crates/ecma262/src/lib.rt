@@ -1,1 +1,2 @@
 // The grammar as ECMA-262 prints it, in specs/. No code.
+#![tactic(auto)]

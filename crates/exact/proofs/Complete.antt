@@ -1,6 +1,7 @@
 -- COMPLETE: what ECMA-262 derives the plain reader reads, with the same tree and no record, where nothing follows that would belong to it.
 -- What is shown of each nonterminal is `Done`; the statements stand at the end.
 -- Assumes nothing.
+use Rattle.std.specs.Prelude.{if◌then◌else◌}
 use Prim.Native.Nat.{ℕ, ◌+◌, ◌≤◌}
 use mathlib.Core.Path.{◌≡◌, refl, sym, ap, ◌∙◌, subst}
 use mathlib.Core.Bool.{Bool, true, false}
@@ -9,7 +10,7 @@ use native.Mathlib.Omega.{arith}
 use lib.Dec.{leb}
 use lib.ListN.{length, get_or-eq_default}
 use borrow.Author.Tests.{eqb-true, ne_eqb, eq-eqb, lt-leb, leb-true}
-use Rattle.tokens.specs.Bool.{◌is◌, ◌or◌, if◌then◌else◌}
+use Rattle.tokens.specs.Bool.{◌is◌, ◌or◌}
 use Rattle.tokens.specs.Kind.{This, RParen, LBrack, RBrack, LCurly, Comma, Dot3, Eq}
 use Rattle.tokens.specs.Token.{is_name, is_literal}
 use Rattle.rows.specs.Tree.{Tree, Forest, node, one, join, kind_of, kids_of}

@@ -1,5 +1,6 @@
 -- What conversion makes of a derived expression, with no record, is derived as a target: the refined grammar of 13.15.5 and 8.6.4 holds of all that converts so.
 -- Assumes nothing.
+use Rattle.std.specs.Prelude.{if◌then◌else◌}
 use Prim.Native.Nat.{ℕ, zero, suc, ◌+◌}
 use mathlib.Core.Path.{◌≡◌, refl, sym, ap, ◌∙◌, subst}
 use mathlib.Core.Bool.{Bool, true, false, not}
@@ -7,7 +8,7 @@ use mathlib.Core.List.{List, [], ◌∷◌, ◌++◌, append_assoc, append-nil}
 use native.Mathlib.Omega.{arith}
 use lib.Dec.{eqb, leb}
 use borrow.Author.Tests.{ne_eqb}
-use Rattle.tokens.specs.Bool.{◌is◌, ◌or◌, ◌and◌, if◌then◌else◌}
+use Rattle.tokens.specs.Bool.{◌is◌, ◌or◌, ◌and◌}
 use Rattle.tokens.specs.Kind.{LParen, RParen, LBrack, RBrack, LCurly, RCurly, Comma, Colon, Dot, Dot3, Eq}
 use Rattle.tokens.specs.declared.cause.Cause.{Cause}
 use Rattle.rows.specs.Tree.{Tree, Forest, node, nil, cons, one, join, count, kind_of, first_of}

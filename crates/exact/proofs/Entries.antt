@@ -1,5 +1,6 @@
 -- From the contracts of the entries to what is seen: the words of one forest and of one list of records; the checks 1 to 7; demand 2 in the standard's own terms; one law for
 -- vuolmaset_read and vuolmaset_pattern at once, by the job, and those of the other entries; the six ways of vuolmaset_convert; and the work for a list past the checks. Assumes nothing.
+use Rattle.std.specs.Prelude.{if◌then◌else◌}
 use Prim.Native.Nat.{ℕ, ◌*◌, zero, suc, ◌+◌, ◌≤◌, ◌-◌}
 use mathlib.Core.Path.{◌≡◌, refl, sym, ap, ◌∙◌}
 use mathlib.Core.List.{List, [], ◌∷◌, ◌++◌, append-nil}
@@ -14,7 +15,7 @@ use Rattle.rows.specs.Tree.{Forest, sizes, flats, Tree, one, size, flat, node, n
 use Rattle.rows.specs.Record.{Record, says, record_words}
 use Rattle.rows.proofs.Flat.{length_flats, flats_injective, length_flat, some_row, well_formed_once}
 use Rattle.grammar.specs.Lent.{padded, check_row_room, check_record_room, checks, Given, read_entry, pattern_entry, answered, checked, entry, Answers}
-use Rattle.tokens.specs.Bool.{◌or◌, ◌is◌, if◌then◌else◌, ◌and◌}
+use Rattle.tokens.specs.Bool.{◌or◌, ◌is◌, ◌and◌}
 use Rattle.tokens.specs.Cause.{number, place}
 use Rattle.tokens.specs.Check.{◌and_then◌, check_length, check_flag_length, first_such, check_flags, check_kinds, depth_after, nesting, check_nesting}
 use Rattle.tokens.specs.declared.cause.Cause.{Cause}

@@ -1,6 +1,7 @@
 -- What the plain reader reads of each nonterminal of ECMA-262's grammar, from what it reads of the nonterminal's parts: one record for what is shown of
 -- a nonterminal, one lemma for each of its productions. Targets have a file of their own.
 -- Assumes nothing.
+use Rattle.std.specs.Prelude.{if◌then◌else◌}
 use mathlib.Core.List.{[]}
 use Prim.Native.Nat.{ℕ, suc, ◌+◌, ◌<◌, ◌≤◌}
 use mathlib.Core.Path.{◌≡◌, refl, sym, ap, ◌∙◌, subst}
@@ -10,7 +11,7 @@ use lib.Dec.{ltb, leb}
 use lib.ListN.{length}
 use native.Mathlib.Decide.{ℕ_discrete}
 use borrow.Author.Tests.{ne_eqb, lt-ltb, le-ltb, leb-true, leb-false, le-leb, lt-leb}
-use Rattle.tokens.specs.Bool.{◌or◌, ◌and◌, ◌is◌, if◌then◌else◌}
+use Rattle.tokens.specs.Bool.{◌or◌, ◌and◌, ◌is◌}
 use Rattle.tokens.specs.Kind.{Async, LParen, Colon, Dot3, Eq, This, RParen, LBrack, RBrack, LCurly, RCurly, Comma, Question, Dot, Arrow, Question2, Star2}
 use Rattle.tokens.specs.Token.{is_name, is_word, is_literal}
 use Rattle.tokens.specs.declared.cause.Cause.{Cause}

@@ -1,12 +1,13 @@
 -- What an expression is derived as: one tree, which is no Spread, and is an Identifier only over one name; how lists grow; and what a done reading means where no record is said.
 -- Assumes nothing.
+use Rattle.std.specs.Prelude.{if◌then◌else◌}
 use Prim.Native.Nat.{ℕ, ◌+◌}
 use mathlib.Core.Path.{◌≡◌, refl, sym}
 use mathlib.Core.Bool.{Bool, true, false}
 use native.Mathlib.Omega.{arith}
 use lib.Dec.{leb}
 use mathlib.Core.List.{List, [], ◌∷◌, ◌++◌}
-use Rattle.tokens.specs.Bool.{◌is◌, if◌then◌else◌}
+use Rattle.tokens.specs.Bool.{◌is◌}
 use Rattle.tokens.specs.Kind.{Comma, LBrack, LCurly}
 use Rattle.rows.specs.Tree.{Tree, Forest, node, nil, cons, one, join, kind_of}
 use Rattle.rows.specs.Row as Row

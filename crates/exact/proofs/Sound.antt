@@ -1,6 +1,7 @@
 -- SOUND: every reading that is done with no record, under any policy, is derived.
 -- What a nonterminal of the reader means is `Meant`; the statements stand at the end.
 -- Assumes nothing.
+use Rattle.std.specs.Prelude.{if◌then◌else◌}
 use Prim.Native.Nat.{ℕ, zero, suc, ◌+◌, ◌≤◌, ◌<◌}
 use mathlib.Core.Path.{◌≡◌, refl, sym, ap, ◌∙◌, subst}
 use mathlib.Core.Bool.{Bool, true, false, not}
@@ -10,7 +11,7 @@ use native.Mathlib.Decide.{ℕ_discrete}
 use lib.Dec.{ltb, leb}
 use borrow.Author.Tests.{eqb-true, eqb-false, ne_eqb, eq-eqb, ltb-true, ltb-false, leb-true, le-leb}
 use lib.ListN.{length}
-use Rattle.tokens.specs.Bool.{◌is◌, ◌or◌, ◌and◌, if◌then◌else◌}
+use Rattle.tokens.specs.Bool.{◌is◌, ◌or◌, ◌and◌}
 use Rattle.tokens.specs.Kind.{Async, LParen, RParen, LBrack, RBrack, LCurly, RCurly, Comma, Colon, Question, Dot3, Arrow, Question2, Star2, Eq, PlusEq, Star2Eq}
 use Rattle.tokens.specs.Token.{is_name, is_word, is_literal}
 use Rattle.operators.specs.Precedence.{level, expression_level}

@@ -1,13 +1,14 @@
 -- THE TARGETS OF A READING ARE THE STANDARD'S: in the tree of whatever ECMA-262 has (`Derived`), every row of a target's kind is itself such a target over its own tokens: names, parentheses,
 -- members and indexes simple targets (8.6.4), arrays and objects AssignmentPatterns (13.15.5), with no CoverInitializedName left. Nothing of this is said of trees that were not read.
 -- The statement: `target_rows`. Assumes nothing.
+use Rattle.std.specs.Prelude.{if◌then◌else◌}
 use Prim.Native.Nat.{ℕ}
 use mathlib.Core.Path.{◌≡◌, refl}
 use mathlib.Core.Bool.{Bool, true, false}
 use mathlib.Core.List.{List}
 use native.Mathlib.Omega.{arith}
 use lib.Dec.{leb}
-use Rattle.tokens.specs.Bool.{◌is◌, if◌then◌else◌}
+use Rattle.tokens.specs.Bool.{◌is◌}
 use Rattle.rows.specs.Tree.{Tree, Forest, node, nil, cons, one, join, kind_of, first_of, end_of}
 use Rattle.rows.specs.Row as Row
 use Rattle.grammar.specs.Sheet.{Sheet}

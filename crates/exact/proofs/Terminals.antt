@@ -1,6 +1,7 @@
 -- The standard's terminals and the reader's classes of tokens are the same: names, words, literals, keys and operators, and the levels of the table of operators.
 -- The statements: `names`, `words`, `literal_tokens`, `keys`, `unary`, `updates`, `compounds`, each for any number; `line` and `line_of`: the operators of each
 -- line of 13.7 to 13.13 are just the tokens of its level, and each level has its line; `power_only`, `coalesce_only` the same of `**` and `??`. Assumes nothing.
+use Rattle.std.specs.Prelude.{if◌then◌else◌}
 use Prim.Native.Nat.{ℕ, zero, suc, ◌+◌, ◌≤◌, ◌<◌}
 use mathlib.Core.Path.{◌≡◌, refl, sym, ◌∙◌}
 use mathlib.Core.Bool.{Bool, true, false}
@@ -10,7 +11,7 @@ use native.Mathlib.Decide.{ℕ_discrete}
 use lib.ListN.{length, get_or}
 use lib.Dec.{leb}
 use borrow.Author.Tests.{eqb-true, ne_eqb, leb-true, lt-leb, eq-eqb, le-leb}
-use Rattle.tokens.specs.Bool.{◌is◌, ◌or◌, if◌then◌else◌, between, ◌and◌}
+use Rattle.tokens.specs.Bool.{◌is◌, ◌or◌, between, ◌and◌}
 use Rattle.tokens.specs.Kind.{As, Satisfies, Question2, Pipe2, Amp2, Star2}
 use Rattle.operators.specs.Precedence.{tiers, among, level_from, level, expression_level}
 use Rattle.rows.specs.Row as Row

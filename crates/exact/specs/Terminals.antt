@@ -1,5 +1,6 @@
 -- The reader's classes of tokens and levels of operators, to be held to the standard's lists.
-use Rattle.rows.specs.Base.{ℕ, suc, ◌≤◌, leb, if◌then◌else◌, ◌is◌, ◌or◌, between, ◌≡◌, Bool, List, is_word}
+use Rattle.std.specs.Prelude.{◌≤◌, if◌then◌else◌, ◌≡◌}
+use Rattle.rows.specs.Base.{ℕ, suc, leb, ◌is◌, ◌or◌, between, Bool, List, is_word}
 use Rattle.tokens.specs.Kind.{Str, Number, Bang, Delete, Plus2, Minus2, Plus, Minus, PlusEq, Star2Eq}
 use Rattle.operators.specs.Precedence.{expression_level}
 use Rattle.ecma262.specs.Derives.{one_of, TierExpression, LeftToRight}

@@ -1,5 +1,6 @@
 -- The words in which the demands are said: what firmware hands to an entry of the archive, what it sees afterwards, and what the numbers and words that it sees say.
-use Rattle.rows.specs.Base.{ℕ, ◌+◌, ◌-◌, ◌*◌, ◌≤◌, ◌<◌, ◌≡◌, Bool, true, List, ◌++◌, length, take, drop, replicate, number, place, Cause, Checked, ◌and_then◌, check_length, check_flag_length, check_flags, check_kinds, Tree, Forest, size, sizes, flat, flats, node, cons, kind_of, first_of, end_of, Record, record_words, ◌is◌, ◌or◌}
+use Rattle.std.specs.Prelude.{◌+◌, ◌-◌, ◌*◌, ◌≤◌, ◌<◌, ◌≡◌, ◌++◌}
+use Rattle.rows.specs.Base.{ℕ, Bool, true, List, length, take, drop, replicate, number, place, Cause, Checked, ◌and_then◌, check_length, check_flag_length, check_flags, check_kinds, Tree, Forest, size, sizes, flat, flats, node, cons, kind_of, first_of, end_of, Record, record_words, ◌is◌, ◌or◌}
 use Rattle.lookahead.specs.{ThreeWay.three_way, Entry.check_place}
 use Rattle.rows.specs.{Part.WellFormed, Handed.Inside, Handed.chosen}
 use Rattle.conversion.specs.{Conversion.turned, Conversion.refused as not_turned, Conversion.convert, Entry.Sized}

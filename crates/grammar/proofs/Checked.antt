@@ -1,5 +1,6 @@
 -- What is known where a list passes the checks: it is short, and there is room for a row and a record for each token.
 -- Assumes nothing.
+use Rattle.std.specs.Prelude.{if◌then◌else◌}
 use Prim.Native.Nat.{ℕ, ◌*◌, ◌≤◌}
 use mathlib.Core.Path.{◌≡◌, refl}
 use mathlib.Core.Bool.{Bool, true, false}
@@ -8,7 +9,7 @@ use native.Mathlib.Omega.{arith}
 use lib.Dec.{ltb}
 use lib.ListN.{length}
 use borrow.Author.Tests.{ltb-false}
-use Rattle.tokens.specs.Bool.{◌or◌, ◌is◌, if◌then◌else◌}
+use Rattle.tokens.specs.Bool.{◌or◌, ◌is◌}
 use Rattle.tokens.specs.Check.{◌and_then◌, check_length, check_flag_length}
 use Rattle.tokens.specs.declared.cause.Cause.{Cause}
 use Rattle.tokens.specs.declared.check.Checked.{Checked}

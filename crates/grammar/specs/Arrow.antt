@@ -1,6 +1,7 @@
 -- 15.3 Arrow functions and 15.9 async arrow functions, and where a head is tried.
+use Rattle.std.specs.Prelude.{◌+◌, ◌∷◌, if◌then◌else◌}
 use Rattle.tokens.specs.Kind.{Async, LParen, RParen, LCurly, Dot3, Arrow}
-use Rattle.grammar.specs.Sheet.{ℕ, ◌+◌, not, [], ◌∷◌, ◌or◌, ◌is◌, if◌then◌else◌, Cause, Forest, nil, join, break_before_arrow, Sheet, token, break_before, Reading, Part, ◌>>=◌, ◌>>◌, try, yield, make, want, comma_or, unless_refuse, say}
+use Rattle.grammar.specs.Sheet.{ℕ, not, [], ◌or◌, ◌is◌, Cause, Forest, nil, join, break_before_arrow, Sheet, token, break_before, Reading, Part, ◌>>=◌, ◌>>◌, try, yield, make, want, comma_or, unless_refuse, say}
 use Rattle.grammar.specs.Job.{assignment, value, binding_element, binding_rest, head, parameters, body, Asks}
 use Rattle.rows.specs.Row as Row
 

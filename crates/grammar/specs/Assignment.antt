@@ -1,7 +1,8 @@
 -- 13.14 Conditional and 13.15 assignment: the assignment level, past an arrow function's head.
+use Rattle.std.specs.Prelude.{◌+◌, if◌then◌else◌}
 use Rattle.tokens.specs.Kind.{Async, Colon, Question, Arrow, Eq, Star2Eq}
 use Rattle.conversion.specs.Conversion.{any, simple}
-use Rattle.grammar.specs.Sheet.{ℕ, ◌+◌, Bool, not, ◌and◌, ◌is◌, if◌then◌else◌, between, is_name, Tree, cons, one, join, kind_of, Sheet, token, break_before, Reading, Part, tree, leaf, ◌>>=◌, ◌>>◌, yield, make, want}
+use Rattle.grammar.specs.Sheet.{ℕ, Bool, not, ◌and◌, ◌is◌, between, is_name, Tree, cons, one, join, kind_of, Sheet, token, break_before, Reading, Part, tree, leaf, ◌>>=◌, ◌>>◌, yield, make, want}
 use Rattle.grammar.specs.{Job.assignment, Job.assign, Job.conditional, Job.binary, Job.body, Job.Asks, Update.converted}
 use Rattle.rows.specs.Row as Row
 

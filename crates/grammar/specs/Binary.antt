@@ -1,8 +1,9 @@
 -- 13.6 to 13.13 Binary operators, by their levels: equal levels group left, `**` right.
-use Rattle.rows.specs.Base.{◌-◌, ltb}
+use Rattle.std.specs.Prelude.{◌-◌, ◌+◌, ◌∷◌, ◌++◌, if◌then◌else◌}
+use Rattle.rows.specs.Base.{ltb}
 use Rattle.tokens.specs.Kind.{Question2, Amp2, Star2}
 use Rattle.operators.specs.Precedence.{expression_level}
-use Rattle.grammar.specs.Sheet.{ℕ, ◌+◌, Bool, not, List, [], ◌∷◌, ◌++◌, ◌and◌, ◌or◌, ◌is◌, if◌then◌else◌, between, Tree, node, one, cons, kind_of, mark_of, Record, mixed_coalesce, unary_power, Sheet, token, Reading, tree, ◌>>=◌, ◌>>◌, yield, say}
+use Rattle.grammar.specs.Sheet.{ℕ, Bool, not, List, [], ◌and◌, ◌or◌, ◌is◌, between, Tree, node, one, cons, kind_of, mark_of, Record, mixed_coalesce, unary_power, Sheet, token, Reading, tree, ◌>>=◌, ◌>>◌, yield, say}
 use Rattle.grammar.specs.Job.{binary, operators, unary, Asks}
 use Rattle.rows.specs.Row as Row
 

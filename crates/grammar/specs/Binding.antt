@@ -1,6 +1,7 @@
 -- 14.3.3 Destructuring binding patterns.
+use Rattle.std.specs.Prelude.{◌+◌, ◌∷◌, if◌then◌else◌}
 use Rattle.tokens.specs.Kind.{LBrack, RBrack, LCurly, RCurly, Comma, Colon, Dot3, Eq}
-use Rattle.grammar.specs.Sheet.{ℕ, ◌+◌, not, [], ◌∷◌, ◌and◌, ◌is◌, if◌then◌else◌, is_name, Cause, Tree, Forest, nil, cons, one, join, kind_of, mark_of, kids_of, rest_initializer, Sheet, token, Reading, tree, first_tree, leaf, ◌>>=◌, ◌>>◌, yield, make, unexpected, want, comma_or, unless_refuse, say}
+use Rattle.grammar.specs.Sheet.{ℕ, not, [], ◌and◌, ◌is◌, is_name, Cause, Tree, Forest, nil, cons, one, join, kind_of, mark_of, kids_of, rest_initializer, Sheet, token, Reading, tree, first_tree, leaf, ◌>>=◌, ◌>>◌, yield, make, unexpected, want, comma_or, unless_refuse, say}
 use Rattle.grammar.specs.Job.{assignment, key, binding, binding_element, binding_elements, binding_properties, binding_property, binding_rest, Asks}
 use Rattle.rows.specs.Row as Row
 

@@ -1,6 +1,7 @@
 -- 13.16 Comma operator.
+use Rattle.std.specs.Prelude.{◌+◌, if◌then◌else◌}
 use Rattle.tokens.specs.Kind.{Comma}
-use Rattle.grammar.specs.Sheet.{ℕ, ◌+◌, ◌is◌, if◌then◌else◌, Forest, join, Sheet, token, Reading, ◌>>=◌, yield, make}
+use Rattle.grammar.specs.Sheet.{ℕ, ◌is◌, Forest, join, Sheet, token, Reading, ◌>>=◌, yield, make}
 use Rattle.grammar.specs.Job.{assignment, sequence, Asks}
 use Rattle.rows.specs.Row as Row
 

@@ -1,6 +1,7 @@
 -- 13.3 Left-hand-side expressions: members, indexes and calls.
+use Rattle.std.specs.Prelude.{◌+◌, if◌then◌else◌}
 use Rattle.tokens.specs.Kind.{LParen, RParen, LBrack, RBrack, Dot, Dot3}
-use Rattle.grammar.specs.Sheet.{ℕ, ◌+◌, ◌is◌, if◌then◌else◌, is_word, Cause, Tree, Forest, node, cons, one, join, Sheet, token, Reading, tree, ◌>>=◌, ◌>>◌, yield, make, want, comma_or, unless_refuse}
+use Rattle.grammar.specs.Sheet.{ℕ, ◌is◌, is_word, Cause, Tree, Forest, node, cons, one, join, Sheet, token, Reading, tree, ◌>>=◌, ◌>>◌, yield, make, want, comma_or, unless_refuse}
 use Rattle.grammar.specs.Job.{expression, assignment, spread, primary, links, arguments, Asks}
 use Rattle.rows.specs.Row as Row
 

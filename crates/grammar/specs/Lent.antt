@@ -1,6 +1,7 @@
 -- What the two entries answer and leave in the lent buffers, for any input: the definition's answer, the checks of room in their place among
 -- the others, and every word of both buffers. `rows` and `records` are the words that the buffers hold before.
-use Rattle.rows.specs.Base.{ℕ, ◌-◌, ◌*◌, ◌≤◌, List, ◌++◌, ltb, length, replicate, if◌then◌else◌, ◌and_then◌, check_length, check_flag_length, check_flags, check_kinds, check_nesting, Cause, Answer, Checked, flats, record_words, ◌≡◌}
+use Rattle.std.specs.Prelude.{◌-◌, ◌*◌, ◌≤◌, ◌++◌, if◌then◌else◌, ◌≡◌}
+use Rattle.rows.specs.Base.{ℕ, List, ltb, length, replicate, ◌and_then◌, check_length, check_flag_length, check_flags, check_kinds, check_nesting, Cause, Answer, Checked, flats, record_words}
 use Rattle.grammar.specs.{Sheet.Sheet, Job.Job, Job.expression, Job.binding_element}
 use Rattle.grammar.specs.Reading.{Whole, whole, refused, reading, box, cleared, answer_of}
 

@@ -1,6 +1,7 @@
 -- 13.2 Primary expressions: names, this, literals, parentheses, array and object literals.
+use Rattle.std.specs.Prelude.{◌+◌, if◌then◌else◌}
 use Rattle.tokens.specs.Kind.{This, Str, Number, LParen, RParen, LBrack, RBrack, LCurly, RCurly, Comma, Colon, Dot3, Eq}
-use Rattle.grammar.specs.Sheet.{ℕ, ◌+◌, not, ◌and◌, ◌or◌, ◌is◌, if◌then◌else◌, is_name, is_word, is_literal, Forest, nil, cons, one, join, Sheet, token, Reading, leaf, ◌>>=◌, ◌>>◌, yield, make, unexpected, want, comma_or}
+use Rattle.grammar.specs.Sheet.{ℕ, not, ◌and◌, ◌or◌, ◌is◌, is_name, is_word, is_literal, Forest, nil, cons, one, join, Sheet, token, Reading, leaf, ◌>>=◌, ◌>>◌, yield, make, unexpected, want, comma_or}
 use Rattle.grammar.specs.Job.{expression, assignment, elements, properties, property, key, spread, Asks}
 use Rattle.rows.specs.Row as Row
 

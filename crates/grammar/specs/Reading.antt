@@ -1,8 +1,9 @@
 -- A whole reading: one Expression up to the end of the list, and what is answered. The pattern entry's: one binding with an optional initializer
 -- in the Expression's place. The checks before it, and what is left in lent memory after it, are in Lent.antt.
+use Rattle.std.specs.Prelude.{◌+◌, ◌∷◌, ◌++◌, if◌then◌else◌}
 use Rattle.rows.specs.Base.{false, length, get_or, set, replicate, Answer, sizes}
 use Rattle.lookahead.specs.{ThreeWay.three_way, declared.Tristate.Tristate}
-use Rattle.grammar.specs.Sheet.{ℕ, ◌+◌, Bool, not, List, [], ◌∷◌, ◌++◌, ◌is◌, if◌then◌else◌, Cause, Tree, Forest, node, nil, cons, Record, shorthand_initializer, Sheet, Out, done, fail, stuck}
+use Rattle.grammar.specs.Sheet.{ℕ, Bool, not, List, [], ◌is◌, Cause, Tree, Forest, node, nil, cons, Record, shorthand_initializer, Sheet, Out, done, fail, stuck}
 use Rattle.grammar.specs.{Job.Job, Job.expression, Job.binding_element, Arrow.Way, Arrow.pass, Arrow.attempt, Arrow.commit, Arrow.Policy, Step.read, Step.plenty}
 use Rattle.rows.specs.Row as Row
 

@@ -1,5 +1,6 @@
 -- The productions together: the only recursion of the whole grammar.
-use Rattle.rows.specs.Base.{ℕ, zero, suc, ◌+◌, ◌*◌, length}
+use Rattle.std.specs.Prelude.{◌+◌, ◌*◌}
+use Rattle.rows.specs.Base.{ℕ, zero, suc, length}
 use Rattle.grammar.specs.{Sheet.Sheet, Sheet.stuck, LeftHandSide.left_hand_side_of, LeftHandSide.links_of, LeftHandSide.arguments_of}
 use Rattle.grammar.specs.Job.{expression, sequence, assignment, value, assign, conditional, binary, operators, unary, postfix, left_hand_side, links, arguments, primary, elements, properties, property, key, spread, binding, binding_element, binding_elements, binding_properties, binding_property, binding_rest, head, parameters, body, Asks}
 use Rattle.grammar.specs.Primary.{primary_of, elements_of, properties_of, property_of, key_of, spread_of}

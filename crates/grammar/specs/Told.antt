@@ -1,5 +1,6 @@
 -- What the entries for other languages tell, in numbers.
-use Rattle.rows.specs.Base.{ℕ, ◌≡◌, List, length, number, place, Answer}
+use Rattle.std.specs.Prelude.{◌≡◌}
+use Rattle.rows.specs.Base.{ℕ, List, length, number, place, Answer}
 use Rattle.rows.specs.Handed.{Handed}
 use Rattle.lookahead.specs.{declared.ThreeWay.ThreeWay, declared.Tristate.Tristate}
 use Rattle.conversion.specs.Entry.{Answered}

@@ -1,7 +1,8 @@
 -- 13.4 Update expressions and 13.5 unary operators.
+use Rattle.std.specs.Prelude.{◌+◌, if◌then◌else◌}
 use Rattle.tokens.specs.Kind.{Bang, Delete, Plus, Minus, Plus2, Minus2}
 use Rattle.conversion.specs.Conversion.{Role, simple, Outcome, turned, refused, convert_as}
-use Rattle.grammar.specs.Sheet.{ℕ, ◌+◌, Bool, not, ◌and◌, ◌or◌, ◌is◌, if◌then◌else◌, between, Tree, one, Sheet, token, break_before, done, fail, Reading, tree, ◌>>=◌, yield, make}
+use Rattle.grammar.specs.Sheet.{ℕ, Bool, not, ◌and◌, ◌or◌, ◌is◌, between, Tree, one, Sheet, token, break_before, done, fail, Reading, tree, ◌>>=◌, yield, make}
 use Rattle.grammar.specs.Job.{unary, postfix, left_hand_side, Asks}
 use Rattle.rows.specs.Row as Row
 

@@ -1,5 +1,6 @@
 -- Where a head may open, the way that the box takes there, and what is left of a head that failed.
-use Rattle.rows.specs.Base.{ℕ, ◌≡◌, Bool, true, false, List, set, get_or, ◌or◌, ◌is◌, if◌then◌else◌}
+use Rattle.std.specs.Prelude.{◌≡◌, if◌then◌else◌}
+use Rattle.rows.specs.Base.{ℕ, Bool, true, false, List, set, get_or, ◌or◌, ◌is◌}
 use Rattle.tokens.specs.Kind.{Async, LParen, LCurly}
 use Rattle.grammar.specs.{Reading.box, Sheet.sheet_of}
 use Rattle.heads.specs.declared.Way.{Way}

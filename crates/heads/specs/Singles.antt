@@ -1,5 +1,6 @@
 -- Expressions of one token: a name, `this` or a literal from which nothing goes on.
-use Rattle.rows.specs.Base.{ℕ, ◌+◌, Bool, List, get_or, ◌or◌, ◌is◌, between, if◌then◌else◌, is_name, is_literal}
+use Rattle.std.specs.Prelude.{◌+◌, if◌then◌else◌}
+use Rattle.rows.specs.Base.{ℕ, Bool, List, get_or, ◌or◌, ◌is◌, between, is_name, is_literal}
 use Rattle.tokens.specs.Kind.{Async, This, Dot3, LParen, RParen, LBrack, RBrack, RCurly, Comma, Colon, Dot}
 use Rattle.grammar.specs.Update.{is_update_operator}
 use Rattle.rows.specs.Row as Row

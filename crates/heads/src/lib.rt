@@ -1,4 +1,6 @@
 // Heads of arrow functions (15.3, 15.9): where one may open, and what is known of one that was read.
+#![tactic(auto)]
+
 ghost use Rattle.std.specs.Prelude.{◌≡◌, ◌≤◌, ◌<◌, length};
 ghost use Rattle.grammar.specs.Assignment.{is_async_name};
 ghost use Rattle.grammar.specs.Sheet.{sheet_of};
@@ -11,7 +13,7 @@ use tokens::{classes, kind};
 pub mod singles;
 
 // What to do where the assignment level starts: pass a head, try one, or read one for good.
-#[derive(Drop)]
+#[derive(Clone, Copy)]
 pub enum Way {
     Pass,
     Attempt,
@@ -83,7 +85,7 @@ pub fn drop_head(notes: &mut [u8; 2048], at: usize, said: usize) -> usize
 
 // A head that was read: the kind of its arrow, where it begins, the row of its first parameter, and how many parameters it has.
 // Follows `ArrowFunctionHead`.
-#[derive(Drop)]
+#[derive(Clone, Copy)]
 pub struct Head {
     pub kind: u32,
     pub first: usize,

@@ -2,6 +2,7 @@
 -- notes; in its log no place stands twice, exactly the noted places stand in it, and so the number of abandoned heads is the number of noted places.
 -- The notes stay of length 2,048, each 0 or 1.
 -- The statements, at the end: `logs_the_same`, `refuses_the_same`, `notes_stay`. Assumes nothing.
+use Rattle.std.specs.Prelude.{if◌then◌else◌}
 use Prim.Native.Nat.{ℕ, zero, suc, ◌+◌, ◌≤◌, ◌<◌}
 use mathlib.Core.Path.{◌≡◌, refl, sym, ap, ◌∙◌}
 use mathlib.Core.Bool.{Bool, true, false, not}
@@ -11,7 +12,7 @@ use native.Mathlib.Decide.{ℕ_discrete}
 use lib.ListN.{length, get_or, set, replicate, length-set, length-replicate, get_or-eq_default}
 use lib.Seq.{get_or-set_same, get_or-set_other}
 use borrow.Author.Tests.{eqb-true, not-false, eq-eqb, ne_eqb}
-use Rattle.tokens.specs.Bool.{◌or◌, ◌is◌, if◌then◌else◌}
+use Rattle.tokens.specs.Bool.{◌or◌, ◌is◌}
 use Rattle.tokens.specs.Kind.{Async, LParen}
 use Rattle.tokens.specs.declared.cause.Cause.{Cause}
 use Rattle.lookahead.specs.ThreeWay.{three_way}

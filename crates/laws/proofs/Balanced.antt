@@ -1,5 +1,6 @@
 -- Balanced brackets, in any list of tokens: what readings (`agreement`) and derivations (`standard`) both say of brackets is said here.
 -- The statement: `partner`, an opening bracket has one closing partner. Assumes nothing.
+use Rattle.std.specs.Prelude.{if◌then◌else◌}
 use Prim.Native.Nat.{ℕ, ◌+◌}
 use mathlib.Core.Path.{◌≡◌, refl, sym, ap, ◌∙◌, subst}
 use mathlib.Core.Bool.{Bool, true, false}
@@ -7,7 +8,7 @@ use mathlib.Core.List.{[], ◌∷◌}
 use native.Mathlib.Omega.{arith}
 use lib.Dec.{ltb}
 use borrow.Author.Tests.{ne_eqb, ltb-true, lt-ltb}
-use Rattle.tokens.specs.Bool.{◌or◌, ◌is◌, if◌then◌else◌}
+use Rattle.tokens.specs.Bool.{◌or◌, ◌is◌}
 use Rattle.tokens.specs.Kind.{LParen, RParen, LBrack, RBrack, LCurly, RCurly}
 use Rattle.tokens.specs.Token.{is_name, is_word, is_literal}
 use Rattle.operators.specs.Precedence.{level, expression_level}

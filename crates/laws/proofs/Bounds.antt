@@ -1,6 +1,7 @@
 -- Room: where a nonterminal is done, how many rows and records there are then, and that it gives one tree. `limits` has a line a nonterminal;
 -- `bounded`, at the end, says that each keeps its limits; `room`, that rows never exceed tokens and records never exceed tokens.
 -- Assumes nothing.
+use Rattle.std.specs.Prelude.{if◌then◌else◌}
 use Prim.Native.Nat.{ℕ, ◌+◌, ◌-◌, ◌≤◌, max}
 use mathlib.Core.Path.{◌≡◌, refl, sym, ap, ◌∙◌}
 use mathlib.Core.Bool.{Bool, true, false, not}
@@ -9,7 +10,7 @@ use native.Mathlib.Omega.{arith}
 use lib.Dec.{ltb}
 use lib.ListN.{length, length-append}
 use borrow.Author.Tests.{eqb-true}
-use Rattle.tokens.specs.Bool.{◌or◌, ◌and◌, ◌is◌, if◌then◌else◌, between}
+use Rattle.tokens.specs.Bool.{◌or◌, ◌and◌, ◌is◌, between}
 use Rattle.tokens.specs.Kind.{Async, Str, Number, LCurly, Comma, Colon, Dot3, Arrow, Question2, Amp2, Star2, Eq}
 use Rattle.tokens.specs.Token.{is_name, is_word, is_literal}
 use Rattle.operators.specs.Precedence.{expression_level}

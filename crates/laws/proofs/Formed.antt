@@ -1,6 +1,7 @@
 -- Well-formed trees, as something to build: a tree is Formed if each row has the kids that the table of shapes gives its kind. What is Formed is
 -- well-formed (`is_well_formed`), and conversion of what is Formed is Formed, with targets where the role asks for them (`converted_formed`).
 -- Assumes nothing.
+use Rattle.std.specs.Prelude.{if◌then◌else◌}
 use Prim.Native.Nat.{ℕ, suc, ◌+◌, ◌≤◌}
 use mathlib.Core.Path.{◌≡◌, refl, sym, ap, ◌∙◌}
 use mathlib.Core.Bool.{Bool, true, false, not}
@@ -10,7 +11,7 @@ use native.Mathlib.Numerals.{add-one}
 use lib.Dec.{eqb, leb, eqb-suc-zero}
 use lib.ListN.{length, get_or}
 use borrow.Author.Tests.{eqb-true, eq-eqb, lt-ltb, le-ltb, le-leb}
-use Rattle.tokens.specs.Bool.{◌or◌, ◌and◌, if◌then◌else◌}
+use Rattle.tokens.specs.Bool.{◌or◌, ◌and◌}
 use Rattle.laws.proofs.Good.{and_left, and_right}
 use Rattle.rows.specs.Row as Row
 use Rattle.rows.specs.Tree.{Tree, Forest, node, nil, cons, one, count, kind_of, kids_of}
@@ -121,6 +122,7 @@ module _ (kind : ℕ) where
       go : (ending : List Kinds) → shape.ending ≡ ending → {ts : Forest} → Ending (may_end kind) ending ts → all_fit kind before ts ≡ true
       go [] e no_ending = refl
       go (kinds ∷ []) e (one_ending i) = rw (le-ltb before (length shape.front) l, e, kind_in i, end_in i)
+      go (kinds ∷ (_ ∷ _)) e k = elim k [ ]
 
   middle_fits : {ts : Forest} (before : ℕ) → length shape.front ≤ before → Middle (may_end kind) shape.many shape.closing shape.ending ts → all_fit kind before ts ≡ true
   unfolding all_fit fits may_be

@@ -2,6 +2,7 @@
 -- A law of the grammar says what is Good of a nonterminal that is done, and what is Bad of one that fails, and has one short lemma a
 -- production, made of the words below as the production is made of its own.
 -- Assumes nothing.
+use Rattle.std.specs.Prelude.{if◌then◌else◌}
 use Prim.Native.Nat.{ℕ, zero, suc, ◌<◌}
 use mathlib.Core.Path.{◌≡◌, refl, sym, ap, ◌∙◌}
 use mathlib.Core.Bool.{Bool, true, false}
@@ -11,7 +12,7 @@ use lib.ListN.{length}
 use borrow.Author.Tests.{eqb-true, eq-eqb}
 use Rattle.tokens.specs.Kind.{Async, LParen}
 use Rattle.rows.specs.Row as Row
-use Rattle.tokens.specs.Bool.{◌or◌, ◌is◌, ◌and◌, if◌then◌else◌}
+use Rattle.tokens.specs.Bool.{◌or◌, ◌is◌, ◌and◌}
 use Rattle.tokens.proofs.Stands.{stands}
 use Rattle.tokens.specs.declared.cause.Cause.{Cause}
 use Rattle.rows.specs.Tree.{Tree, Forest, one}

@@ -1,6 +1,7 @@
 -- What a tree still owes: the records that conversion, and the last pass for record 8, could yet say of its rows (`potential` of the targets).
 -- Conversion keeps the number of rows (`same_size`), and pays its records out of what the tree owes (`pays`); so does the last pass (`pays_lasts`).
 -- Assumes nothing.
+use Rattle.std.specs.Prelude.{if◌then◌else◌}
 use Prim.Native.Nat.{ℕ, ◌+◌, ◌≤◌}
 use mathlib.Core.Path.{◌≡◌}
 use mathlib.Core.List.{List, [], ◌∷◌}
@@ -8,7 +9,7 @@ use native.Mathlib.Omega.{arith}
 use lib.Dec.{eqb}
 use lib.ListN.{length, length-append}
 use borrow.Author.Tests.{eqb-true}
-use Rattle.tokens.specs.Bool.{◌is◌, if◌then◌else◌}
+use Rattle.tokens.specs.Bool.{◌is◌}
 use Rattle.rows.specs.Row as Row
 use Rattle.rows.specs.Tree.{Tree, Forest, node, nil, cons, join}
 use Rattle.rows.specs.Record.{Record, shorthand_initializer}

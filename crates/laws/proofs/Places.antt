@@ -1,6 +1,7 @@
 -- Where things stand: the place of a refusal is that of a token, or the end; and every row of a reading lies where it was read: it begins before it
 -- ends, its mark is inside it, and its kids lie inside it one after the other.
 -- The statements, at the end: `lies_at`, `refused_inside`; of whole readings `whole_lies`, `refusal_inside`. Assumes nothing.
+use Rattle.std.specs.Prelude.{if◌then◌else◌}
 use Prim.Native.Nat.{ℕ, ◌+◌, ◌≤◌, ◌<◌}
 use mathlib.Core.Path.{◌≡◌, refl}
 use mathlib.Core.Bool.{Bool, true, false, not}
@@ -8,7 +9,7 @@ use mathlib.Core.List.{List, []}
 use native.Mathlib.Omega.{arith}
 use lib.Dec.{ltb}
 use lib.ListN.{length}
-use Rattle.tokens.specs.Bool.{◌or◌, ◌and◌, ◌is◌, if◌then◌else◌}
+use Rattle.tokens.specs.Bool.{◌or◌, ◌and◌, ◌is◌}
 use Rattle.tokens.specs.Kind.{Str, Number, LCurly, Comma, Colon, Dot3, Arrow, Eq}
 use Rattle.tokens.specs.Token.{is_name, is_word, is_literal}
 use Rattle.tokens.specs.Cause.{number, place}

@@ -1,6 +1,7 @@
 -- The grammar's productions as rules: what a nonterminal comes to, from what its parts come to. One rule for each way through a production, for any policy.
 -- `Gives` is what a reader says of a nonterminal that comes to something (`Word`): the box's reader and the plain one use the same rules.
 -- Nothing but this file looks at the bound on the steps. Assumes nothing.
+use Rattle.std.specs.Prelude.{if◌then◌else◌}
 use Prim.Native.Nat.{ℕ, zero, suc, ◌+◌, ◌-◌, ◌*◌, ◌≤◌, ◌<◌}
 use mathlib.Core.Path.{◌≡◌}
 use mathlib.Core.Bool.{Bool, true, false, not}
@@ -8,7 +9,7 @@ use mathlib.Core.List.{List, [], ◌∷◌, ◌++◌, append-nil}
 use native.Mathlib.Omega.{arith}
 use lib.Dec.{ltb}
 use lib.ListN.{length}
-use Rattle.tokens.specs.Bool.{◌or◌, ◌and◌, ◌is◌, if◌then◌else◌}
+use Rattle.tokens.specs.Bool.{◌or◌, ◌and◌, ◌is◌}
 use Rattle.tokens.specs.Kind.{Async, This, Str, Number, LParen, RParen, LBrack, RBrack, LCurly, RCurly, Comma, Colon, Question, Dot, Dot3, Arrow, Eq}
 use Rattle.tokens.specs.Token.{is_name, is_word, is_literal}
 use Rattle.tokens.specs.declared.cause.Cause.{Cause}

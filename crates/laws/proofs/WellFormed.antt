@@ -1,6 +1,7 @@
 -- The trees of a reading are well-formed: every row has the kids that the table of shapes gives its kind. Each nonterminal gives trees of a class of
 -- its own, as the grammar has them; so the reading of a whole list is an Expression, and that of a pattern a Binding with or without an initializer.
 -- The statements, at the end: `whole_is_well_formed`, `pattern_is_well_formed`, `formed_at`. Assumes nothing.
+use Rattle.std.specs.Prelude.{if◌then◌else◌}
 use Prim.Native.Nat.{ℕ, suc, ◌+◌, ◌≤◌, ◌<◌}
 use mathlib.Core.Path.{◌≡◌, refl}
 use mathlib.Core.Bool.{Bool, true, false, not}
@@ -10,7 +11,7 @@ use native.Mathlib.Decide.{ℕ_discrete}
 use lib.Dec.{eqb, leb, ltb}
 use lib.ListN.{drop}
 use borrow.Author.Tests.{eqb-true, eqb-false, ne_eqb, ltb-true, ltb-false, leb-true, not-true}
-use Rattle.tokens.specs.Bool.{◌or◌, ◌and◌, ◌is◌, if◌then◌else◌, between}
+use Rattle.tokens.specs.Bool.{◌or◌, ◌and◌, ◌is◌, between}
 use Rattle.tokens.specs.Kind.{Async, As, Satisfies, Str, Number, LCurly, Comma, Colon, Dot3, Arrow, Question2, Pipe2, Amp2, Star2, Eq}
 use Rattle.tokens.specs.Token.{is_name, is_word, is_literal}
 use Rattle.operators.specs.Precedence.{tiers, among, level_from, level, expression_level}

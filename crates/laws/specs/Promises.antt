@@ -1,6 +1,7 @@
 -- The promises of the definition of a reading: the words that they are said in (notes of heads that were given up, where rows lie and refusals stand, well-formed trees of a class),
 -- and each promise as a type with a short name. Those of the box's reader are said of `box_reading` and `box_pattern`.
-use Rattle.rows.specs.Base.{ℕ, ◌+◌, ◌≤◌, ◌<◌, ◌≡◌, List, [], ◌∷◌, length, get_or, ◌is◌, if◌then◌else◌, ◌and◌, Forest, Tree, node, nil, cons, kind_of, kids_of, one, sizes, Record, number, place, Cause, Bool, true}
+use Rattle.std.specs.Prelude.{◌+◌, ◌≤◌, ◌<◌, ◌≡◌, ◌∷◌, if◌then◌else◌}
+use Rattle.rows.specs.Base.{ℕ, List, [], length, get_or, ◌is◌, ◌and◌, Forest, Tree, node, nil, cons, kind_of, kids_of, one, sizes, Record, number, place, Cause, Bool, true}
 use Rattle.grammar.specs.{Sheet.Sheet, Sheet.Out, Sheet.stuck, Job.Job, Job.expression, Job.binding_element, Arrow.Policy, Step.read, Step.plenty}
 use Rattle.grammar.specs.Reading.{box, cleared, noted_places, whole, reading, refused, box_reading, box_pattern}
 use Rattle.rows.specs.Shape.{last_kind, well_formed, is_expression, is_parameter}

@@ -1,5 +1,6 @@
 -- How many steps are enough for each nonterminal, and what it comes to. The definition of a reading needs none of this: it allows plenty of steps.
-use Rattle.rows.specs.Base.{ℕ, ◌+◌, ◌-◌, ◌*◌, ◌≤◌, ◌≡◌, length, List, Cause, Forest, Record}
+use Rattle.std.specs.Prelude.{◌+◌, ◌-◌, ◌*◌, ◌≤◌, ◌≡◌}
+use Rattle.rows.specs.Base.{ℕ, length, List, Cause, Forest, Record}
 use Rattle.grammar.specs.{Sheet.Sheet, Sheet.Out, Sheet.done, Sheet.fail, Arrow.Policy, Step.read}
 use Rattle.grammar.specs.Job.{Job, expression, sequence, assignment, value, assign, conditional, binary, operators, unary, postfix, left_hand_side, links, arguments, primary, elements, properties, property, key, spread, binding, binding_element, binding_elements, binding_properties, binding_property, binding_rest, head, parameters, body}
 

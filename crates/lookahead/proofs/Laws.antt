@@ -1,6 +1,7 @@
 -- What each three-way answer says about the next tokens, with both flags off: the facts that later proofs use.
 -- Beside the definition: nothing here changes what the answer is.
 -- Assumes nothing.
+use Rattle.std.specs.Prelude.{if◌then◌else◌}
 use Prim.Native.Nat.{ℕ, ◌+◌, ◌≤◌}
 use mathlib.Core.Path.{◌≡◌, refl, subst, sym, ◌∙◌}
 use mathlib.Core.Bool.{Bool, true, false, not}
@@ -9,7 +10,7 @@ use native.Mathlib.Omega.{arith}
 use native.Mathlib.Decide.{ℕ_discrete}
 use lib.Dec.{leb}
 use borrow.Author.Tests.{eqb-true, eqb-false, leb-true, not-true, not-false, eq-eqb, ne_eqb, le-leb, lt-leb}
-use Rattle.tokens.specs.Bool.{◌or◌, ◌and◌, ◌is◌, if◌then◌else◌, between}
+use Rattle.tokens.specs.Bool.{◌or◌, ◌and◌, ◌is◌, between}
 use Rattle.tokens.specs.Kind.{Ident, Async, As, Modifier, Const, This, Null, Await, Yield, LParen, RParen, LBrack, LCurly, Comma, Colon, Question, Dot3, Arrow, LAngle, In, Eq}
 use Rattle.tokens.specs.Token.{kind_at, flag_at, is_literal, is_binding_identifier, is_modifier_kind}
 use Rattle.lookahead.specs.declared.Tristate.{Tristate}

@@ -1,5 +1,6 @@
 -- What each three-way answer says about the next tokens, with both flags off.
-use Rattle.tokens.specs.Bool.{ℕ, ◌+◌, ◌≤◌, ◌≡◌, false, List}
+use Rattle.std.specs.Prelude.{◌+◌, ◌≤◌, ◌≡◌}
+use Rattle.tokens.specs.Bool.{ℕ, false, List}
 use Rattle.tokens.specs.Kind.{Ident, Async, As, Modifier, Const, This, Await, Yield, LParen, RParen, LBrack, LCurly, Comma, Colon, Question, Dot3, Arrow, LAngle, In, Eq}
 use Rattle.tokens.specs.Token.{kind_at, flag_at, is_literal}
 

@@ -1,5 +1,6 @@
 -- The answer of the three-way entry: its checks 1, 2, 5, 6, 14 in this order, and then the three-way answer.
-use Rattle.tokens.specs.Bool.{ℕ, Bool, List, ltb, length, if◌then◌else◌}
+use Rattle.std.specs.Prelude.{if◌then◌else◌}
+use Rattle.tokens.specs.Bool.{ℕ, Bool, List, ltb, length}
 use Rattle.tokens.specs.{Check.◌and_then◌, Check.check_length, Check.check_flag_length, Check.check_flags, Check.check_kinds, declared.cause.Cause.Cause}
 use Rattle.tokens.specs.declared.check.Checked.{Checked}
 use Rattle.lookahead.specs.{ThreeWay.three_way, declared.ThreeWay.ThreeWay}

@@ -1,6 +1,7 @@
 -- The three-way answer (RULES L), as the crate's arrow.rs (lines 57 to 215) reads it, token by token: is what starts here the head of an arrow function?
 -- Past the end a kind reads as 0. Names are 1 to 5, 14, 15; modifiers 2, 5, 6, 53; literals 8 to 13.
-use Rattle.tokens.specs.Bool.{ℕ, ◌+◌, Bool, true, false, not, List, ◌or◌, ◌and◌, ◌is◌, if◌then◌else◌}
+use Rattle.std.specs.Prelude.{◌+◌, if◌then◌else◌}
+use Rattle.tokens.specs.Bool.{ℕ, Bool, true, false, not, List, ◌or◌, ◌and◌, ◌is◌}
 use Rattle.tokens.specs.Kind.{Ident, Async, As, Const, This, Extends, LParen, RParen, LBrack, LCurly, Comma, Colon, Question, Dot3, Arrow, LAngle, RAngle, Slash, Eq}
 use Rattle.tokens.specs.Token.{kind_at, flag_at, is_literal, is_binding_identifier, is_modifier_kind}
 use Rattle.lookahead.specs.declared.Tristate.{Tristate}

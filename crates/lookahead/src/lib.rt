@@ -1,4 +1,6 @@
 // The three-way answer (RULES L; arrow.rs): whether an arrow head starts at a place, from the next few tokens.
+#![tactic(auto)]
+
 ghost use Rattle.std.specs.Prelude.{◌≡◌, true, false};
 ghost use Rattle.lookahead.specs.ThreeWay.{three_way, after_open, after_paren, after_angle, no_parameters, rest_parameter, modified_name, after_name, first_parameter, names_type, type_parameter};
 ghost use Rattle.lookahead.specs.Entry.{three_way_entry, check_place};
@@ -8,7 +10,7 @@ use tokens::check::Checked;
 use tokens::{checks, classes, kind};
 
 // What the next tokens say of a head: it is none, it is one, or it has to be tried. Follows `Tristate`.
-#[derive(Drop)]
+#[derive(Clone, Copy)]
 pub enum Tristate {
     False,
     True,
@@ -16,7 +18,7 @@ pub enum Tristate {
 }
 
 // The answer of the entry.
-#[derive(Drop)]
+#[derive(Clone, Copy)]
 pub enum ThreeWay {
     Told(Tristate),
     Refused(Cause),

@@ -1,7 +1,13 @@
 // What the three-way answer is, printed: F is False, T True, M Maybe, and - a refusal. `stdin` has the lists: on every branch of the worker,
 // with both flags on and off, at the end of the list, with and without breaks after Async, and lists that break the entry's checks.
 // tests/lookahead.py makes `stdin` and `stdout`; it was written from the rules and arrow.rs and not from this program.
+#![tactic(auto)]
+
+ghost use Rattle.std.specs.Prelude.{IfOk, ◌≤◌, length};
+
 use lookahead::{ThreeWay, Tristate};
+use std::io;
+use std::io::Read;
 use tokens::{causes, kind};
 
 // A row of 22 bytes describes a list: how many kinds and flags it has, the place (255: the largest), whether TypeScript and JSX are on,
@@ -119,97 +125,109 @@ fn letters(row: &[u8]) -> [u8; 79] {
     line
 }
 
-fn print(label: &[u8], n: usize) {
-    io::write_all(1, label);
-    io::print_decimal(1, n as u64);
-}
-
-fn print_answer(answer: ThreeWay) {
+fn print_answer(rt: &impl Print, answer: ThreeWay) -> io::Result<()> {
     match answer {
-        ThreeWay::Told(told) => {
-            io::write_all(1, &[letter(told)]);
-        }
+        ThreeWay::Told(told) => rt.write_all(&[letter(told)]),
         ThreeWay::Refused(cause) => {
-            print(b"refused ", causes::number_of(cause) as usize);
-            print(b" ", causes::place_of(cause));
+            let number = causes::number_of(cause);
+            let place = causes::place_of(cause);
+            print!(rt; "refused {number} {place}")
         }
     }
 }
 
 // `n` bytes of a row from a place on.
-fn print_bytes(row: &[u8], from: usize, n: u8) {
+fn print_bytes(rt: &impl Print, row: &[u8], from: usize, n: u8) -> io::Result<()> {
     let mut left = n;
     let mut at = from;
     while 0 < left {
         if at < row.len() {
-            print(b" ", wide(row[at]));
+            let byte = row[at];
+            print!(rt; " {byte}")?;
             at += 1;
         }
         left -= 1;
     }
+    Ok(())
 }
 
-fn print_row(row: &[u8]) {
-    io::write_all(1, b"kinds");
-    print_bytes(row, 6, tokens::kind_at(row, 0));
-    io::write_all(1, b", flags");
-    print_bytes(row, 14, tokens::kind_at(row, 1));
-    print(b", at ", place_of(row));
+fn print_row(rt: &impl Print, row: &[u8]) -> io::Result<()> {
+    rt.print("kinds")?;
+    print_bytes(rt, row, 6, tokens::kind_at(row, 0))?;
+    rt.print(", flags")?;
+    print_bytes(rt, row, 14, tokens::kind_at(row, 1))?;
+    let at = place_of(row);
+    print!(rt; ", at {at}")?;
     if tokens::kind_at(row, 3) == 1 {
-        io::write_all(1, b", ts");
+        rt.print(", ts")?;
     }
     if tokens::kind_at(row, 4) == 1 {
-        io::write_all(1, b", jsx");
+        rt.print(", jsx")?;
     }
-    io::write_all(1, b": ");
+    rt.print(": ")
 }
 
-fn print_answers(row: &[u8]) {
+fn print_answers(rt: &impl Print, row: &[u8]) -> io::Result<()> {
     if tokens::kind_at(row, 5) == 1 {
-        io::write_all(1, &letters(row));
+        rt.write_all(&letters(row))?;
     } else {
-        print_answer(answer(row, 0));
-        io::write_all(1, b", unchecked ");
-        io::write_all(1, &[raw_letter(row)]);
+        print_answer(rt, answer(row, 0))?;
+        rt.print(", unchecked ")?;
+        rt.write_all(&[raw_letter(row)])?;
     }
-    io::write_all(1, b"\n");
+    rt.println("")
 }
 
 // The rows that `stdin` has, some at a time.
-fn print_rows(rows: &[u8]) {
+fn print_rows(rt: &impl Print, rows: &[u8]) -> io::Result<()> {
     let mut at = 0;
     while at < rows.len() {
         if rows.len() - at < 22 {
-            return;
+            return Ok(());
         }
         let end = at + 22;
-        print_row(&rows[at..end]);
-        print_answers(&rows[at..end]);
+        print_row(rt, &rows[at..end])?;
+        print_answers(rt, &rows[at..end])?;
         at = end;
     }
+    Ok(())
 }
 
-fn print_long(kinds: &[u8], flags: &[u8], at: usize) {
-    print(b"tokens ", kinds.len());
-    print(b", at ", at);
-    io::write_all(1, b": ");
-    print_answer(lookahead::three_way(kinds, flags, false, false, at));
-    io::write_all(1, b"\n");
+fn print_long(rt: &impl Print, kinds: &[u8], flags: &[u8], at: usize) -> io::Result<()> {
+    let count = kinds.len();
+    print!(rt; "tokens {count}, at {at}: ")?;
+    print_answer(rt, lookahead::three_way(kinds, flags, false, false, at))?;
+    rt.println("")
 }
 
 // 2,048 and 2,049 tokens, the last of kind 0; and 65 open brackets, which are no matter here.
-fn print_limits() {
+fn print_limits(rt: &impl Print) -> io::Result<()> {
     let kinds = [kind::L_PAREN; 2049];
     let flags = [0u8; 2049];
-    print_long(&kinds[..65], &flags[..65], 64);
-    print_long(&kinds[..2048], &flags[..2048], 2047);
-    print_long(&kinds, &flags, 2047);
-    print_long(&flags, &flags, 2047);
+    print_long(rt, &kinds[..65], &flags[..65], 64)?;
+    print_long(rt, &kinds[..2048], &flags[..2048], 2047)?;
+    print_long(rt, &kinds, &flags, 2047)?;
+    print_long(rt, &flags, &flags, 2047)
 }
 
-fn main() {
-    let mut rows = io::large_buffer();
-    let n = io::read_full(0, &mut rows);
-    print_rows(&rows[..n]);
-    print_limits();
+// Reads until the buffer is full or the input ends, and tells how many bytes came.
+fn read_full(input: &mut impl Read, bytes: &mut [u8]) -> io::Result<usize>
+    ensures { IfOk result (λ n. n ≤ length bytes.new) }
+{
+    let mut at = 0;
+    while at < bytes.len() {
+        let n = input.read(&mut bytes[at..])?;
+        if n == 0 {
+            break;
+        }
+        at += n;
+    }
+    Ok(at)
+}
+
+fn main(rt: HostRuntime) -> io::Result<()> {
+    let mut rows = [0u8; 65536];
+    let n = read_full(&mut rt.stdin(), &mut rows)?;
+    print_rows(&rt, &rows[..n])?;
+    print_limits(&rt)
 }

@@ -1,5 +1,6 @@
 -- The operator that a token kind stands for (RULES O6), by the five mapping functions of operator.rs; what was unreachable there is None.
-use Rattle.tokens.specs.Bool.{ℕ, List, [], ◌∷◌, ◌is◌, if◌then◌else◌}
+use Rattle.std.specs.Prelude.{◌∷◌, if◌then◌else◌}
+use Rattle.tokens.specs.Bool.{ℕ, List, [], ◌is◌}
 use Rattle.operators.specs.{declared.BinaryOperator.BinaryOperator, declared.UnaryOperator.UnaryOperator, declared.LogicalOperator.LogicalOperator}
 use Rattle.operators.specs.{declared.UpdateOperator.UpdateOperator, declared.AssignmentOperator.AssignmentOperator}
 use Rattle.tokens.specs.Kind as Kind

@@ -1,5 +1,6 @@
 -- The precedence of binary operators, from the tiers of ECMA-262 13.6 to 13.13: a tier further down binds tighter.
-use Rattle.tokens.specs.Bool.{ℕ, suc, Bool, false, List, [], ◌∷◌, ◌or◌, ◌is◌, if◌then◌else◌}
+use Rattle.std.specs.Prelude.{◌∷◌, if◌then◌else◌}
+use Rattle.tokens.specs.Bool.{ℕ, suc, Bool, false, List, [], ◌or◌, ◌is◌}
 use Rattle.tokens.specs.Kind.{Question2, Pipe2, Amp2, Pipe, Caret, Amp, Eq2, Eq3, Neq, Neq2, LAngle, RAngle, LtEq, GtEq, Instanceof, In, As, Satisfies, ShiftLeft, ShiftRight, ShiftRight3, Plus, Minus, Star, Slash, Percent, Star2}
 
 abbrev pub tiers : List (List ℕ)  -- the operators of each tier, from the loosest, level 1, to the tightest, level 12

@@ -1,4 +1,6 @@
 // The operator tables (RULES O; operator.rs): one constant table of precedence levels over the token kinds, and what operator a kind stands for.
+#![tactic(auto)]
+
 ghost use Rattle.std.specs.Prelude.{◌≡◌, ◌*◌, ◌/◌, ◌%◌, ◌^◌, ◌<◌};
 ghost use Rattle.operators.specs.Precedence.{level, expression_level};
 ghost use Rattle.operators.specs.Operator.{binary_operator, unary_operator, logical_operator, update_operator, assignment_operator};
@@ -63,7 +65,7 @@ fn level_at(levels: u64, place: u8) -> u8
 }
 
 // The binary operators (13.6 to 13.12), and None.
-#[derive(Drop)]
+#[derive(Clone, Copy)]
 pub enum BinaryOperator {
     None,
     Equality,
@@ -122,7 +124,7 @@ pub fn map_binary_operator(k: u8) -> BinaryOperator
 }
 
 // The unary operators (13.5), and None.
-#[derive(Drop)]
+#[derive(Clone, Copy)]
 pub enum UnaryOperator {
     None,
     UnaryNegation,
@@ -151,7 +153,7 @@ pub fn map_unary_operator(k: u8) -> UnaryOperator
 }
 
 // The logical operators (13.13), and None.
-#[derive(Drop)]
+#[derive(Clone, Copy)]
 pub enum LogicalOperator {
     None,
     Or,
@@ -172,7 +174,7 @@ pub fn map_logical_operator(k: u8) -> LogicalOperator
 }
 
 // The update operators (13.4), and None.
-#[derive(Drop)]
+#[derive(Clone, Copy)]
 pub enum UpdateOperator {
     None,
     Increment,
@@ -191,7 +193,7 @@ pub fn map_update_operator(k: u8) -> UpdateOperator
 }
 
 // The assignment operators (13.15), and None.
-#[derive(Drop)]
+#[derive(Clone, Copy)]
 pub enum AssignmentOperator {
     None,
     Assign,

@@ -1,9 +1,12 @@
 // The whole of `operators`, printed: a line for each of the 256 bytes, with its level, its level in an expression, and the
 // operators that the five mapping functions give, by their places in the lists of operator.rs and 0 for none.
 // `stdout` is what tests/operators.py prints, which was written from the rules and operator.rs and not from this program.
+#![tactic(auto)]
+
 use operators::{
     AssignmentOperator, BinaryOperator, LogicalOperator, UnaryOperator, UpdateOperator,
 };
+use std::io;
 
 fn binary(operator: BinaryOperator) -> u8 {
     match operator {
@@ -85,31 +88,24 @@ fn assignment(operator: AssignmentOperator) -> u8 {
     }
 }
 
-fn print(label: &[u8], n: u8) {
-    io::write_all(1, label);
-    io::print_decimal(1, n as u64);
+fn print_line(rt: &impl Print, k: u8) -> io::Result<()> {
+    let level = operators::kind_to_precedence(k);
+    let inside = operators::expression_precedence(k);
+    print!(rt; "{k}: level {level}, in an expression {inside}")?;
+    let binary = binary(operators::map_binary_operator(k));
+    let unary = unary(operators::map_unary_operator(k));
+    let logical = logical(operators::map_logical_operator(k));
+    let update = update(operators::map_update_operator(k));
+    let assignment = assignment(operators::map_assignment_operator(k));
+    print!(rt; ", binary {binary}, unary {unary}, logical {logical}, update {update}")?;
+    println!(rt; ", assignment {assignment}")
 }
 
-fn print_line(k: u8) {
-    print(b"", k);
-    print(b": level ", operators::kind_to_precedence(k));
-    print(b", in an expression ", operators::expression_precedence(k));
-    print(b", binary ", binary(operators::map_binary_operator(k)));
-    print(b", unary ", unary(operators::map_unary_operator(k)));
-    print(b", logical ", logical(operators::map_logical_operator(k)));
-    print(b", update ", update(operators::map_update_operator(k)));
-    print(
-        b", assignment ",
-        assignment(operators::map_assignment_operator(k)),
-    );
-    io::write_all(1, b"\n");
-}
-
-fn main() {
+fn main(rt: HostRuntime) -> io::Result<()> {
     let mut k: u8 = 0;
     while k < 255 {
-        print_line(k);
+        print_line(&rt, k)?;
         k += 1;
     }
-    print_line(255);
+    print_line(&rt, 255)
 }

@@ -1,7 +1,9 @@
 // The one cycle of calls: expressions, arrows, literals and bindings call one another (13.2 to 13.16, 14.3.3, 15.3, 15.9).
-// All of it stands in one file, since the folder of its proof is named after all of its functions.
-ghost use Rattle.std.specs.Prelude.{◌+◌, ◌<◌, length, get_or};
-ghost use Rattle.tokens.specs.Bool.{◌is◌, if◌then◌else◌};
+// All of it stands in one file, in the order of the standard; the cycle is named `expressions`.
+#![tactic(auto)]
+
+ghost use Rattle.std.specs.Prelude.{◌+◌, ◌<◌, length, get_or, if◌then◌else◌};
+ghost use Rattle.tokens.specs.Bool.{◌is◌};
 ghost use Rattle.tokens.specs.Kind.{Dot3};
 ghost use Rattle.tokens.specs.declared.cause.Cause.{Cause};
 ghost use Rattle.rows.specs.Tree.{nil, one};
@@ -19,7 +21,7 @@ use tokens::{classes, kind};
 use waiting::{Next, Spot, Start};
 
 // 13.16 Expression: one part, or a Sequence of them. Stands for `parse_expr`.
-#[cycle(args_array_assign_barray_binding_bobject_bproperty_comma_element_head_init_inside_item_key_last_left_object_params_part_primary_property_rest_spread_start_unary)]
+#[cycle(expressions)]
 pub fn comma(
     kinds: &[u8],
     flags: &[u8],
@@ -61,7 +63,7 @@ pub fn comma(
 
 // 13.15 AssignmentExpression: one token by itself; or parts and operands, one after the other, while what still lacks its last part waits.
 // Stands for `parse_assignment_expression_or_higher`.
-#[cycle(args_array_assign_barray_binding_bobject_bproperty_comma_element_head_init_inside_item_key_last_left_object_params_part_primary_property_rest_spread_start_unary)]
+#[cycle(expressions)]
 fn assign(
     kinds: &[u8],
     flags: &[u8],
@@ -111,7 +113,7 @@ fn assign(
 
 // Where a part starts, a head that is tried or read for good, or Async and a name before `=>`; else, and where an operand starts, an operand.
 // Follows `try_parse_parenthesized_arrow_function_expression` and `try_parse_async_simple_arrow_function_expression`.
-#[cycle(args_array_assign_barray_binding_bobject_bproperty_comma_element_head_init_inside_item_key_last_left_object_params_part_primary_property_rest_spread_start_unary)]
+#[cycle(expressions)]
 fn start(
     kinds: &[u8],
     flags: &[u8],
@@ -161,7 +163,7 @@ fn start(
 }
 
 // A head up to its `=>`: optional Async with no break after it, and parameters in parentheses. Follows `parse_parenthesized_arrow_function_head`.
-#[cycle(args_array_assign_barray_binding_bobject_bproperty_comma_element_head_init_inside_item_key_last_left_object_params_part_primary_property_rest_spread_start_unary)]
+#[cycle(expressions)]
 fn head(
     kinds: &[u8],
     flags: &[u8],
@@ -198,7 +200,7 @@ fn head(
 
 // 15.1 FormalParameters: bindings with optional defaults, one trailing comma unless a rest is last, up to past the `)`.
 // Stands for `parse_formal_parameters`.
-#[cycle(args_array_assign_barray_binding_bobject_bproperty_comma_element_head_init_inside_item_key_last_left_object_params_part_primary_property_rest_spread_start_unary)]
+#[cycle(expressions)]
 fn params(
     kinds: &[u8],
     flags: &[u8],
@@ -255,7 +257,7 @@ fn params(
 }
 
 // 13.5 and 13.4: prefix operators over an operand, which a postfix update may follow on its line.
-#[cycle(args_array_assign_barray_binding_bobject_bproperty_comma_element_head_init_inside_item_key_last_left_object_params_part_primary_property_rest_spread_start_unary)]
+#[cycle(expressions)]
 fn unary(
     kinds: &[u8],
     flags: &[u8],
@@ -287,7 +289,7 @@ fn unary(
 }
 
 // 13.3: a primary expression and the members, indexes and calls that follow it.
-#[cycle(args_array_assign_barray_binding_bobject_bproperty_comma_element_head_init_inside_item_key_last_left_object_params_part_primary_property_rest_spread_start_unary)]
+#[cycle(expressions)]
 fn left(
     kinds: &[u8],
     flags: &[u8],
@@ -334,7 +336,7 @@ fn left(
 }
 
 // 13.3: a Call, from its `(` on.
-#[cycle(args_array_assign_barray_binding_bobject_bproperty_comma_element_head_init_inside_item_key_last_left_object_params_part_primary_property_rest_spread_start_unary)]
+#[cycle(expressions)]
 fn args(
     kinds: &[u8],
     flags: &[u8],
@@ -385,7 +387,7 @@ fn args(
 }
 
 // An Expression between the bracket at the place and its closing token.
-#[cycle(args_array_assign_barray_binding_bobject_bproperty_comma_element_head_init_inside_item_key_last_left_object_params_part_primary_property_rest_spread_start_unary)]
+#[cycle(expressions)]
 fn inside(
     kinds: &[u8],
     flags: &[u8],
@@ -415,7 +417,7 @@ fn inside(
 }
 
 // 13.2 PrimaryExpression.
-#[cycle(args_array_assign_barray_binding_bobject_bproperty_comma_element_head_init_inside_item_key_last_left_object_params_part_primary_property_rest_spread_start_unary)]
+#[cycle(expressions)]
 fn primary(
     kinds: &[u8],
     flags: &[u8],
@@ -448,7 +450,7 @@ fn primary(
 }
 
 // An element or an argument: an AssignmentExpression or a spread.
-#[cycle(args_array_assign_barray_binding_bobject_bproperty_comma_element_head_init_inside_item_key_last_left_object_params_part_primary_property_rest_spread_start_unary)]
+#[cycle(expressions)]
 fn item(
     kinds: &[u8],
     flags: &[u8],
@@ -472,7 +474,7 @@ fn item(
 }
 
 // 13.2.4 SpreadElement. Follows `parse_spread_element`.
-#[cycle(args_array_assign_barray_binding_bobject_bproperty_comma_element_head_init_inside_item_key_last_left_object_params_part_primary_property_rest_spread_start_unary)]
+#[cycle(expressions)]
 fn spread(
     kinds: &[u8],
     flags: &[u8],
@@ -493,7 +495,7 @@ fn spread(
 }
 
 // 13.2.4 ArrayLiteral: elements and holes up to the `]`.
-#[cycle(args_array_assign_barray_binding_bobject_bproperty_comma_element_head_init_inside_item_key_last_left_object_params_part_primary_property_rest_spread_start_unary)]
+#[cycle(expressions)]
 fn array(
     kinds: &[u8],
     flags: &[u8],
@@ -552,7 +554,7 @@ fn array(
 }
 
 // 13.2.5 ObjectLiteral: properties up to the `}`. Follows `parse_object_expression`, with the loop of `parse_delimited_list`.
-#[cycle(args_array_assign_barray_binding_bobject_bproperty_comma_element_head_init_inside_item_key_last_left_object_params_part_primary_property_rest_spread_start_unary)]
+#[cycle(expressions)]
 fn object(
     kinds: &[u8],
     flags: &[u8],
@@ -602,7 +604,7 @@ fn object(
 }
 
 // A part of an object literal: a spread or a property. Follows `parse_object_expression_property`.
-#[cycle(args_array_assign_barray_binding_bobject_bproperty_comma_element_head_init_inside_item_key_last_left_object_params_part_primary_property_rest_spread_start_unary)]
+#[cycle(expressions)]
 fn part(
     kinds: &[u8],
     flags: &[u8],
@@ -624,7 +626,7 @@ fn part(
 }
 
 // 13.2.5 PropertyDefinition: a shorthand, or a key with its value. Follows `parse_object_literal_element`.
-#[cycle(args_array_assign_barray_binding_bobject_bproperty_comma_element_head_init_inside_item_key_last_left_object_params_part_primary_property_rest_spread_start_unary)]
+#[cycle(expressions)]
 fn property(
     kinds: &[u8],
     flags: &[u8],
@@ -675,7 +677,7 @@ fn property(
 
 // A name's initializer, from its `=` on: the name's row stands at `from`, and its token just before.
 // Follows `parse_initializer` and a part of `parse_object_literal_element`.
-#[cycle(args_array_assign_barray_binding_bobject_bproperty_comma_element_head_init_inside_item_key_last_left_object_params_part_primary_property_rest_spread_start_unary)]
+#[cycle(expressions)]
 fn init(
     kinds: &[u8],
     flags: &[u8],
@@ -704,7 +706,7 @@ fn init(
 
 // 13.2.5 PropertyName: a word, a string, a number, or `[` an AssignmentExpression `]`.
 // Follows `parse_property_name` and `parse_computed_property_name`.
-#[cycle(args_array_assign_barray_binding_bobject_bproperty_comma_element_head_init_inside_item_key_last_left_object_params_part_primary_property_rest_spread_start_unary)]
+#[cycle(expressions)]
 fn key(
     kinds: &[u8],
     flags: &[u8],
@@ -735,7 +737,7 @@ fn key(
 }
 
 // 14.3.3 BindingPattern, or a BindingIdentifier. Follows `parse_binding_pattern` and `parse_binding_pattern_identifier`.
-#[cycle(args_array_assign_barray_binding_bobject_bproperty_comma_element_head_init_inside_item_key_last_left_object_params_part_primary_property_rest_spread_start_unary)]
+#[cycle(expressions)]
 fn binding(
     kinds: &[u8],
     flags: &[u8],
@@ -761,7 +763,7 @@ fn binding(
 }
 
 // 14.3.3 BindingElement: a binding with an optional initializer. Follows `parse_binding_pattern_with_initializer` and `parse_initializer`.
-#[cycle(args_array_assign_barray_binding_bobject_bproperty_comma_element_head_init_inside_item_key_last_left_object_params_part_primary_property_rest_spread_start_unary)]
+#[cycle(expressions)]
 pub fn element(
     kinds: &[u8],
     flags: &[u8],
@@ -773,7 +775,7 @@ pub fn element(
     said: usize,
 ) -> Step
     requires { Room kinds.now rows.old records.old (cursor at made said) }
-    ensures { Met kinds.now flags.now rows.old records.old notes.old rows.new records.new notes.new (Job.binding-element at) made said result }
+    ensures { Met kinds.now flags.now rows.old records.old notes.old rows.new records.new notes.new (Job.binding_element at) made said result }
 {
     let got = binding(kinds, flags, rows, records, notes, at, made, said);
     let Step::Done(d) = got else { return got };
@@ -793,7 +795,7 @@ pub fn element(
 }
 
 // 14.3.3 BindingRestElement: an initializer is record 2 at its `=`. Follows `parse_rest_element` and `parse_rest_element_for_formal_parameter`.
-#[cycle(args_array_assign_barray_binding_bobject_bproperty_comma_element_head_init_inside_item_key_last_left_object_params_part_primary_property_rest_spread_start_unary)]
+#[cycle(expressions)]
 fn rest(
     kinds: &[u8],
     flags: &[u8],
@@ -820,7 +822,7 @@ fn rest(
 }
 
 // A rest and its closing token, or 12. Stands for a part of `parse_delimited_list_with_rest`.
-#[cycle(args_array_assign_barray_binding_bobject_bproperty_comma_element_head_init_inside_item_key_last_left_object_params_part_primary_property_rest_spread_start_unary)]
+#[cycle(expressions)]
 fn last(
     kinds: &[u8],
     flags: &[u8],
@@ -851,7 +853,7 @@ fn last(
 
 // 14.3.3 ArrayBindingPattern: elements, holes and a closing rest up to the `]`.
 // Follows `parse_array_binding_pattern` and `parse_array_binding_element`, with the loop of `parse_delimited_list_with_rest`.
-#[cycle(args_array_assign_barray_binding_bobject_bproperty_comma_element_head_init_inside_item_key_last_left_object_params_part_primary_property_rest_spread_start_unary)]
+#[cycle(expressions)]
 fn barray(
     kinds: &[u8],
     flags: &[u8],
@@ -864,7 +866,7 @@ fn barray(
 ) -> Step
     requires room { Room kinds.now rows.old records.old (cursor at made said) }
     requires at_in_bounds { at < length kinds.now }
-    ensures { Met kinds.now flags.now rows.old records.old notes.old rows.new records.new notes.new (Job.binding-elements at (at + 1) nil) made said result }
+    ensures { Met kinds.now flags.now rows.old records.old notes.old rows.new records.new notes.new (Job.binding_elements at (at + 1) nil) made said result }
 {
     let mut c = Cursor {
         at: at + 1,
@@ -909,7 +911,7 @@ fn barray(
 
 // 14.3.3 ObjectBindingPattern: properties and a closing rest of a bare name, or 11, up to the `}`.
 // Follows `parse_object_binding_pattern`, with the loop of `parse_delimited_list_with_rest`.
-#[cycle(args_array_assign_barray_binding_bobject_bproperty_comma_element_head_init_inside_item_key_last_left_object_params_part_primary_property_rest_spread_start_unary)]
+#[cycle(expressions)]
 fn bobject(
     kinds: &[u8],
     flags: &[u8],
@@ -922,7 +924,7 @@ fn bobject(
 ) -> Step
     requires room { Room kinds.now rows.old records.old (cursor at made said) }
     requires at_in_bounds { at < length kinds.now }
-    ensures { Met kinds.now flags.now rows.old records.old notes.old rows.new records.new notes.new (Job.binding-properties at (at + 1) nil) made said result }
+    ensures { Met kinds.now flags.now rows.old records.old notes.old rows.new records.new notes.new (Job.binding_properties at (at + 1) nil) made said result }
 {
     let mut c = Cursor {
         at: at + 1,
@@ -965,7 +967,7 @@ fn bobject(
 }
 
 // 14.3.3 BindingProperty: a shorthand, or a key with its element. Follows `parse_binding_property`.
-#[cycle(args_array_assign_barray_binding_bobject_bproperty_comma_element_head_init_inside_item_key_last_left_object_params_part_primary_property_rest_spread_start_unary)]
+#[cycle(expressions)]
 fn bproperty(
     kinds: &[u8],
     flags: &[u8],

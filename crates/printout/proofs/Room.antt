@@ -1,5 +1,6 @@
 -- The text of what the reader gives has at most 180,244 bytes.
 -- Assumes nothing.
+use Rattle.std.specs.Prelude.{if◌then◌else◌}
 use Prim.Native.Nat.{ℕ, suc, ◌+◌, ◌*◌, ◌≤◌}
 use mathlib.Core.Path.{◌≡◌, refl, sym, ap, ◌∙◌}
 use mathlib.Core.Bool.{Bool, true, false}
@@ -7,7 +8,7 @@ use mathlib.Core.List.{List, [], ◌∷◌}
 use native.Mathlib.Omega.{arith}
 use lib.Dec.{ltb}
 use lib.ListN.{length, get_or}
-use Rattle.tokens.specs.Bool.{◌or◌, ◌is◌, if◌then◌else◌}
+use Rattle.tokens.specs.Bool.{◌or◌, ◌is◌}
 use Rattle.tokens.specs.Check.{◌and_then◌, first_such, depth_after, nesting, check_length, check_flag_length, check_flags, check_kinds, check_nesting}
 use Rattle.tokens.specs.Cause.{place}
 use Rattle.tokens.specs.declared.cause.Answer.{Answer}

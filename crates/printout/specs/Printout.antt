@@ -1,5 +1,6 @@
 -- What the box prints for the bytes of a file, any bytes at all, and what it leaves in the buffers that it is lent.
-use Rattle.rows.specs.Base.{ℕ, ◌≤◌, ◌≡◌, List, length}
+use Rattle.std.specs.Prelude.{◌≤◌, ◌≡◌}
+use Rattle.rows.specs.Base.{ℕ, List, length}
 use Rattle.grammar.specs.{Sheet.sheet_of, Lent.Given, Lent.read_entry}
 use Rattle.sheet_file.specs.Layout.{Sheet}
 use Rattle.text.specs.{Text.text, Text.bad_file, Post.Prints, declared.Printed.Printed}

@@ -1,4 +1,6 @@
 // What the box prints for the bytes of a file: the whole job of the program `sheet`, as a function on slices.
+#![tactic(auto)]
+
 ghost use Rattle.printout.specs.Printout.{PrintsFile};
 
 use text::Printed;

@@ -1,5 +1,6 @@
 -- The last passes: the notes are counted, and the rows are gone through for record 8.
 -- Assumes nothing.
+use Rattle.std.specs.Prelude.{if◌then◌else◌}
 use Prim.Native.Nat.{ℕ, zero, suc, ◌+◌, ◌-◌, ◌*◌, ◌≤◌, ◌<◌}
 use mathlib.Core.Path.{◌≡◌, refl, sym, ap, subst, ◌∙◌}
 use mathlib.Core.List.{List, [], ◌∷◌, ◌++◌, append-nil, append_assoc}
@@ -9,7 +10,7 @@ use native.Mathlib.Nat.{zero-add}
 use lib.ListN.{length, get_or, drop, length-append, take-append-drop}
 use lib.Seq.{drop-cons, get_or-append-add}
 use borrow.Author.Tests.{ne_eqb}
-use Rattle.tokens.specs.Bool.{◌is◌, if◌then◌else◌}
+use Rattle.tokens.specs.Bool.{◌is◌}
 use Rattle.rows.specs.Tree.{Tree, Forest, node, nil, cons, count, size, sizes, row, flat, flats}
 use Rattle.rows.specs.Row as Row
 use Rattle.rows.specs.Record.{Record, shorthand_initializer}

@@ -1,6 +1,7 @@
 -- What the contracts inside the entries say: the room that is checked, the last pass for record 8, and the end of a reading.
 -- ks are the kinds; r, s and m the words of the rows, of the records, and the notes.
-use Rattle.rows.specs.Base.{ℕ, zero, suc, ◌+◌, ◌*◌, ◌≤◌, ◌≡◌, List, [], ◌∷◌, ◌++◌, length, get_or, ◌is◌, if◌then◌else◌, Cause, Answer, Checked, Forest, Record, shorthand_initializer}
+use Rattle.std.specs.Prelude.{◌+◌, ◌*◌, ◌≤◌, ◌≡◌, ◌∷◌, ◌++◌, if◌then◌else◌}
+use Rattle.rows.specs.Base.{ℕ, zero, suc, List, [], length, get_or, ◌is◌, Cause, Answer, Checked, Forest, Record, shorthand_initializer}
 use Rattle.rows.specs.Post.{Cleared, Grown, GrownRecords}
 use Rattle.grammar.specs.{Sheet.sheet_of, Sheet.Out, Sheet.done, Sheet.fail, Reading.unconverteds, Reading.at_end, Lent.checks, Lent.answered, Lent.Answers}
 use Rattle.laws.specs.Promises.{Fine}

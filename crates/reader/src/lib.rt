@@ -1,4 +1,6 @@
 // The reader: a list of token bytes into a flat tree in lent memory (RULES X1, X2).
+#![tactic(auto)]
+
 ghost use Rattle.grammar.specs.Sheet.{sheet_of};
 ghost use Rattle.grammar.specs.Lent.{read_entry, pattern_entry};
 ghost use Rattle.grammar.specs.Lent.{Answers};

@@ -1,6 +1,7 @@
 -- What the code's numbers say: a plan is a number, and says what a row becomes and the roles of its kids. By its remainder by 16 it is of a
 -- kind (specs/Plan.antt), by its quotient it holds a kind, a place, or one more than the place of a literal with a comma after its rest.
-use Rattle.rows.specs.Base.{ℕ, ◌-◌, ◌/◌, ◌%◌, ◌≡◌, Bool, true, false, List, [], ◌∷◌, leb, if◌then◌else◌, ◌is◌, Record, rest_argument, rest_comma, compound_default}
+use Rattle.std.specs.Prelude.{◌-◌, ◌/◌, ◌%◌, ◌≡◌, ◌∷◌, if◌then◌else◌}
+use Rattle.rows.specs.Base.{ℕ, Bool, true, false, List, [], leb, ◌is◌, Record, rest_argument, rest_comma, compound_default}
 use Rattle.tokens.specs.declared.cause.Cause.TheVariants.{Target as NoTarget, Spread as SpreadNotLast}
 use Rattle.roles.specs.declared.Seen.{Seen}
 use Rattle.rows.specs.Row as row

@@ -1,5 +1,6 @@
 -- What the code's short cuts ask of a row: whether it is all there is to convert, and the kind that it gets then.
-use Rattle.rows.specs.Base.{ℕ, Bool, true, eqb, if◌then◌else◌, ◌and◌}
+use Rattle.std.specs.Prelude.{if◌then◌else◌}
+use Rattle.rows.specs.Base.{ℕ, Bool, true, eqb, ◌and◌}
 use Rattle.conversion.specs.Conversion.{is_reference}
 use Rattle.rows.specs.Row as row
 

@@ -1,4 +1,6 @@
 // What a row asks of its kids in a conversion, and which rows turn by themselves.
+#![tactic(auto)]
+
 ghost use Rattle.std.specs.Prelude.{◌≡◌};
 ghost use Rattle.conversion.specs.Conversion as def;
 ghost use Rattle.roles.specs.Meaning as means;
@@ -11,7 +13,7 @@ pub mod plans;
 
 // What conversion looks at in a row: three of its words, how many kids it has, and the last kid's kind and first token (0 where
 // there is none).
-#[derive(Drop)]
+#[derive(Clone, Copy)]
 pub struct Seen {
     pub kind: u32,
     pub mark: u32,

@@ -1,6 +1,7 @@
 -- What is handed back of a slice that a caller lent: which part, and where it stands. For the entry that takes a tree and a row: for any words and any row.
+use Rattle.std.specs.Prelude.{◌+◌, ◌-◌, ◌*◌, ◌<◌, ◌≡◌}
 use Rattle.std.specs.Borrow.{Bor}
-use Rattle.rows.specs.Base.{ℕ, ◌+◌, ◌-◌, ◌*◌, ◌<◌, ◌≡◌, List, [], take, drop, Tree, size, flat}
+use Rattle.rows.specs.Base.{ℕ, List, [], take, drop, Tree, size, flat}
 use Rattle.rows.specs.Part.{WellFormed, subtree}
 
 -- A part is the caller's own elements, from one of them on, and no copy: it stands in the same memory, as many elements after the start. An element is so many bytes.

@@ -1,5 +1,6 @@
 -- The table of kids in numbers, as the code has it: a set of kinds is a number whose bit k is the kind k.
-use Rattle.rows.specs.Base.{ℕ, zero, suc, ◌+◌, ◌*◌, ◌/◌, ◌%◌, ◌^◌, ◌≡◌, Bool, List, [], ◌∷◌, eqb, length, get_or, if◌then◌else◌}
+use Rattle.std.specs.Prelude.{◌+◌, ◌*◌, ◌/◌, ◌%◌, ◌^◌, ◌≡◌, ◌∷◌, if◌then◌else◌}
+use Rattle.rows.specs.Base.{ℕ, zero, suc, Bool, List, [], eqb, length, get_or}
 use Rattle.rows.specs.Shape.{Shape, nothing}
 
 unfoldable pub has : ℕ → ℕ → Bool  -- the bit k is 1

@@ -1,5 +1,6 @@
 -- Which rows of a list of words are a tree or a forest, the subtree that a row roots, and words that are a well-formed tree.
-use Rattle.rows.specs.Base.{ℕ, ◌+◌, ◌-◌, ◌*◌, ◌≤◌, ◌<◌, ◌≡◌, List, ltb, length, take, drop, if◌then◌else◌, Tree, Forest, node, nil, cons, one, size, sizes, flats, flat, count, kind_of, kids_of, true, Bool, false}
+use Rattle.std.specs.Prelude.{◌+◌, ◌-◌, ◌*◌, ◌≤◌, ◌<◌, ◌≡◌, if◌then◌else◌}
+use Rattle.rows.specs.Base.{ℕ, List, ltb, length, take, drop, Tree, Forest, node, nil, cons, one, size, sizes, flats, flat, count, kind_of, kids_of, true, Bool, false}
 use Rattle.rows.specs.Shape.{well_formed, all_well_formed, all_fit, fits, last_kind}
 
 pub record Part (words : List ℕ) (low high : ℕ) (ts : Forest) : Type 0 where  -- the rows from low on, up to high and without it, are those of ts

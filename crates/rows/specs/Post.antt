@@ -1,6 +1,7 @@
 -- What the contracts of the leaves say: a row or a record was written, a word was read, the rest was cleared. And what a run of
 -- writes leaves: rows or records were added after the first ones, or the first ones are as they were.
-use Rattle.rows.specs.Base.{ℕ, ◌+◌, ◌-◌, ◌*◌, ◌^◌, ◌≤◌, ◌<◌, ◌≡◌, List, [], ◌∷◌, ◌++◌, length, take, drop, set, get_or, replicate, Forest, sizes, flats, row, Record, record_words}
+use Rattle.std.specs.Prelude.{◌+◌, ◌-◌, ◌*◌, ◌^◌, ◌≤◌, ◌<◌, ◌≡◌, ◌∷◌, ◌++◌}
+use Rattle.rows.specs.Base.{ℕ, List, [], length, take, drop, set, get_or, replicate, Forest, sizes, flats, row, Record, record_words}
 
 pub record RowFits (words n mark first end kids size : ℕ) : Type 0 where  -- in so many words the row n has room, and each of its words fits
   pub room : 6 * n + 6 ≤ words

@@ -1,5 +1,6 @@
 -- Records: what a reading that is not clean says beside its tree. Two words each, number and place.
-use Rattle.tokens.specs.Bool.{ℕ, List, [], ◌∷◌}
+use Rattle.std.specs.Prelude.{◌∷◌}
+use Rattle.tokens.specs.Bool.{ℕ, List, []}
 
 pub data Record : Type 0 where  -- number, place
   says : ℕ → ℕ → Record

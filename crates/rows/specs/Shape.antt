@@ -1,5 +1,6 @@
 -- Well-formed trees: which kids a row of each kind has. One table gives it for all kinds.
-use Rattle.rows.specs.Base.{ℕ, ◌+◌, Bool, true, false, List, [], ◌∷◌, leb, ltb, length, get_or, ◌or◌, ◌and◌, ◌is◌, if◌then◌else◌, between, Tree, Forest, node, nil, cons, count, kind_of, kids_of}
+use Rattle.std.specs.Prelude.{◌+◌, ◌∷◌, if◌then◌else◌}
+use Rattle.rows.specs.Base.{ℕ, Bool, true, false, List, [], leb, ltb, length, get_or, ◌or◌, ◌and◌, ◌is◌, between, Tree, Forest, node, nil, cons, count, kind_of, kids_of}
 use Rattle.rows.specs.Row.{Identifier, Paren, Array, ArrayRestComma, Object, ObjectRestComma, Hole, Spread, Shorthand, ShorthandInit, Property, Key, ComputedKey, Member, Index, Call, Unary, PrefixUpdate, PostfixUpdate, Binary, Logical, Conditional, Assign, CompoundAssign, Sequence, Arrow, AsyncArrow, BindingName, BindingArray, BindingObject, BindingRest, BindingDefault, BindingShorthand, BindingShorthandInit, TargetName, TargetParen, TargetArray, TargetObject, TargetRest, TargetDefault, TargetMember, TargetIndex, TargetProperty, TargetShorthand, TargetShorthandInit}
 
 infixr 30 ◌∪◌

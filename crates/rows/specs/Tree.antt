@@ -1,6 +1,7 @@
 -- Trees, and the rows that a tree is written as: six words a row, the kids before their parent, left to right.
 -- Everything that speaks of trees speaks of `Tree`; only `flat` knows words.
-use Rattle.tokens.specs.Bool.{ℕ, ◌+◌, List, [], ◌∷◌, ◌++◌}
+use Rattle.std.specs.Prelude.{◌+◌, ◌∷◌, ◌++◌}
+use Rattle.tokens.specs.Bool.{ℕ, List, []}
 
 mutual
   pub data Tree : Type 0 where  -- kind, mark, first, end, kids

@@ -1,4 +1,6 @@
 // The flat tree: rows of six words, kids before their parent (RULES R1, R2).
+#![tactic(auto)]
+
 ghost use Rattle.std.specs.Prelude.{length};
 ghost use Rattle.rows.specs.Post.{RowFits, Pushed, RecordFits, PushedRecord, Word, RowInside, KindSet, Cleared};
 

@@ -1,26 +1,26 @@
 // Trees that are well-formed and trees that are not, each on a line of its own: 1 or 0, how many words the subtree of a row has, and
 // the kind of that row (0 if there are no words).
+#![tactic(auto)]
+
 ghost use Rattle.std.specs.Prelude.{◌≡◌, length};
 
-// Standard output.
-const STDOUT: i32 = 1;
+use std::io;
 
 // A line of the output.
-fn show(tree: &[u32], row: usize) {
+fn show(rt: &impl Print, tree: &[u32], row: usize) -> io::Result<()> {
     if trees::well_formed(tree) {
-        io::write_all(STDOUT, b"1 ");
+        rt.print("1 ")?;
     } else {
-        io::write_all(STDOUT, b"0 ");
+        rt.print("0 ")?;
     }
     let part = trees::subtree(tree, row);
-    io::print_decimal(STDOUT, part.len() as u64);
-    io::write_all(STDOUT, b" ");
-    let last = part.len() / 6;
+    let words = part.len();
+    print!(rt; "{words} ")?;
+    let last = words / 6;
     if last == 0 {
-        io::write_all(STDOUT, b"0\n");
+        rt.println("0")
     } else {
-        io::print_decimal(STDOUT, rows::row_word(part, last - 1, 0) as u64);
-        io::write_all(STDOUT, b"\n");
+        rt.println(rows::row_word(part, last - 1, 0))
     }
 }
 
@@ -52,33 +52,34 @@ fn set_word(tree: &mut [u32], at: usize, word: u32) {
 }
 
 // `[a, b] = c` with one word changed.
-fn damaged(at: usize, word: u32) {
+fn damaged(rt: &impl Print, at: usize, word: u32) -> io::Result<()> {
     let mut tree = assigned();
     set_word(&mut tree, at, word);
-    show(&tree, 4);
+    show(rt, &tree, 4)
 }
 
 // A line of the output, of the first words of a tree.
-fn show_first(tree: &[u32], words: usize, row: usize) {
+fn show_first(rt: &impl Print, tree: &[u32], words: usize, row: usize) -> io::Result<()> {
     if words <= tree.len() {
-        show(&tree[0..words], row);
+        show(rt, &tree[0..words], row)?;
     }
+    Ok(())
 }
 
 // A row over a row over a row.
-fn chain(first: u32, second: u32, third: u32) {
+fn chain(rt: &impl Print, first: u32, second: u32, third: u32) -> io::Result<()> {
     let tree = [
         first, 0, 0, 0, 0, 1, second, 0, 0, 0, 1, 2, third, 0, 0, 0, 1, 3,
     ];
-    show(&tree, 1);
+    show(rt, &tree, 1)
 }
 
 // A row over a row over two.
-fn fork(left: u32, right: u32, second: u32, third: u32) {
+fn fork(rt: &impl Print, left: u32, right: u32, second: u32, third: u32) -> io::Result<()> {
     let tree = [
         left, 0, 0, 0, 0, 1, right, 0, 0, 0, 0, 1, second, 0, 0, 0, 2, 3, third, 0, 0, 0, 1, 4,
     ];
-    show(&tree, 2);
+    show(rt, &tree, 2)
 }
 
 // Unary over Unary, as many as there is room for, over an Identifier.
@@ -99,92 +100,92 @@ fn unary(tree: &mut [u32]) {
 }
 
 // The two trees, at each of their rows and outside.
-fn whole() {
+fn whole(rt: &impl Print) -> io::Result<()> {
     let tree = assigned();
-    show(&tree, 0);
-    show(&tree, 1);
-    show(&tree, 2);
-    show(&tree, 3);
-    show(&tree, 4);
-    show(&tree, 5);
-    show(&tree, 18446744073709551615);
+    show(rt, &tree, 0)?;
+    show(rt, &tree, 1)?;
+    show(rt, &tree, 2)?;
+    show(rt, &tree, 3)?;
+    show(rt, &tree, 4)?;
+    show(rt, &tree, 5)?;
+    show(rt, &tree, 18446744073709551615)?;
     let other = parenthesized();
-    show(&other, 2);
-    show(&other, 4);
+    show(rt, &other, 2)?;
+    show(rt, &other, 4)
 }
 
 // Kinds, kid counts, sizes, kids of other kinds, and words that are not looked at.
-fn one_word() {
-    damaged(0, 0);
-    damaged(0, 37);
-    damaged(0, 51);
-    damaged(0, 4294967295);
-    damaged(16, 1);
-    damaged(16, 3);
-    damaged(16, 4294967295);
-    damaged(17, 0);
-    damaged(17, 2);
-    damaged(17, 4);
-    damaged(17, 4294967295);
-    damaged(29, 4);
-    damaged(29, 6);
-    damaged(12, 5);
-    damaged(0, 1);
-    damaged(18, 40);
-    damaged(18, 27);
-    damaged(18, 3);
-    damaged(1, 4294967295);
-    damaged(26, 9);
+fn one_word(rt: &impl Print) -> io::Result<()> {
+    damaged(rt, 0, 0)?;
+    damaged(rt, 0, 37)?;
+    damaged(rt, 0, 51)?;
+    damaged(rt, 0, 4294967295)?;
+    damaged(rt, 16, 1)?;
+    damaged(rt, 16, 3)?;
+    damaged(rt, 16, 4294967295)?;
+    damaged(rt, 17, 0)?;
+    damaged(rt, 17, 2)?;
+    damaged(rt, 17, 4)?;
+    damaged(rt, 17, 4294967295)?;
+    damaged(rt, 29, 4)?;
+    damaged(rt, 29, 6)?;
+    damaged(rt, 12, 5)?;
+    damaged(rt, 0, 1)?;
+    damaged(rt, 18, 40)?;
+    damaged(rt, 18, 27)?;
+    damaged(rt, 18, 3)?;
+    damaged(rt, 1, 4294967295)?;
+    damaged(rt, 26, 9)
 }
 
 // A forest, and lengths that are no multiple of 6.
-fn lengths() {
+fn lengths(rt: &impl Print) -> io::Result<()> {
     let tree = assigned();
-    show_first(&tree, 24, 3);
-    show_first(&tree, 18, 2);
-    show_first(&tree, 29, 2);
-    show_first(&tree, 6, 0);
-    show_first(&tree, 5, 0);
-    show_first(&tree, 0, 0);
+    show_first(rt, &tree, 24, 3)?;
+    show_first(rt, &tree, 18, 2)?;
+    show_first(rt, &tree, 29, 2)?;
+    show_first(rt, &tree, 6, 0)?;
+    show_first(rt, &tree, 5, 0)?;
+    show_first(rt, &tree, 0, 0)
 }
 
 // Rests, properties and closing spreads.
-fn shapes() {
-    chain(30, 33, 32);
-    chain(30, 33, 31);
-    chain(31, 33, 32);
-    chain(31, 33, 31);
-    chain(30, 33, 28);
-    chain(1, 10, 5);
-    chain(1, 10, 6);
-    chain(1, 4, 6);
-    chain(1, 10, 8);
-    chain(40, 41, 20);
-    chain(42, 41, 20);
-    fork(14, 1, 13, 7);
-    fork(14, 30, 13, 7);
-    fork(14, 1, 13, 32);
-    fork(14, 30, 13, 32);
-    fork(30, 7, 28, 4);
-    fork(30, 1, 28, 4);
-    fork(33, 1, 28, 4);
-    fork(1, 1, 27, 4);
-    fork(1, 1, 27, 10);
+fn shapes(rt: &impl Print) -> io::Result<()> {
+    chain(rt, 30, 33, 32)?;
+    chain(rt, 30, 33, 31)?;
+    chain(rt, 31, 33, 32)?;
+    chain(rt, 31, 33, 31)?;
+    chain(rt, 30, 33, 28)?;
+    chain(rt, 1, 10, 5)?;
+    chain(rt, 1, 10, 6)?;
+    chain(rt, 1, 4, 6)?;
+    chain(rt, 1, 10, 8)?;
+    chain(rt, 40, 41, 20)?;
+    chain(rt, 42, 41, 20)?;
+    fork(rt, 14, 1, 13, 7)?;
+    fork(rt, 14, 30, 13, 7)?;
+    fork(rt, 14, 1, 13, 32)?;
+    fork(rt, 14, 30, 13, 32)?;
+    fork(rt, 30, 7, 28, 4)?;
+    fork(rt, 30, 1, 28, 4)?;
+    fork(rt, 33, 1, 28, 4)?;
+    fork(rt, 1, 1, 27, 4)?;
+    fork(rt, 1, 1, 27, 10)
 }
 
 // The longest tree, one row more, and one word less.
-fn longest() {
+fn longest(rt: &impl Print) -> io::Result<()> {
     let mut tree = [0u32; 12294];
     unary(&mut tree);
-    show_first(&tree, 12288, 2046);
-    show_first(&tree, 12294, 2046);
-    show_first(&tree, 12287, 2046);
+    show_first(rt, &tree, 12288, 2046)?;
+    show_first(rt, &tree, 12294, 2046)?;
+    show_first(rt, &tree, 12287, 2046)
 }
 
-fn main() {
-    whole();
-    one_word();
-    lengths();
-    shapes();
-    longest();
+fn main(rt: HostRuntime) -> io::Result<()> {
+    whole(&rt)?;
+    one_word(&rt)?;
+    lengths(&rt)?;
+    shapes(&rt)?;
+    longest(&rt)
 }

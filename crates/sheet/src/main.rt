@@ -1,38 +1,46 @@
 // Prints what the box shows for a sheet file (RULES F): that of the file which the first argument names, or that of
 // standard input where there is none. What it prints is `printout::print_file`'s; here files are opened, read and written.
+#![tactic(auto)]
+
 ghost use Rattle.std.specs.Prelude.{length};
 ghost use Rattle.sheet.specs.Post.{Within};
 
-use libc::{STDERR_FILENO, STDIN_FILENO, STDOUT_FILENO};
+use std::env::FillError;
+use std::fs::File;
+use std::io;
+use std::io::Read;
+use std::rt::Env;
 use text::Printed;
 
-// How many bytes came, or that the file cannot be read.
-#[derive(Drop)]
+// The system's number for a name that is too long.
+const ENAMETOOLONG: i32 = 36;
+
+// How many bytes came, or why the file cannot be read.
+#[derive(Clone, Copy)]
 enum Got {
     Bytes(usize),
-    Failed,
+    Failed(io::Error),
 }
 
 // One read.
-fn read_some(fd: i32, part: &mut [u8]) -> Got
+fn read_some(input: &mut impl Read, part: &mut [u8]) -> Got
     ensures { Within (length part.old) result }
 {
-    let got = libc::read(fd, part);
-    if got < 0 {
-        return Got::Failed;
+    match input.read(part) {
+        Ok(n) => Got::Bytes(n),
+        Err(error) => Got::Failed(error),
     }
-    Got::Bytes(io::count(got, part))
 }
 
 // Reads up to the end of the input, and no further than the buffer goes.
-fn read_file(fd: i32, file: &mut [u8]) -> Got
+fn read_file(input: &mut impl Read, file: &mut [u8]) -> Got
     ensures { Within (length file.old) result }
 {
     let mut at = 0;
     while at < file.len() {
-        let got = read_some(fd, &mut file[at..]);
+        let got = read_some(input, &mut file[at..]);
         let Got::Bytes(n) = got else {
-            return Got::Failed;
+            return got;
         };
         if n == 0 {
             return Got::Bytes(at);
@@ -42,69 +50,86 @@ fn read_file(fd: i32, file: &mut [u8]) -> Got
     Got::Bytes(at)
 }
 
-// Says on standard error why something failed.
-fn fail(what: &[u8]) {
-    io::write_all(STDERR_FILENO, b"sheet: ");
-    os::fail(what);
+// The system's words for an error, without the number that stands after them.
+fn words_of(text: &str) -> &str {
+    match text.split_once(" (os error ") {
+        Some((words, _)) => words,
+        None => text,
+    }
 }
 
-fn write(text: &[u8]) {
-    if !io::write_all(STDOUT_FILENO, text) {
-        fail(b"standard output");
+// Says on standard error why something failed.
+fn fail(rt: &(impl Eprint + Alloc), what: &str, error: io::Error) -> io::Result<()> {
+    let text = format!(in rt.alloc(); "{error}")?;
+    let why = words_of(text.as_str());
+    eprintln!(rt; "sheet: {what}: {why}")
+}
+
+fn write(rt: &(impl Print + Eprint + Alloc), text: &[u8]) -> io::Result<()> {
+    match rt.write_all(text) {
+        Ok(()) => Ok(()),
+        Err(error) => fail(rt, "standard output", error),
     }
 }
 
 // Prints what the box shows for the bytes of a file. `print_file` promises that no text is longer than the buffer.
-fn print_bytes(bytes: &[u8]) {
+fn print_bytes(rt: &(impl Print + Eprint + Alloc), bytes: &[u8]) -> io::Result<()> {
     let mut rows = [0u32; 12288];
     let mut records = [0u32; 4096];
     let mut out = [0u8; 180244];
     let printed = printout::print_file(bytes, &mut rows, &mut records, &mut out);
     match printed {
-        Printed::Whole(n) => write(&out[..n]),
-        Printed::Short => {
-            io::write_all(STDERR_FILENO, b"sheet: the text is too long\n");
-        }
+        Printed::Whole(n) => write(rt, &out[..n]),
+        Printed::Short => rt.eprintln("sheet: the text is too long"),
     }
 }
 
-// Prints what the box shows for the file of a descriptor. One byte more than the longest sheet file has is read: a file that goes on is
+// Prints what the box shows for the file that an input has. One byte more than the longest sheet file has is read: a file that goes on is
 // no sheet's, whatever follows.
-fn print_input(fd: i32, name: &[u8]) {
+fn print_input(
+    rt: &(impl Print + Eprint + Alloc),
+    input: &mut impl Read,
+    name: &str,
+) -> io::Result<()> {
     let mut file = [0u8; 8205];
-    let got = read_file(fd, &mut file);
+    let got = read_file(input, &mut file);
     match got {
-        Got::Bytes(n) => print_bytes(&file[..n]),
-        Got::Failed => fail(name),
+        Got::Bytes(n) => print_bytes(rt, &file[..n]),
+        Got::Failed(error) => fail(rt, name, error),
     }
 }
 
 // Prints what the box shows for the file of a name.
-fn print_named(name: &[u8]) {
-    let fd = os::open_read(name);
-    if fd < 0 {
-        fail(name);
-        return;
+fn print_named(rt: &HostRuntime, name: &str) -> io::Result<()> {
+    match File::open(rt, name) {
+        Ok(mut file) => print_input(rt, &mut file, name),
+        Err(error) => fail(rt, name, error),
     }
-    print_input(fd, name);
-    libc::close(fd);
 }
 
-fn main() {
-    let arguments = os::arg_count();
-    if arguments < 2 {
-        print_input(STDIN_FILENO, b"standard input");
-        return;
+// Whether the program was started with an argument of this place; the place 0 has its own name.
+fn is_given(rt: &impl Env, place: usize) -> bool {
+    let mut start = [0u8; 1];
+    match rt.arg(place, &mut start) {
+        Err(FillError::NotPresent) => false,
+        _ => true,
     }
-    if 2 < arguments {
-        io::write_all(STDERR_FILENO, b"usage: sheet [FILE]\n");
-        return;
+}
+
+fn main(rt: HostRuntime) -> io::Result<()> {
+    if !is_given(&rt, 1) {
+        return print_input(&rt, &mut rt.stdin(), "standard input");
     }
-    let mut name = io::buffer();
-    let n = os::arg(1, &mut name);
-    if os::errno() != 0 {
-        fail(b"the file's name");
-        return;
+    if is_given(&rt, 2) {
+        return rt.eprintln("usage: sheet [FILE]");
     }
-    print_named(&name[..n]);
+    let mut name = [0u8; 4096];
+    let Ok(n) = rt.arg(1, &mut name) else {
+        let error = io::Error::from_raw_os_error(ENAMETOOLONG);
+        return fail(&rt, "the file's name", error);
+    };
+    match str::from_utf8(&name[..n]) {
+        Ok(name) => print_named(&rt, name),
+        Err(_) => rt.eprintln("sheet: the file's name: not UTF-8"),
+    }
 }

@@ -1,5 +1,6 @@
 -- Sheet files (RULES F1): which bytes are the file of which kinds and flags.
-use Rattle.rows.specs.Base.{ℕ, zero, suc, ◌/◌, ◌%◌, ◌≤◌, ◌≡◌, List, [], ◌∷◌, ◌++◌, length}
+use Rattle.std.specs.Prelude.{◌/◌, ◌%◌, ◌≤◌, ◌≡◌, ◌∷◌, ◌++◌}
+use Rattle.rows.specs.Base.{ℕ, zero, suc, List, [], length}
 
 abbrev pub little_endian : ℕ → ℕ → List ℕ  -- the low bytes of a number, so many of them, the lowest first
 little_endian zero n = []

@@ -1,6 +1,7 @@
 -- What the contracts say: which part of a file is handed back, and what a block's head says.
+use Rattle.std.specs.Prelude.{◌+◌, ◌*◌, ◌≤◌, ◌≡◌, ◌++◌}
 use Rattle.std.specs.Borrow.{Bor}
-use Rattle.rows.specs.Base.{ℕ, ◌+◌, ◌*◌, ◌≤◌, ◌≡◌, List, [], ◌++◌, length, get_or, take, drop}
+use Rattle.rows.specs.Base.{ℕ, List, [], length, get_or, take, drop}
 use Rattle.rows.specs.Handed.{OwnFrom}
 use Rattle.sheet_file.specs.{Layout.block, Layout.Sheet, declared.Found.Found}
 

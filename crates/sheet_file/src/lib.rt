@@ -1,11 +1,13 @@
 // Sheet files (RULES F1): the kinds and flags in the bytes of a file, as functions on slices.
+#![tactic(auto)]
+
 ghost use Rattle.std.specs.Prelude.{◌≤◌, ◌≡◌, length};
 ghost use Rattle.rows.specs.Part.{Decides};
 ghost use Rattle.sheet_file.specs.Layout.{Sheet};
 ghost use Rattle.sheet_file.specs.Post.{KindsHanded, FlagsHanded, Opens, first_u32};
 
 // What the bytes of a block say: how many bytes its payload has, or that no such block stands there.
-#[derive(Drop)]
+#[derive(Clone, Copy)]
 enum Found {
     Bytes(usize),
     Nothing,

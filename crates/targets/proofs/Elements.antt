@@ -1,34 +1,33 @@
 -- An Array whose kids all become elements by themselves: what is found of it, and what is made of it.
 -- Assumes nothing.
-use Prim.Native.Nat.{ℕ, ◌+◌, ◌-◌, ◌*◌, ◌≤◌, ◌<◌, ◌%◌}
+use Rattle.std.specs.Prelude.{if◌then◌else◌}
+use Prim.Native.Nat.{ℕ, ◌+◌, ◌-◌, ◌≤◌, ◌<◌}
 use mathlib.Core.Path.{◌≡◌, refl, sym, ap, ◌∙◌}
 use mathlib.Core.Bool.{Bool, true, false}
-use mathlib.Core.List.{List, [], ◌++◌}
+use mathlib.Core.List.{List, []}
 use native.Mathlib.Omega.{arith}
 use lib.Dec.{eqb}
-use lib.ListN.{length, get_or}
-use Rattle.tokens.specs.Bool.{if◌then◌else◌}
-use Rattle.tokens.specs.declared.cause.Cause.{Cause}
+use lib.ListN.{length}
 use Rattle.rows.specs.Row as row
-use Rattle.rows.specs.Tree.{Tree, Forest, node, nil, cons, one, join, count, flat, kind_of, mark_of, first_of, end_of, kids_of}
+use Rattle.rows.specs.Tree.{Tree, Forest, node, nil, cons, count, kind_of, mark_of, first_of, end_of, kids_of}
 use Rattle.rows.specs.Record.{Record}
 use Rattle.rows.specs.Post.{Word, KindSet}
 use Rattle.rows.proofs.Rows.{Next}
 use Rattle.conversion.specs.Conversion as def
 use Rattle.conversion.specs.Conversion.{Outcome, turned, refused, change, as_any, roles, over, both, convert_as, convert_kids}
 use Rattle.conversion.proofs.RuleHolds.{refused_turned}
-use Rattle.conversion.proofs.Potentials.{turned_is, turned_records}
+use Rattle.conversion.proofs.Potentials.{turned_records}
 use Rattle.roles.specs.Plan as code
 use Rattle.roles.specs.Meaning as means
 use Rattle.roles.specs.ShortCut.{is_element, named_kind}
-use Rattle.targets.specs.Post.{Subtree, SizeInside, WordInside, FirstRow, near, begins_of, PlanAt, Filled, Made, RowConverted}
+use Rattle.targets.specs.Post.{Subtree, SizeInside, WordInside, FirstRow, near, begins_of, PlanAt, RowConverted}
 use Rattle.targets.specs.Post.{all_elements, PlainArray, PlainReady, PlainTurned}
-use Rattle.targets.specs.declared.Conversion.TheVariants.{Turned, Refused}
+use Rattle.targets.specs.declared.Conversion.TheVariants.{Turned}
 use Rattle.targets.proofs.Flat.{Walk, walk_start, walk_some, walk_next, walk_past, whole_next, root_inside, kid_tree, kid_size, kid_text}
 use Rattle.targets.proofs.Looking.{reads_kind, reads_size}
 use Rattle.targets.proofs.Records.{filled_none, written_none}
 use Rattle.targets.proofs.Judging.{by_change}
-use Rattle.targets.proofs.Turning.{Turning, Kindly, KidsReady, first_element, rest_elements, elements_join, turn_ends}
+use Rattle.targets.proofs.Turning.{Turning, KidsReady, first_element, rest_elements, elements_join, turn_ends}
 use Rattle.targets.proofs.Finishing.{finished, ends_none}
 use Rattle.targets.proofs.ShortCuts.{element_turned}
 

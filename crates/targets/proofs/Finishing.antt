@@ -1,13 +1,13 @@
 -- A row is finished: its kind, and the records before those of its kids.
 -- Assumes nothing.
-use Prim.Native.Nat.{ℕ, ◌+◌, ◌-◌, ◌*◌, ◌≤◌, ◌<◌, ◌/◌, ◌%◌}
-use mathlib.Core.Path.{◌≡◌, refl, sym, ap, ◌∙◌}
+use Prim.Native.Nat.{ℕ, ◌+◌, ◌-◌, ◌*◌, ◌/◌, ◌%◌}
+use mathlib.Core.Path.{◌≡◌, sym, ap, ◌∙◌}
 use mathlib.Core.List.{List, [], ◌∷◌}
 use native.Mathlib.Omega.{arith}
-use lib.ListN.{length, get_or, set, length-set}
+use lib.ListN.{length, get_or, set}
 use lib.Seq.{get_or-set_other}
 use borrow.Author.Tests.{ne_eqb}
-use Rattle.rows.specs.Record.{Record, says}
+use Rattle.rows.specs.Record.{says}
 use Rattle.rows.specs.Post.{Word, KindSet, RowInside}
 use Rattle.roles.specs.Plan as code
 use Rattle.roles.specs.Meaning.{word, commas, kind, before}

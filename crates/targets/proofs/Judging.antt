@@ -1,5 +1,6 @@
 -- What judging a row finds, step by step: the kids are judged from the last to the first.
 -- Assumes nothing.
+use Rattle.std.specs.Prelude.{if◌then◌else◌}
 use Prim.Native.Nat.{ℕ, zero, suc, ◌+◌, ◌-◌, ◌*◌, ◌≤◌, ◌<◌, ◌^◌, ◌/◌, ◌%◌}
 use mathlib.Core.Path.{◌≡◌, refl, sym, ap, ◌∙◌}
 use mathlib.Core.Bool.{Bool, true, false}
@@ -8,9 +9,8 @@ use native.Mathlib.Omega.{arith}
 use lib.Dec.{eqb}
 use borrow.Author.Tests.{eq-eqb, ne_eqb}
 use lib.ListN.{length, get_or, length-append}
-use Rattle.tokens.specs.Bool.{if◌then◌else◌}
 use Rattle.tokens.specs.declared.cause.Cause.{Cause}
-use Rattle.rows.specs.Tree.{Tree, Forest, node, nil, cons, one, count, size, sizes, kids_of, mark_of, first_of, end_of}
+use Rattle.rows.specs.Tree.{Tree, Forest, node, nil, cons, count, size, sizes, kids_of, mark_of, first_of, end_of}
 use Rattle.rows.specs.Record.{Record}
 use Rattle.rows.specs.Post.{Word}
 use Rattle.rows.proofs.Rows.{sizes_join, Next}

@@ -1,19 +1,20 @@
 -- The code looks at a rest's argument itself, and the definition through Parens: where the argument can be converted, both see
 -- the same. In an array no argument is then of a wrong kind, in an object only an Array or Object.
 -- Assumes nothing.
-use Prim.Native.Nat.{ℕ, ◌+◌}
+use Rattle.std.specs.Prelude.{if◌then◌else◌}
+use Prim.Native.Nat.{ℕ}
 use mathlib.Core.Path.{◌≡◌, refl, ap}
 use mathlib.Core.Bool.{Bool, true, false, not}
 use mathlib.Core.List.{List, [], ◌∷◌, ◌++◌}
 use native.Mathlib.Omega.{arith}
 use lib.Dec.{eqb, leb}
 use borrow.Author.Tests.{eqb-true, ne_eqb, leb-true}
-use Rattle.tokens.specs.Bool.{if◌then◌else◌, ◌and◌, ◌or◌}
+use Rattle.tokens.specs.Bool.{◌and◌}
 use Rattle.tokens.specs.declared.cause.Cause.{Cause}
 use Rattle.rows.specs.Row as row
 use Rattle.rows.specs.Tree.{Tree, Forest, node, nil, cons, one, count, kind_of, first_of, kids_of}
 use Rattle.rows.specs.Record.{Record, rest_argument}
-use Rattle.conversion.specs.Conversion.{Outcome, turned, refused, Role, Change, refuse, keep, turn, only, is_array_or_object, is_reference, last_of, inner_kind, inner_kinds, array_argument, object_argument, seen, as_simple, as_any, as_value, as_element, as_last_element, as_property, as_last_property, as_name, change, roles, over, both, convert_as, convert_kids}
+use Rattle.conversion.specs.Conversion.{Outcome, turned, refused, Role, Change, refuse, keep, turn, only, is_array_or_object, is_reference, last_of, inner_kind, inner_kinds, array_argument, object_argument, seen, as_simple, as_any, as_value, as_element, as_last_element, as_property, as_last_property, as_name, change, roles, over, convert_as, convert_kids}
 use Rattle.targets.specs.Post.{near}
 use Rattle.conversion.proofs.RuleHolds.{by_test, both_true, one_kid, refused_turned}
 use Rattle.conversion.proofs.Shapes.{cons_parts}

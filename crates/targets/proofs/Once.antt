@@ -7,7 +7,6 @@ use Rattle.rows.specs.Tree.{Tree}
 use Rattle.rows.specs.Record.{Record}
 use Rattle.conversion.specs.Conversion.{Outcome, turned, refused, Role, convert_as}
 use Rattle.targets.specs.Post.{Subtree, Made, RowConverted}
-use Rattle.conversion.specs.Entry.{done}
 use Rattle.targets.specs.declared.Conversion.{Conversion}
 
 made_once : {before after r₀ : List ℕ} {t : Tree} {start : ℕ} {records : List Record} {rows₁ rows₂ r₁ r₂ : List ℕ} → Made before after r₀ t start records rows₁ r₁

@@ -1,14 +1,15 @@
 -- What a plan says of a row, by its number: that its kids are converted, or what comes of it alone; and what a number tells of a conversion.
 -- Assumes nothing.
+use Rattle.std.specs.Prelude.{if◌then◌else◌}
 use Prim.Native.Nat.{ℕ, suc, ◌+◌, ◌*◌, ◌≤◌, ◌<◌, ◌^◌, ◌/◌, ◌%◌}
-use mathlib.Core.Path.{◌≡◌, refl, sym, ap, ◌∙◌}
+use mathlib.Core.Path.{◌≡◌, refl, ap, ◌∙◌}
 use mathlib.Core.Bool.{Bool, true, false}
 use mathlib.Core.List.{List, [], ◌∷◌}
 use native.Mathlib.Omega.{arith}
 use lib.Dec.{eqb, leb}
 use lib.ListN.{length}
 use borrow.Author.Tests.{ne_eqb, leb-true, le-leb, lt-leb}
-use Rattle.tokens.specs.Bool.{if◌then◌else◌, ◌is◌}
+use Rattle.tokens.specs.Bool.{◌is◌}
 use Rattle.tokens.specs.declared.cause.Cause.{Cause}
 use Rattle.tokens.specs.declared.cause.Cause.TheVariants.{Target as NoTarget, Spread as SpreadNotLast}
 use Rattle.rows.specs.Record.{Record, rest_argument, compound_default}
@@ -18,7 +19,6 @@ use Rattle.roles.specs.Meaning.{word, commas, kind, before, after, kid, kids, pl
 use Rattle.targets.specs.Outcome as outcome
 use Rattle.targets.specs.Outcome.{told}
 use Rattle.targets.specs.Post.{Own, Sums}
-use Rattle.targets.specs.declared.Conversion.{Conversion}
 use Rattle.targets.specs.declared.Conversion.TheVariants.{Turned, Refused}
 
 pub told_turned : (n r : ℕ) → r ≡ 2 * n → told r ≡ Turned n

@@ -1,5 +1,6 @@
 -- Where all there is to convert in a row is one name: what the code finds and writes there is what the definition gives.
 -- Assumes nothing.
+use Rattle.std.specs.Prelude.{if◌then◌else◌}
 use Prim.Native.Nat.{ℕ, ◌+◌, ◌-◌, ◌*◌, ◌≤◌, ◌<◌, ◌/◌, ◌%◌}
 use mathlib.Core.Path.{◌≡◌, refl, sym, ap, ◌∙◌}
 use mathlib.Core.Bool.{Bool, true, false}
@@ -9,7 +10,7 @@ use lib.Dec.{eqb}
 use lib.ListN.{length, get_or, set, length-set}
 use lib.Seq.{set-set}
 use borrow.Author.Tests.{eqb-true, ne_eqb}
-use Rattle.tokens.specs.Bool.{if◌then◌else◌, ◌and◌, ◌or◌}
+use Rattle.tokens.specs.Bool.{◌or◌}
 use Rattle.rows.specs.Row as row
 use Rattle.rows.specs.Tree.{Tree, Forest, node, nil, cons, one, join, count, size, sizes, flat, flats, kind_of, mark_of, first_of, end_of, kids_of}
 use Rattle.rows.specs.Post.{Word, KindSet, RowInside}

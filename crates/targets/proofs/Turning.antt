@@ -1,9 +1,9 @@
 -- What turning a row leaves in both buffers, step by step: the kids are turned from the last to the first, and their records
 -- are written from the back.
 -- Assumes nothing.
+use Rattle.std.specs.Prelude.{if◌then◌else◌}
 use Prim.Native.Nat.{ℕ, ◌+◌, ◌-◌, ◌*◌, ◌≤◌, ◌<◌, ◌%◌}
 use mathlib.Core.Bool.{Bool, true, false}
-use Rattle.tokens.specs.Bool.{if◌then◌else◌}
 use mathlib.Core.Path.{◌≡◌, refl, sym, ap, ◌∙◌}
 use mathlib.Core.List.{List, [], ◌∷◌, ◌++◌, append_assoc}
 use native.Mathlib.Omega.{arith}
@@ -11,8 +11,7 @@ use lib.Dec.{eqb}
 use borrow.Author.Tests.{eqb-true, eqb-false}
 use lib.ListN.{length, get_or, set, length-append, length-set}
 use lib.Seq.{set-append_seam}
-use Rattle.tokens.specs.declared.cause.Cause.{Cause}
-use Rattle.rows.specs.Tree.{Tree, Forest, node, nil, cons, one, join, count, size, sizes, flat, flats, mark_of, first_of, end_of, kids_of, kind_of}
+use Rattle.rows.specs.Tree.{Tree, Forest, node, nil, cons, join, count, size, sizes, flat, flats, mark_of, first_of, end_of, kids_of, kind_of}
 use Rattle.rows.specs.Record.{Record}
 use Rattle.rows.specs.Post.{Word, KindSet, RowInside}
 use Rattle.rows.proofs.Flat.{length_flats}

@@ -1,5 +1,6 @@
 -- Records stand before those of kids only where there are kids.
 -- Assumes nothing.
+use Rattle.std.specs.Prelude.{if◌then◌else◌}
 use Prim.Native.Nat.{ℕ, zero, suc, ◌<◌, ◌%◌}
 use mathlib.Core.Path.{◌≡◌, refl}
 use mathlib.Core.Bool.{Bool, true, false, not}
@@ -7,9 +8,9 @@ use mathlib.Core.List.{List, [], ◌∷◌}
 use native.Mathlib.Omega.{arith}
 use lib.Dec.{eqb}
 use borrow.Author.Tests.{ne_eqb}
-use Rattle.tokens.specs.Bool.{if◌then◌else◌, ◌and◌}
+use Rattle.tokens.specs.Bool.{◌and◌}
 use Rattle.rows.specs.Row as row
-use Rattle.rows.specs.Tree.{Tree, Forest, node, nil, cons, count, kids_of}
+use Rattle.rows.specs.Tree.{Tree, node, count, kids_of}
 use Rattle.rows.specs.Record.{Record}
 use Rattle.tokens.specs.declared.cause.Cause.{Cause}
 use Rattle.conversion.specs.Conversion as def

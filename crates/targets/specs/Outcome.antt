@@ -1,5 +1,6 @@
 -- What the code's own Conversion says of an outcome: the number of its records, or its cause; and the number that stands for one.
-use Rattle.rows.specs.Base.{ℕ, ◌+◌, ◌/◌, ◌%◌, List, length, if◌then◌else◌, ◌is◌}
+use Rattle.std.specs.Prelude.{◌+◌, ◌/◌, ◌%◌, if◌then◌else◌}
+use Rattle.rows.specs.Base.{ℕ, length, ◌is◌}
 use Rattle.tokens.specs.declared.cause.Cause.TheVariants.{Target as NoTarget, Spread as SpreadNotLast}
 use Rattle.conversion.specs.Conversion.{Outcome, turned, refused, Change, refuse, keep, turn}
 use Rattle.targets.specs.{declared.Conversion.Conversion, declared.Conversion.TheVariants.Turned, declared.Conversion.TheVariants.Refused}

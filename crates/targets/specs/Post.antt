@@ -1,5 +1,6 @@
 -- What the contracts of the conversion say: the row is the root of a tree, what is found of it, and what is in both buffers after.
-use Rattle.rows.specs.Base.{ℕ, ◌+◌, ◌-◌, ◌*◌, ◌≤◌, ◌<◌, ◌^◌, ◌%◌, ◌≡◌, List, [], ◌∷◌, ◌++◌, length, get_or, take, drop, set, if◌then◌else◌, Cause, Tree, node, size, flat, count, kind_of, first_of, kids_of, Forest, nil, cons, Record, rest_argument, record_words, Bool, true, false}
+use Rattle.std.specs.Prelude.{◌+◌, ◌-◌, ◌*◌, ◌≤◌, ◌<◌, ◌^◌, ◌%◌, ◌≡◌, ◌∷◌, ◌++◌, if◌then◌else◌}
+use Rattle.rows.specs.Base.{ℕ, List, [], length, get_or, take, drop, set, Cause, Tree, node, size, flat, count, kind_of, first_of, kids_of, Forest, nil, cons, Record, rest_argument, record_words, Bool, true, false}
 use Rattle.conversion.specs.Conversion.{turned, refused, convert_as, potential, Role, any, property, last_property}
 use Rattle.targets.specs.{declared.Conversion.Conversion, declared.Conversion.TheVariants.Turned, declared.Conversion.TheVariants.Refused}
 use Rattle.rows.specs.Post.{KindSet}

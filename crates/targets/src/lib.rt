@@ -1,4 +1,6 @@
 // Conversion of what was read as an expression to an assignment target (RULES C).
+#![tactic(auto)]
+
 ghost use Rattle.std.specs.Prelude.{◌-◌, ◌*◌, ◌≡◌, [], ◌∷◌, length};
 ghost use Rattle.rows.specs.Record.{says};
 ghost use Rattle.rows.specs.Post.{Word};
@@ -14,7 +16,7 @@ use tokens::cause::{Answer, Cause, Counts};
 use trees::well_formed;
 
 // What comes of a conversion: the number of records added, or why it is refused.
-#[derive(Drop)]
+#[derive(Clone, Copy)]
 pub enum Conversion {
     Turned(usize),
     Refused(Cause),

@@ -1,5 +1,6 @@
 -- Laws of printing into a buffer: of `laid_over`, a text over a buffer; of `Holds`, the buffer and the pen after some text; of `Adds`.
 -- Assumes nothing.
+use Rattle.std.specs.Prelude.{if◌then◌else◌}
 use Prim.Native.Nat.{ℕ, suc, ◌+◌, ◌≤◌, ◌<◌, min}
 use mathlib.Core.Path.{◌≡◌, refl, sym, ap, ◌∙◌}
 use mathlib.Core.Bool.{Bool, true, false}
@@ -10,7 +11,6 @@ use native.Mathlib.Numerals.{add-one}
 use lib.ListN.{length, get_or, take, set, length-append}
 use lib.Seq.{take-suc, take_all}
 use borrow.Author.Tests.{lt-ltb, le-ltb, ltb-true, ltb-false}
-use Rattle.tokens.specs.Bool.{if◌then◌else◌}
 use Rattle.text.specs.Post.{laid_over, Prints, Holds, Adds, Told}
 use Rattle.text.specs.declared.Printed.{Printed}
 use Rattle.text.specs.declared.Pen.{Pen}

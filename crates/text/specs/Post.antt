@@ -1,5 +1,6 @@
 -- What the contracts say: a text was laid over a lent buffer, and how long it is; and of the leaves, that a text was added.
-use Rattle.tokens.specs.Bool.{ℕ, min, ◌≡◌, List, [], ◌∷◌, ◌++◌, ltb, length, if◌then◌else◌}
+use Rattle.std.specs.Prelude.{◌≡◌, ◌∷◌, ◌++◌, if◌then◌else◌}
+use Rattle.tokens.specs.Bool.{ℕ, min, List, [], ltb, length}
 use Rattle.text.specs.{declared.Printed.Printed, declared.Pen.Pen}
 
 -- a text laid over a buffer: its bytes one by one as far as the buffer goes, and then what the buffer held

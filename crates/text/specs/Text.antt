@@ -1,7 +1,8 @@
 -- What the box prints (RULES F3): the text of an answer, byte by byte in ASCII.
+use Rattle.std.specs.Prelude.{◌+◌, ◌*◌, ◌/◌, ◌%◌, ◌∷◌, ◌++◌, if◌then◌else◌}
 use Prim.Native.Char.{code}
 use Prim.Native.String.{String}
-use Rattle.tokens.specs.Bool.{ℕ, zero, suc, ◌+◌, ◌*◌, ◌/◌, ◌%◌, List, [], ◌∷◌, ◌++◌, ltb, get_or, if◌then◌else◌}
+use Rattle.tokens.specs.Bool.{ℕ, zero, suc, List, [], ltb, get_or}
 use Rattle.tokens.specs.{Cause.number, Cause.place, declared.cause.Answer.Answer, declared.cause.Answer.TheVariants.Read, declared.cause.Answer.TheVariants.Refused}
 use Prim.Native.String as Text
 

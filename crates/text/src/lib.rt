@@ -1,4 +1,6 @@
 // What the box prints (RULES F3), written into a lent buffer.
+#![tactic(auto)]
+
 ghost use Rattle.std.specs.Prelude.{◌+◌, ◌*◌, ◌≤◌, ◌<◌, ◌≡◌, get_or, [], ◌∷◌, ◌++◌};
 ghost use Rattle.text.specs.Text.{ascii, decimal, line, line_of, lines_from, text, bad_file};
 ghost use Rattle.tokens.specs.Cause.{number, place};
@@ -8,14 +10,14 @@ use tokens::cause::{Answer, Cause, Counts};
 use tokens::causes;
 
 // How long a printed text is, or that the buffer is shorter; it then holds the beginning of the text.
-#[derive(Drop)]
+#[derive(Clone, Copy)]
 pub enum Printed {
     Whole(usize),
     Short,
 }
 
 // Where the next byte goes, and whether one was lost because the buffer is full.
-#[derive(Drop)]
+#[derive(Clone, Copy)]
 struct Pen {
     at: usize,
     full: bool,

@@ -1,5 +1,6 @@
 -- The quick looks at a list, seen from a place inside it, and what they tell of the checks.
 -- Assumes nothing.
+use Rattle.std.specs.Prelude.{if◌then◌else◌}
 use Prim.Native.Nat.{ℕ, zero, suc, ◌+◌, ◌-◌, ◌≤◌, ◌<◌, min, max}
 use mathlib.Core.Path.{◌≡◌, refl, sym, ap, ◌∙◌}
 use mathlib.Core.Bool.{Bool, true, false}
@@ -11,7 +12,7 @@ use lib.Dec.{leb, ltb}
 use lib.ListN.{length, get_or, drop, drop_of_length-le, length-drop}
 use lib.Seq.{drop-cons, drop-drop}
 use borrow.Author.Tests.{le-leb, lt-leb, leb-true, leb-false, le-ltb, eqb-true, ne_eqb}
-use Rattle.tokens.specs.Bool.{◌or◌, ◌and◌, ◌is◌, if◌then◌else◌, between}
+use Rattle.tokens.specs.Bool.{◌or◌, ◌and◌, ◌is◌, between}
 use Rattle.tokens.specs.Check.{first_such, check_flags, check_kinds, nesting, depth_after, check_nesting}
 use Rattle.tokens.specs.Kind as Kind
 use Rattle.tokens.specs.declared.cause.Cause.{Cause}
@@ -202,7 +203,7 @@ walked : (depth most p n : ℕ) (ks : List ℕ) → depth ≤ most → n ≤ len
 unfolding count
 walked depth most p zero ks d l h = record { after = depth; few = omega arith; same = let e : p + 0 ≡ p = omega arith in rw e }
 walked depth most p (suc n) [] d l h = absurd (omega arith)
-walked depth most p (suc n) (k ∷ ks) d l h = walked_more d h (walked _ _ (suc p) n ks (omega (arith, depth_step depth k)) (omega arith) (omega arith))
+walked depth most p (suc n) (k ∷ ks) d l h = walked_more d h (walked (depth_after depth k) (most - one_of k Kind.RParen Kind.RBrack Kind.RCurly + one_of k Kind.LParen Kind.LBrack Kind.LCurly) (suc p) n ks (omega (arith, depth_step depth k)) (omega arith) (omega arith))
 
 -- past the last token nothing is found
 walked_all : {depth most p n : ℕ} {ks : List ℕ} → Walked depth most p n ks → length ks ≤ n → Checked.Fine ≡ nesting depth p ks

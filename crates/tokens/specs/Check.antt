@@ -1,6 +1,7 @@
 -- The checks of a list before it is read (RULES A1, A2, A5, A6, A7), each by itself.
 -- An entry runs those that RULES X names for it, in the order of their numbers: the first refusal is the answer.
-use Rattle.tokens.specs.Bool.{ℕ, suc, ◌+◌, ◌-◌, zero, Bool, true, List, [], ◌∷◌, ltb, length, drop, ◌or◌, ◌is◌, if◌then◌else◌, ◌and◌, between, ◌≡◌}
+use Rattle.std.specs.Prelude.{◌+◌, ◌-◌, ◌∷◌, if◌then◌else◌, ◌≡◌}
+use Rattle.tokens.specs.Bool.{ℕ, suc, zero, Bool, true, List, [], ltb, length, drop, ◌or◌, ◌is◌, ◌and◌, between}
 use Rattle.tokens.specs.{declared.cause.Cause.Cause, declared.check.Checked.Checked}
 use Rattle.tokens.specs.Kind as Kind
 

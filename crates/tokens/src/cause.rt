@@ -1,7 +1,7 @@
 // The answers that the box can show: Read with its counts, or Refused with a cause that carries its place.
 
 // Why a list or a tree is refused. Each case carries its place.
-#[derive(Drop)]
+#[derive(Clone, Copy)]
 pub enum Cause {
     // 1: no tokens, or over 2,048 (a tree: no words, or over 12,288)
     Length(usize),
@@ -34,7 +34,7 @@ pub enum Cause {
 }
 
 // What a reading counts.
-#[derive(Drop)]
+#[derive(Clone, Copy)]
 pub struct Counts {
     pub rows: usize,
     pub records: usize,
@@ -42,7 +42,7 @@ pub struct Counts {
 }
 
 // The answer of an entry.
-#[derive(Drop)]
+#[derive(Clone, Copy)]
 pub enum Answer {
     Read(Counts),
     Refused(Cause),

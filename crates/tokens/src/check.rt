@@ -1,7 +1,7 @@
 // What a check of a list or a place finds. The checks of a list are in `checks`.
 use crate::cause::Cause;
 
-#[derive(Drop)]
+#[derive(Clone, Copy)]
 pub enum Checked {
     Fine,
     Refused(Cause),

@@ -125,7 +125,7 @@ fn one_of(k: u8, a: u8, b: u8, c: u8) -> u8
 }
 
 // How many tokens open a bracket, and how many close one.
-#[derive(Drop)]
+#[derive(Clone, Copy)]
 struct Brackets {
     opened: u8,
     closed: u8,

@@ -1,5 +1,7 @@
 // The tokens of a sheet (RULES T): kinds by name, what stands at a place, and the answers that the box
 // can show.
+#![tactic(auto)]
+
 ghost use Rattle.std.specs.Prelude.{◌≡◌, ◌+◌, get_or};
 ghost use Rattle.tokens.specs.Token.{kind_at, flag_at};
 

@@ -1,89 +1,73 @@
 // What `tokens` answers, printed: the classes of all 256 bytes, what stands at a place, the causes, and the checks of the lists that
 // `stdin` describes. tests/tokens.py makes `stdin` and `stdout`; it was written from the rules and not from this program.
+#![tactic(auto)]
+
+ghost use Rattle.std.specs.Prelude.{IfOk, ◌≤◌, length};
+
+use std::io;
+use std::io::Read;
 use tokens::cause::Cause;
 use tokens::check::Checked;
 use tokens::{causes, checks, classes};
-
-fn print(label: &[u8], n: usize) {
-    io::write_all(1, label);
-    io::print_decimal(1, n as u64);
-}
-
-fn end_line() {
-    io::write_all(1, b"\n");
-}
 
 fn wide(k: u8) -> usize {
     k as usize
 }
 
 fn told(test: bool) -> u8 {
-    if test { b'1' } else { b'0' }
+    if test { 1 } else { 0 }
 }
 
 // The classes of a byte: name, word, literal, and the three-way answer's name and modifier.
-fn print_classes(k: u8) {
-    print(b"byte ", wide(k));
-    io::write_all(1, b": ");
-    let classes = [
-        told(classes::is_name(k)),
-        told(classes::is_word(k)),
-        told(classes::is_literal(k)),
-        told(classes::is_binding_identifier(k)),
-        told(classes::is_modifier_kind(k)),
-        b'\n',
-    ];
-    io::write_all(1, &classes);
+fn print_classes(rt: &impl Print, k: u8) -> io::Result<()> {
+    let name = told(classes::is_name(k));
+    let word = told(classes::is_word(k));
+    let literal = told(classes::is_literal(k));
+    let binding = told(classes::is_binding_identifier(k));
+    let modifier = told(classes::is_modifier_kind(k));
+    println!(rt; "byte {k}: {name}{word}{literal}{binding}{modifier}")
 }
 
-fn all_classes() {
+fn all_classes(rt: &impl Print) -> io::Result<()> {
     let mut k: u8 = 0;
     while k < 255 {
-        print_classes(k);
+        print_classes(rt, k)?;
         k += 1;
     }
-    print_classes(255);
+    print_classes(rt, 255)
 }
 
 // A range, and whether 0, 7, 8, 13, 14, 255 are in it.
-fn print_range(low: u8, high: u8) {
-    print(b"range ", wide(low));
-    print(b" to ", wide(high));
-    io::write_all(1, b": ");
-    let inside = [
-        told(classes::between(low, high, 0)),
-        told(classes::between(low, high, 7)),
-        told(classes::between(low, high, 8)),
-        told(classes::between(low, high, 13)),
-        told(classes::between(low, high, 14)),
-        told(classes::between(low, high, 255)),
-        b'\n',
-    ];
-    io::write_all(1, &inside);
+fn print_range(rt: &impl Print, low: u8, high: u8) -> io::Result<()> {
+    let at_0 = told(classes::between(low, high, 0));
+    let at_7 = told(classes::between(low, high, 7));
+    let at_8 = told(classes::between(low, high, 8));
+    let at_13 = told(classes::between(low, high, 13));
+    let at_14 = told(classes::between(low, high, 14));
+    let at_255 = told(classes::between(low, high, 255));
+    println!(rt; "range {low} to {high}: {at_0}{at_7}{at_8}{at_13}{at_14}{at_255}")
 }
 
 // What stands at a place of the list 7 1 9, and `more` places after it, as a kind and as a flag.
-fn print_place(at: usize, more: usize) {
+fn print_place(rt: &impl Print, at: usize, more: usize) -> io::Result<()> {
     let bytes = b"\x07\x01\x09";
-    print(b"place ", at);
-    print(b" and ", more);
-    print(b" more: ", wide(tokens::kind_at(bytes, at)));
-    print(b" ", wide(tokens::flag_at(bytes, at)));
-    print(b" ", wide(tokens::kind_after(bytes, at, more)));
-    print(b" ", wide(tokens::flag_after(bytes, at, more)));
-    end_line();
+    let kind = tokens::kind_at(bytes, at);
+    let flag = tokens::flag_at(bytes, at);
+    let kind_after = tokens::kind_after(bytes, at, more);
+    let flag_after = tokens::flag_after(bytes, at, more);
+    println!(rt; "place {at} and {more} more: {kind} {flag} {kind_after} {flag_after}")
 }
 
-fn all_places() {
+fn all_places(rt: &impl Print) -> io::Result<()> {
     let largest: usize = 18446744073709551615;
-    print_place(0, 0);
-    print_place(0, 2);
-    print_place(1, 1);
-    print_place(2, 1);
-    print_place(3, 0);
-    print_place(1, largest);
-    print_place(largest, 1);
-    print_place(largest, largest);
+    print_place(rt, 0, 0)?;
+    print_place(rt, 0, 2)?;
+    print_place(rt, 1, 1)?;
+    print_place(rt, 2, 1)?;
+    print_place(rt, 3, 0)?;
+    print_place(rt, 1, largest)?;
+    print_place(rt, largest, 1)?;
+    print_place(rt, largest, largest)
 }
 
 // A cause of each number, with the place 100 more.
@@ -106,19 +90,21 @@ fn cause_of(number: usize) -> Cause {
     }
 }
 
-fn print_cause(cause: Cause) {
-    print(b" ", causes::number_of(cause) as usize);
-    print(b" ", causes::place_of(cause));
+fn print_cause(rt: &impl Print, cause: Cause) -> io::Result<()> {
+    let number = causes::number_of(cause);
+    let place = causes::place_of(cause);
+    print!(rt; " {number} {place}")
 }
 
-fn all_causes() {
+fn all_causes(rt: &impl Print) -> io::Result<()> {
     let mut number = 1;
     while number < 15 {
-        io::write_all(1, b"cause");
-        print_cause(cause_of(number));
-        end_line();
+        rt.print("cause")?;
+        print_cause(rt, cause_of(number))?;
+        rt.println("")?;
         number += 1;
     }
+    Ok(())
 }
 
 // A row of 28 bytes describes a list: four runs of kinds and three of flags, each a count and a byte, as numbers of two bytes.
@@ -156,46 +142,49 @@ fn put_run(list: &mut [u8; 2049], from: usize, count: u16, k: u8) -> usize {
     at
 }
 
-fn print_run(count: u16, k: u8) {
+fn print_run(rt: &impl Print, count: u16, k: u8) -> io::Result<()> {
     if count == 0 {
-        return;
+        return Ok(());
     }
-    print(b" ", count as usize);
-    print(b"*", wide(k));
+    print!(rt; " {count}*{k}")
 }
 
 // What a check finds.
-fn print_checked(label: &[u8], checked: Checked) {
-    io::write_all(1, label);
+fn print_checked(rt: &impl Print, label: &str, checked: Checked) -> io::Result<()> {
+    rt.print(label)?;
     match checked {
-        Checked::Fine => {
-            io::write_all(1, b" fine");
-        }
+        Checked::Fine => rt.print(" fine"),
         Checked::Refused(cause) => {
-            io::write_all(1, b" refused");
-            print_cause(cause);
+            rt.print(" refused")?;
+            print_cause(rt, cause)
         }
     }
 }
 
 // All checks of a list, each by itself.
-fn print_checks(kinds: &[u8], flags: &[u8]) {
-    print_checked(b": length", checks::check_length(kinds));
-    print_checked(b", flag length", checks::check_flag_length(kinds, flags));
-    print_checked(b", flags", checks::check_flags(flags));
-    print_checked(b", kinds", checks::check_kinds(kinds));
-    print_checked(b", nesting", checks::check_nesting(kinds));
-    end_line();
+fn print_checks(rt: &impl Print, kinds: &[u8], flags: &[u8]) -> io::Result<()> {
+    print_checked(rt, ": length", checks::check_length(kinds))?;
+    print_checked(rt, ", flag length", checks::check_flag_length(kinds, flags))?;
+    print_checked(rt, ", flags", checks::check_flags(flags))?;
+    print_checked(rt, ", kinds", checks::check_kinds(kinds))?;
+    print_checked(rt, ", nesting", checks::check_nesting(kinds))?;
+    rt.println("")
 }
 
-fn print_parts(kinds: &[u8], tokens: usize, flags: &[u8], breaks: usize) {
+fn print_parts(
+    rt: &impl Print,
+    kinds: &[u8],
+    tokens: usize,
+    flags: &[u8],
+    breaks: usize,
+) -> io::Result<()> {
     if kinds.len() < tokens {
-        return;
+        return Ok(());
     }
     if flags.len() < breaks {
-        return;
+        return Ok(());
     }
-    print_checks(&kinds[..tokens], &flags[..breaks]);
+    print_checks(rt, &kinds[..tokens], &flags[..breaks])
 }
 
 fn kinds_of(row: &[u8]) -> [u8; 2049] {
@@ -219,7 +208,7 @@ fn sum(a: u16, b: u16, c: u16, d: u16) -> usize {
     a as usize + b as usize + c as usize + d as usize
 }
 
-fn print_list(row: &[u8]) {
+fn print_list(rt: &impl Print, row: &[u8]) -> io::Result<()> {
     let kinds = kinds_of(row);
     let flags = flags_of(row);
     let tokens = sum(
@@ -229,43 +218,59 @@ fn print_list(row: &[u8]) {
         number(row, 6),
     );
     let breaks = sum(number(row, 8), number(row, 10), number(row, 12), 0);
-    print_parts(&kinds, tokens, &flags, breaks);
+    print_parts(rt, &kinds, tokens, &flags, breaks)
 }
 
-fn print_row(row: &[u8]) {
-    io::write_all(1, b"kinds");
-    print_run(number(row, 0), byte(row, 1));
-    print_run(number(row, 2), byte(row, 3));
-    print_run(number(row, 4), byte(row, 5));
-    print_run(number(row, 6), byte(row, 7));
-    io::write_all(1, b", flags");
-    print_run(number(row, 8), byte(row, 9));
-    print_run(number(row, 10), byte(row, 11));
-    print_run(number(row, 12), byte(row, 13));
-    print_list(row);
+fn print_row(rt: &impl Print, row: &[u8]) -> io::Result<()> {
+    rt.print("kinds")?;
+    print_run(rt, number(row, 0), byte(row, 1))?;
+    print_run(rt, number(row, 2), byte(row, 3))?;
+    print_run(rt, number(row, 4), byte(row, 5))?;
+    print_run(rt, number(row, 6), byte(row, 7))?;
+    rt.print(", flags")?;
+    print_run(rt, number(row, 8), byte(row, 9))?;
+    print_run(rt, number(row, 10), byte(row, 11))?;
+    print_run(rt, number(row, 12), byte(row, 13))?;
+    print_list(rt, row)
 }
 
-fn all_lists(rows: &[u8]) {
+fn all_lists(rt: &impl Print, rows: &[u8]) -> io::Result<()> {
     let mut at = 0;
     while at < rows.len() {
         if rows.len() - at < 28 {
-            return;
+            return Ok(());
         }
         let end = at + 28;
-        print_row(&rows[at..end]);
+        print_row(rt, &rows[at..end])?;
         at = end;
     }
+    Ok(())
 }
 
-fn main() {
-    all_classes();
-    print_range(8, 13);
-    print_range(0, 255);
-    print_range(13, 8);
-    print_range(8, 8);
-    all_places();
-    all_causes();
-    let mut rows = io::buffer();
-    let n = io::read_full(0, &mut rows);
-    all_lists(&rows[..n]);
+// Reads until the buffer is full or the input ends, and tells how many bytes came.
+fn read_full(input: &mut impl Read, bytes: &mut [u8]) -> io::Result<usize>
+    ensures { IfOk result (λ n. n ≤ length bytes.new) }
+{
+    let mut at = 0;
+    while at < bytes.len() {
+        let n = input.read(&mut bytes[at..])?;
+        if n == 0 {
+            break;
+        }
+        at += n;
+    }
+    Ok(at)
+}
+
+fn main(rt: HostRuntime) -> io::Result<()> {
+    all_classes(&rt)?;
+    print_range(&rt, 8, 13)?;
+    print_range(&rt, 0, 255)?;
+    print_range(&rt, 13, 8)?;
+    print_range(&rt, 8, 8)?;
+    all_places(&rt)?;
+    all_causes(&rt)?;
+    let mut rows = [0u8; 4096];
+    let n = read_full(&mut rt.stdin(), &mut rows)?;
+    all_lists(&rt, &rows[..n])
 }

@@ -1,5 +1,6 @@
 -- Laws of the columns of the table of shapes, as the code has them: a `match` over the kinds that have a number there.
 -- Assumes nothing.
+use Rattle.std.specs.Prelude.{if◌then◌else◌}
 use Prim.Native.Nat.{ℕ, ◌+◌, ◌≤◌}
 use mathlib.Core.Path.{◌≡◌, refl, sym, ap, ◌∙◌}
 use mathlib.Core.Bool.{Bool, true}
@@ -9,7 +10,7 @@ use native.Mathlib.Decide.{dec_le}
 use lib.Dec.{eqb}
 use lib.ListN.{get_or}
 use borrow.Author.Tests.{eqb-true, ne_eqb}
-use Rattle.tokens.specs.Bool.{◌or◌, if◌then◌else◌}
+use Rattle.tokens.specs.Bool.{◌or◌}
 use Rattle.rows.specs.Mask.{bits, mask, cells, Cell}
 use Rattle.rows.specs.Shape.{Shape, exactly, is_left_hand_side, is_unary, is_binary, is_logical, is_assignment, is_expression, is_body, is_binding, is_parameter, is_simple_target, is_target, only, nothing, shape_of}
 use Rattle.trees.proofs.Masks.{numbers}

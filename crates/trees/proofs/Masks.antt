@@ -1,5 +1,6 @@
 -- Laws of sets of kinds in numbers: the bits of a mask are its kinds, and the table of shapes in numbers.
 -- Assumes nothing.
+use Rattle.std.specs.Prelude.{if◌then◌else◌}
 use Prim.Native.Nat.{ℕ, zero, suc, ◌+◌, ◌*◌, ◌/◌, ◌%◌, ◌^◌, ◌<◌}
 use mathlib.Core.Path.{◌≡◌, sym, ap, ◌∙◌}
 use mathlib.Core.Bool.{Bool, true, false}
@@ -8,7 +9,6 @@ use native.Mathlib.Omega.{arith}
 use native.Mathlib.Nat.{div-div-eq-div-mul, pow-succ', not-suc-le-zero, le_of_suc-le-suc, add-zero}
 use lib.Dec.{eqb}
 use lib.ListN.{get_or}
-use Rattle.tokens.specs.Bool.{if◌then◌else◌}
 use Rattle.rows.specs.Mask.{has, bits, mask}
 
 bit_first : (b : Bool) (x : ℕ) → has ((if b then 1 else 0) + 2 * x) 0 ≡ b
@@ -19,7 +19,7 @@ bit_first false x = let e : (0 + 2 * x) / 1 % 2 ≡ 0 = omega arith in rw e
 bit_next : (b : Bool) (x i : ℕ) → has ((if b then 1 else 0) + 2 * x) (suc i) ≡ has x i
 unfolding has
 bit_next b x i =
-    let h : (b : Bool) → ((if b then 1 else 0) + 2 * x) / 2 ≡ x = λ b. elim b [ true ↦ omega arith | false ↦ omega arith ] in
+    let h : (b : Bool) → ((if b then 1 else 0) + 2 * x) / 2 ≡ x = λ b. elim b as (λ b. ((if b then 1 else 0) + 2 * x) / 2 ≡ x) [ true ↦ omega arith | false ↦ omega arith ] in
     ap (λ (n : ℕ). eqb (n % 2) 1) (ap (λ (n : ℕ). ((if b then 1 else 0) + 2 * x) / n) (pow-succ' 2 i) ∙ sym (div-div-eq-div-mul ((if b then 1 else 0) + 2 * x) 2 (2 ^ i)) ∙ ap (λ (n : ℕ). n / 2 ^ i) (h b))
 
 has_bits : (kinds : ℕ → Bool) (n k i : ℕ) → i < n → has (bits kinds n k) i ≡ kinds (k + i)

@@ -1,5 +1,6 @@
 -- Laws of the table of shapes: what its numbers say of a kid at a place. Past the table, a kind over 50 has no kids, and none over 63 may be one.
 -- Assumes nothing.
+use Rattle.std.specs.Prelude.{if◌then◌else◌}
 use Prim.Native.Nat.{ℕ, zero, suc, ◌+◌, ◌-◌, ◌≤◌, ◌<◌}
 use mathlib.Core.Path.{◌≡◌, refl, sym, ap, ◌∙◌}
 use mathlib.Core.Bool.{Bool, true, false, not}
@@ -9,7 +10,7 @@ use native.Mathlib.Nat.{zero-add}
 use lib.Dec.{eqb, leb, ltb}
 use lib.ListN.{length, get_or}
 use borrow.Author.Tests.{not-true, lt-ltb, le-ltb, le-leb, lt-leb, leb-true, eq-eqb, ne_eqb}
-use Rattle.tokens.specs.Bool.{◌or◌, ◌and◌, ◌is◌, if◌then◌else◌, between}
+use Rattle.tokens.specs.Bool.{◌or◌, ◌and◌, ◌is◌, between}
 use Rattle.rows.specs.Row as row
 use Rattle.rows.specs.Mask.{has, mask, cells, Cell}
 use Rattle.rows.specs.Shape.{Shape, exactly, is_left_hand_side, is_unary, is_binary, is_logical, is_assignment, is_expression, is_body, is_binding, is_parameter, is_simple_target, is_target, only, nothing, may_be, may_end, fits, least, shape_of}

@@ -10,7 +10,7 @@ use lib.Dec.{leb, eqb}
 use lib.ListN.{length, get_or}
 use borrow.Author.Tests.{eqb-true, eqb-false}
 use Rattle.tokens.specs.Bool.{◌and◌}
-use Rattle.rows.specs.Tree.{Tree, Forest, node, nil, cons, one, join, count, size, sizes, row, kind_of, kids_of}
+use Rattle.rows.specs.Tree.{Tree, Forest, node, nil, cons, one, join, count, size, sizes, kind_of, kids_of}
 use Rattle.rows.specs.Shape.{well_formed, all_well_formed, is_shaped, is_listed, all_fit, fits, last_kind, least, shape_of}
 use Rattle.rows.specs.Part.{Part, Rooted}
 use Rattle.rows.specs.Part.{Decides, Stands, KidsStand, LastKind, KidFits}

@@ -1,4 +1,6 @@
 // The check of a tree: whether words are a well-formed one, and its subtrees.
+#![tactic(auto)]
+
 ghost use Rattle.rows.specs.Part.{WellFormed};
 ghost use Rattle.rows.specs.Part.{Decides};
 ghost use Rattle.rows.specs.Handed.{HandedBack};

@@ -1,5 +1,7 @@
 // The public entries for programs in C and Rust, on numbers and slices. What an entry returns is 0, or the number that RULES A gives a
 // refusal; what it tells beside that it writes to the words that are lent for it.
+#![tactic(auto)]
+
 ghost use Rattle.std.specs.Prelude.{◌≡◌};
 ghost use Rattle.operators.specs.Precedence.{level, expression_level};
 ghost use Rattle.lookahead.specs.Entry.{three_way_entry};

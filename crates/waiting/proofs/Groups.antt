@@ -1,6 +1,7 @@
 -- The functions of this crate. Those on one row that waits, in plain terms: what the calls and tests on the way gave, and what the contract asks. `finish_parts`: what waits for
 -- a part is made one after the other. `after_binary` and `follow`: from a group that was read to what is read next.
 -- Assumes nothing.
+use Rattle.std.specs.Prelude.{if◌then◌else◌}
 use Prim.Native.Nat.{ℕ, ◌+◌, ◌-◌, ◌*◌, ◌≤◌, ◌<◌}
 use mathlib.Core.Path.{◌≡◌, refl, sym, ap, subst, ◌∙◌}
 use mathlib.Core.Bool.{Bool, false, true, not}
@@ -16,7 +17,7 @@ use Rattle.build.specs.declared.cursor.Cursor.{Cursor}
 use Rattle.build.specs.declared.cursor.Step.{Step}
 use lib.Dec.{leb, ltb}
 use borrow.Author.Tests.{lt-ltb, eq-eqb, ne_eqb, eqb-true, eqb-false, le-leb, leb-true, leb-false, ltb-true}
-use Rattle.tokens.specs.Bool.{◌and◌, ◌is◌, if◌then◌else◌, between}
+use Rattle.tokens.specs.Bool.{◌is◌, between}
 use Rattle.rows.specs.Post.{Pushed, KindSet, Word}
 use Rattle.targets.specs.declared.Conversion.{Conversion}
 use Rattle.grammar.specs.Binary.{operation_kind, right_floor}

@@ -1,5 +1,6 @@
 -- What comes of an AssignmentExpression, of its operands and operators, its arrow, its assignment and its Conditional: each way. For `start`, and for rows that wait.
 -- Assumes nothing.
+use Rattle.std.specs.Prelude.{if◌then◌else◌}
 use Prim.Native.Nat.{ℕ, ◌+◌, ◌-◌, ◌<◌, ◌*◌, ◌≤◌}
 use mathlib.Core.Path.{◌≡◌, refl, sym, ap, subst, ◌∙◌}
 use mathlib.Core.Bool.{Bool, true, false, not}
@@ -7,11 +8,11 @@ use mathlib.Core.List.{List, [], ◌++◌}
 use native.Mathlib.Omega.{arith}
 use lib.ListN.{length, get_or}
 use borrow.Author.Tests.{eq-eqb, ne_eqb, lt-ltb, le-ltb}
-use Rattle.tokens.specs.Bool.{◌and◌, ◌is◌, if◌then◌else◌}
+use Rattle.tokens.specs.Bool.{◌and◌, ◌is◌}
 use Rattle.tokens.specs.Kind.{Async, Arrow, Question, Eq}
 use Rattle.tokens.specs.Token.{is_name}
 use Rattle.tokens.specs.declared.cause.Cause.{Cause}
-use Rattle.tokens.proofs.Stands.{stands, stands_not}
+use Rattle.tokens.proofs.Stands.{stands_not}
 use Rattle.rows.specs.Tree.{Tree, Forest, one, count, kind_of, node, nil, cons, size, join}
 use Rattle.rows.specs.Record.{Record}
 use Rattle.rows.specs.Post.{Grown, Word}
@@ -139,7 +140,7 @@ module _ {ks fs r₀ s₀ m₀ : List ℕ} {floor first n k₀ : ℕ} {r₁ s₁
         let sizes_all = sizes_cons a (one b) in
         let sizes_right = sizes_cons b nil in
         let owe = owed_node kind at first d.at (cons a (one b)) in
-        let Owe-all = oweds_cons a (one b) in
+        let owe_all = oweds_cons a (one b) in
         let owe_right = oweds_cons b nil in
         record {
           wide = w.wide;
@@ -151,7 +152,7 @@ module _ {ks fs r₀ s₀ m₀ : List ℕ} {floor first n k₀ : ℕ} {r₁ s₁
           few = omega (arith, w.few, w.made.grown.used, right.grown.used, sizes_cons a nil, move, rows, size_one, size_all, sizes_all, sizes_right, sizes_nil);
           tree = node kind at first d.at (cons a (one b));
           said = (w.said ++ g.records) ++ ops;
-          few_records = omega (arith, w.few_records, move, weighs, records, owe, Owe-all, owe_right, oweds_nil, operation_free (get_or ks at 0), operation_one (sheet_of ks fs) at a b);
+          few_records = omega (arith, w.few_records, move, weighs, records, owe, owe_all, owe_right, oweds_nil, operation_free (get_or ks at 0), operation_one (sheet_of ks fs) at a b);
           made = made_over w.wide (made_then w.made right) top;
           rest = λ out j.
               let right_comes = subst (λ (q : Forest). Comes ks fs (binary (right_floor (get_or ks at 0)) (at + 1)) m₁ (done d.at q g.records m)) lone

@@ -1,5 +1,6 @@
 -- What the functions on rows that wait promise. r and s are the words of rows and records before, r' and s' those after.
-use Rattle.rows.specs.Base.{ℕ, ◌+◌, ◌-◌, ◌*◌, ◌≤◌, ◌<◌, ◌≡◌, Bool, true, false, not, List, ◌++◌, leb, ltb, length, get_or, take, drop, ◌and◌, ◌is◌, if◌then◌else◌, Cause}
+use Rattle.std.specs.Prelude.{◌+◌, ◌-◌, ◌*◌, ◌≤◌, ◌<◌, ◌≡◌, ◌++◌, if◌then◌else◌}
+use Rattle.rows.specs.Base.{ℕ, Bool, true, false, not, List, leb, ltb, length, get_or, take, drop, ◌and◌, ◌is◌, Cause}
 use Rattle.tokens.specs.Kind.{LCurly, Colon, Arrow, Eq}
 use Rattle.operators.specs.Precedence.{expression_level}
 use Rattle.rows.specs.Post.{Pushed, KindSet}

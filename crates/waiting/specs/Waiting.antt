@@ -1,6 +1,7 @@
 -- Rows that wait for their last part, and what is left to come of a reading while they wait. Each says what it makes of the part that it waits for,
 -- in terms of what the reader of that part promises (`Met`); the outermost makes the whole.
-use Rattle.rows.specs.Base.{ℕ, ◌+◌, ◌*◌, ◌≤◌, ◌<◌, ◌-◌, ◌≡◌, List, [], ◌∷◌, ◌++◌, length, get_or, drop, Tree, one, row, Record, break_before_arrow, Bool, true, false, not, if◌then◌else◌, ◌is◌, ◌or◌, Cause}
+use Rattle.std.specs.Prelude.{◌+◌, ◌*◌, ◌≤◌, ◌<◌, ◌-◌, ◌≡◌, ◌∷◌, ◌++◌, if◌then◌else◌}
+use Rattle.rows.specs.Base.{ℕ, List, [], length, get_or, drop, Tree, one, row, Record, break_before_arrow, Bool, true, false, not, ◌is◌, ◌or◌, Cause}
 use Rattle.grammar.specs.{Sheet.Out, Sheet.after_records, Sheet.sheet_of, Job.binary, Job.operators, Job.Job, Job.assignment, Job.value, Job.body}
 use Rattle.grammar.specs.{Assignment.is_async_name, Binary.operation_kind, Binary.right_floor}
 use Rattle.conversion.specs.Conversion.{potential as owed}

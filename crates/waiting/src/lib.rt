@@ -1,6 +1,8 @@
 // What nests to the right (13.6 to 13.15, 15.3, 15.9) waits, while its last part is read, as a row at the far end of the lent tree, the innermost
 // first. The words of a row that waits: its kind, mark and first; of an operator the rows before its right operand, and else 0; of an operator the
 // floor of its right operand, and else the kids; and the row that it begins with.
+#![tactic(auto)]
+
 ghost use Rattle.std.specs.Prelude.{◌≡◌, length, get_or, ◌+◌, ◌-◌, ◌*◌, ◌≤◌, ◌<◌, take};
 ghost use Rattle.rows.specs.Post.{RowInside};
 ghost use Rattle.build.specs.Post.{Room, Operand, Topped};
@@ -19,7 +21,7 @@ use tokens::kind;
 const CHOICE: u32 = 0;
 
 // What stands where an expression or an operand starts: a head up to its `=>`, or an operand; or neither does.
-#[derive(Drop)]
+#[derive(Clone, Copy)]
 pub enum Start {
     Opened(Cursor, Head),
     Operand(Cursor),
@@ -27,7 +29,7 @@ pub enum Start {
 }
 
 // Where a part starts, or an operand: the place, how many rows and records are used, and the row from which on rows wait.
-#[derive(Drop)]
+#[derive(Clone, Copy)]
 pub struct Spot {
     pub at: usize,
     pub rows: usize,
@@ -37,7 +39,7 @@ pub struct Spot {
 }
 
 // What comes next: a part or an operand is read; or all is read; or it is refused.
-#[derive(Drop)]
+#[derive(Clone, Copy)]
 pub enum Next {
     Read(Spot),
     Ended(Cursor),
@@ -45,7 +47,7 @@ pub enum Next {
 }
 
 // An operand, or a row over operands, that was read up to a place: its first token and first row, and the row from which on rows wait.
-#[derive(Drop)]
+#[derive(Clone, Copy)]
 pub struct Group {
     pub at: usize,
     pub rows: usize,

@@ -1,5 +1,6 @@
 -- `finish` and `postfix`: what is made of operators once their operands stand.
 -- Assumes nothing.
+use Rattle.std.specs.Prelude.{if◌then◌else◌}
 use Prim.Native.Nat.{ℕ, ◌+◌, ◌-◌, ◌*◌, ◌≤◌, ◌<◌}
 use mathlib.Core.Path.{◌≡◌, refl, sym, ap, subst, ◌∙◌}
 use mathlib.Core.Bool.{Bool, true, false, not}
@@ -8,7 +9,7 @@ use native.Mathlib.Omega.{arith}
 use lib.ListN.{length, get_or, take}
 use lib.Seq.{length-take-le, get_or-take, get_or-append-add}
 use borrow.Author.Tests.{eqb-true, ne_eqb}
-use Rattle.tokens.specs.Bool.{◌or◌, ◌and◌, ◌is◌, if◌then◌else◌}
+use Rattle.tokens.specs.Bool.{◌and◌, ◌is◌}
 use Rattle.tokens.specs.Kind.{Question2, Star2}
 use Rattle.tokens.specs.declared.cause.Cause.{Cause}
 use Rattle.tokens.proofs.Stands.{stands_not}

@@ -9,7 +9,7 @@ use native.Mathlib.Omega.{arith}
 use lib.Dec.{eqb}
 use lib.ListN.{length, get_or}
 use borrow.Author.Tests.{eqb-true}
-use Rattle.tokens.specs.Bool.{◌or◌, ◌is◌}
+use Rattle.tokens.specs.Bool.{◌or◌}
 use Rattle.tokens.specs.Kind.{Plus2, Minus2}
 use Rattle.tokens.specs.declared.cause.Cause.{Cause}
 use Rattle.tokens.proofs.Stands.{stands_not}
@@ -31,7 +31,7 @@ use Rattle.build.specs.declared.cursor.Cursor.{Cursor}
 use Rattle.build.specs.declared.cursor.Step.{Step}
 use Rattle.build.proofs.Rules.{unary_fails, unary_done, update_fails, update_refused, update_done}
 use Rattle.build.proofs.Makes.{stands_now, stands_made, made_top, made_over, unmade_past}
-use Rattle.build.proofs.Converts.{rooted, Turned, is_turned, is_refused, turned_few}
+use Rattle.build.proofs.Converts.{rooted, is_turned, is_refused, turned_few}
 use Rattle.build.proofs.Steps.Inside.{same_done, apart}
 
 same_fail : (p q : Cause) → Step.Fail p ≡ Step.Fail q → p ≡ q

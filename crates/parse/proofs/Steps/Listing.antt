@@ -1,5 +1,6 @@
 -- A list: parts with commas between them, up to a closing token. Once for all six lists: what holds at each turn of the loop that reads one, and each way through it; then the six.
 -- Assumes nothing.
+use Rattle.std.specs.Prelude.{if◌then◌else◌}
 use Prim.Native.Nat.{ℕ, ◌+◌, ◌*◌, ◌≤◌, ◌<◌, suc, ◌-◌}
 use mathlib.Core.Path.{◌≡◌, refl, sym, subst, ◌∙◌, ap}
 use mathlib.Core.List.{List, [], ◌++◌}
@@ -10,7 +11,7 @@ use borrow.Author.Tests.{ne_eqb}
 use Rattle.tokens.specs.Kind.{Comma, RParen, RBrack, RCurly, Dot3}
 use Rattle.tokens.specs.declared.cause.Cause.{Cause}
 use Rattle.tokens.proofs.Stands.{stands, stands_not}
-use Rattle.tokens.specs.Bool.{◌is◌, if◌then◌else◌}
+use Rattle.tokens.specs.Bool.{◌is◌}
 use Rattle.rows.specs.Tree.{Tree, Forest, node, nil, one, join, count, kind_of, kids_of}
 use Rattle.rows.specs.Record.{Record}
 use Rattle.rows.specs.Row as Row

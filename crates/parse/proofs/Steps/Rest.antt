@@ -2,14 +2,13 @@
 -- Assumes nothing.
 use Prim.Native.Nat.{ℕ, ◌+◌, ◌-◌, ◌<◌}
 use mathlib.Core.Path.{◌≡◌, refl, sym, ◌∙◌}
-use mathlib.Core.List.{List, [], ◌∷◌, ◌++◌, append-nil}
+use mathlib.Core.List.{List, append-nil}
 use native.Mathlib.Omega.{arith}
 use borrow.Author.Tests.{ne_eqb}
 use lib.ListN.{length, get_or}
-use Rattle.tokens.specs.Bool.{◌is◌, if◌then◌else◌}
 use Rattle.tokens.specs.declared.cause.Cause.{Cause}
-use Rattle.rows.specs.Tree.{Tree, Forest, one, count, kind_of, mark_of}
-use Rattle.rows.specs.Record.{Record, says, rest_initializer}
+use Rattle.rows.specs.Tree.{Tree, Forest, one, count, kind_of}
+use Rattle.rows.specs.Record.{Record}
 use Rattle.rows.specs.Row as Row
 use Rattle.rows.specs.Post.{Word}
 use Rattle.grammar.specs.Sheet.{sheet_of, done, fail, first_tree}

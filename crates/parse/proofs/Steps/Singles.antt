@@ -1,7 +1,8 @@
 -- An expression of one token: what it comes to at each level, from the primary expression up to the assignment expression.
 -- Assumes nothing.
+use Rattle.std.specs.Prelude.{if◌then◌else◌}
 use Prim.Native.Nat.{ℕ, ◌+◌, ◌≤◌, ◌<◌}
-use mathlib.Core.Path.{◌≡◌, refl, sym, ap, subst, ◌∙◌}
+use mathlib.Core.Path.{◌≡◌, refl, ap, subst, ◌∙◌}
 use mathlib.Core.Bool.{Bool, true, false}
 use mathlib.Core.List.{List, []}
 use native.Mathlib.Omega.{arith}
@@ -9,7 +10,7 @@ use native.Mathlib.Decide.{ℕ_discrete}
 use lib.Dec.{leb}
 use lib.ListN.{length, get_or}
 use borrow.Author.Tests.{eqb-true, eqb-false, leb-true, leb-false, le-leb, lt-leb, ne_eqb}
-use Rattle.tokens.specs.Bool.{◌or◌, ◌and◌, ◌is◌, between, if◌then◌else◌}
+use Rattle.tokens.specs.Bool.{◌or◌, ◌and◌, ◌is◌, between}
 use Rattle.tokens.specs.Kind.{Async, This, Dot3, LParen, RParen, LBrack, RBrack, RCurly, Comma, Colon, Question, Dot, Arrow}
 use Rattle.tokens.specs.Token.{is_name, is_literal}
 use Rattle.operators.specs.Precedence.{level, expression_level}

@@ -1,5 +1,6 @@
 -- `spread`, 13.2.4: each way out of it; and `item` and `part`, which choose between it and something else.
 -- Assumes nothing.
+use Rattle.std.specs.Prelude.{if◌then◌else◌}
 use Prim.Native.Nat.{ℕ, ◌+◌, ◌≤◌, ◌<◌}
 use mathlib.Core.Path.{◌≡◌, refl, sym, subst, ◌∙◌}
 use mathlib.Core.Bool.{Bool, true, false}
@@ -7,7 +8,7 @@ use mathlib.Core.List.{List}
 use native.Mathlib.Omega.{arith}
 use lib.ListN.{length, get_or}
 use borrow.Author.Tests.{eqb-true, ne_eqb}
-use Rattle.tokens.specs.Bool.{◌is◌, if◌then◌else◌}
+use Rattle.tokens.specs.Bool.{◌is◌}
 use Rattle.tokens.specs.Kind.{Dot3}
 use Rattle.tokens.specs.declared.cause.Cause.{Cause}
 use Rattle.tokens.proofs.Stands.{stands}

@@ -1,0 +1,28 @@
+-- `shapes::last` meets its contract: each arm has the number that the definition gives, and each other kind has none.
+use mathlib.Core.Path.{refl}
+use mathlib.Core.List.{[], ◌∷◌}
+use Rattle.rows.specs.Mask.{bits, mask, cells}
+use Rattle.rows.specs.Shape.{is_left_hand_side, is_unary, is_binary, is_logical, is_assignment, is_expression, is_body, is_binding, is_parameter, is_simple_target, is_target, only, nothing, shape_of}
+use Rattle.trees.proofs.Masks.{numbers}
+use Rattle.trees.proofs.Columns.{at_key, at_rest}
+use Rattle.trees.proofs.shape.last.Goals as goal
+
+pub returns-in-6 : goal.returns-in-6
+unfolding numbers bits mask cells is_left_hand_side is_unary is_binary is_logical is_assignment is_expression is_body is_binding is_parameter is_simple_target is_target only nothing shape_of
+returns-in-6 c = at_key c.in-6.is refl
+
+pub returns-in-8 : goal.returns-in-8
+unfolding numbers bits mask cells is_left_hand_side is_unary is_binary is_logical is_assignment is_expression is_body is_binding is_parameter is_simple_target is_target only nothing shape_of
+returns-in-8 c = at_key c.in-8.is refl
+
+pub returns-in-28 : goal.returns-in-28
+unfolding numbers bits mask cells is_left_hand_side is_unary is_binary is_logical is_assignment is_expression is_body is_binding is_parameter is_simple_target is_target only nothing shape_of
+returns-in-28 c = at_key c.in-28.is refl
+
+pub returns-in-29 : goal.returns-in-29
+unfolding numbers bits mask cells is_left_hand_side is_unary is_binary is_logical is_assignment is_expression is_body is_binding is_parameter is_simple_target is_target only nothing shape_of
+returns-in-29 c = at_key c.in-29.is refl
+
+pub returns-in_default : goal.returns-in_default
+unfolding numbers bits mask cells is_left_hand_side is_unary is_binary is_logical is_assignment is_expression is_body is_binding is_parameter is_simple_target is_target only nothing shape_of
+returns-in_default c = at_rest 7 (6 ∷ 8 ∷ 28 ∷ 29 ∷ []) c.args.kind refl refl (assumption c)

@@ -1,0 +1,10 @@
+-- `waiting::follow` meets its contract.
+use Prim.Native.Nat.{◌-◌}
+use Rattle.waiting.proofs.Groups.{Following}
+use Rattle.waiting.proofs.follow.Given as goal
+
+abbrev pub invariant-loop-rows : goal.invariant-loop-rows
+invariant-loop-rows l = Following l.kinds l.flags l.initial.rows l.initial.records l.initial.group l.base l.rows l.records l.group
+
+abbrev pub decreases-loop-rows : goal.decreases-loop-rows
+decreases-loop-rows l = l.base - l.group.top
