@@ -4,7 +4,7 @@
 #     bench/run.sh              all parts: times instructions where stack size context
 #     bench/run.sh PART..       some of them
 #
-# VUOLMASET_ARCHIVE names the archive; without it, it is the one that `rt staticlib vuolmaset` writes. ROUNDS: how often is timed, 300. The part stack
+# VUOLMASET_ARCHIVE names the archive; without it, it is the one that `rt lib` in crates/vuolmaset writes. ROUNDS: how often is timed, 300. The part stack
 # also shows the bound of the archive's stack, and holds each list of its search to it, from two files that are made before, as tests/archive.sh does:
 #
 #     python3 -B tools/stack.py --ways target/stack_ways ARCHIVE > target/stack_table
@@ -12,7 +12,7 @@ set -euo pipefail
 shopt -s inherit_errexit
 export VUOLMASET_ARCHIVE
 here=$(cd "$(dirname "${BASH_SOURCE[0]}")" && pwd)
-VUOLMASET_ARCHIVE=$(realpath -m "${VUOLMASET_ARCHIVE:-$here/../target/staticlib/libvuolmaset.a}")
+VUOLMASET_ARCHIVE=$(realpath -m "${VUOLMASET_ARCHIVE:-$here/../crates/vuolmaset/out/libvuolmaset.a}")
 document=$here/../docs/PERFORMANCE.md
 bound=$here/../target/stack_table
 ways=$here/../target/stack_ways
@@ -103,7 +103,7 @@ part_context() {
     "$programs/sheets" | node --no-compilation-cache --stack-size=$((stack * 3 / 4)) "$here/context.js" 100 <(section times)
 }
 
-[ -e "$VUOLMASET_ARCHIVE" ] || { echo "no archive at $VUOLMASET_ARCHIVE: rt staticlib vuolmaset builds it" >&2; exit 1; }
+[ -e "$VUOLMASET_ARCHIVE" ] || { echo "no archive at $VUOLMASET_ARCHIVE: (cd crates/vuolmaset && rt lib) builds it" >&2; exit 1; }
 install_missing
 (cd "$here/harness" && cargo build --quiet --offline --release --features archive)
 [ $# -gt 0 ] || set -- times instructions where stack size context

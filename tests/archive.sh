@@ -1,5 +1,5 @@
 #!/usr/bin/env bash
-# The archive for other languages: builds it (what is proved already is not proved again), and runs the tests in C and in Rust that link it. gcc and
+# The archive for other languages: builds it over the crates that are proved already, and runs the tests in C and in Rust that link it. gcc and
 # cargo are installed if they are missing; the oldest Rust that is enough is Debian 12's.
 set -euo pipefail
 cd "$(dirname "${BASH_SOURCE[0]}")/.."
@@ -7,12 +7,13 @@ source tests/need.sh
 need gcc gcc
 need cargo cargo
 export RUSTFLAGS='-D warnings'
-rt staticlib vuolmaset < /dev/null
-if [ "$(nm -u target/staticlib/libvuolmaset.a | sed -n 's/^ *U //p')" != memset ]; then
+(cd crates/vuolmaset && rt lib) < /dev/null
+mkdir -p target
+if [ "$(nm -u crates/vuolmaset/out/libvuolmaset.a | sed -n 's/^ *U //p')" != memset ]; then
     echo "the archive wants other functions than include/vuolmaset.h says"
     exit 1
 fi
-gcc -std=c11 -O2 -Wall -Wextra -Wpedantic -Werror bindings/c/sheets.c target/staticlib/libvuolmaset.a -o target/sheets_c
+gcc -std=c11 -O2 -Wall -Wextra -Wpedantic -Werror bindings/c/sheets.c crates/vuolmaset/out/libvuolmaset.a -o target/sheets_c
 target/sheets_c
 cargo test --quiet --offline --manifest-path bindings/rust/Cargo.toml --target-dir target/rust
 echo "Rust: all as expected"
@@ -38,5 +39,5 @@ if python3 -B tools/stack.py --uncut > target/stack_uncut || ! grep -q '^- vuolm
     exit 1
 fi
 target/harness/release/search short target/stack_ways target/stack_lists 2> target/stack_progress || { cat target/stack_progress; exit 1; }
-gcc -std=c11 -O2 -Wall -Wextra -Wpedantic -Werror -pthread bindings/c/stack.c target/staticlib/libvuolmaset.a -o target/stack_c
+gcc -std=c11 -O2 -Wall -Wextra -Wpedantic -Werror -pthread bindings/c/stack.c crates/vuolmaset/out/libvuolmaset.a -o target/stack_c
 target/stack_c < target/stack_lists

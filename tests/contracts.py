@@ -5,8 +5,8 @@
     tests/contracts.py --lines    writes the lines of the files that docs/AUDIT.md lists, and their sums
 
 Every public function of a library crate is named in docs/CONTRACTS.md, under the heading of its crate. Every file of a crate that docs/RULES.md or docs/AUDIT.md
-cites is there, and so is every name that stands after it: `grammar/specs/Arrow.antt body-of`. Every theorem that README names, and every wrong program that
-docs/CONTRACTS.md names, is there. The files that docs/AUDIT.md lists have as many lines as it says, and
+cites is there, and so is every name that stands after it: `grammar/specs/Arrow.antt body_of`. Every theorem that README names, and every theorem and wrong program
+that docs/CONTRACTS.md names, is there. The files that docs/AUDIT.md lists have as many lines as it says, and
 at most 3,300 for each demand. The tables T4 and R5 of the rules are those of the definitions. No line of prose of these documents is longer than 200 characters.
 """
 import glob
@@ -112,20 +112,20 @@ elif '\n'.join(made) != text_of(AUDIT):
 if max(sums[1:]) > MOST:
     wrong.append('%s: a demand rests on %d lines, over %d' % (AUDIT, max(sums[1:]), MOST))
 
-# what README says of them, and the theorems that it names; the wrong programs that the contracts name
+# what README says of them, and the theorems that it names; the theorems and wrong programs that the contracts name
 README = text_of('README.md')
 for number in (sums[0], max(sums[1:])):
     if '{:,}'.format(number) not in README:
         wrong.append('README.md does not say %s lines' % '{:,}'.format(number))
 statements = all_defined('crates/*/specs/*.antt')
-for name in re.findall(r'`([a-z]+(?:-[a-z]+)+)`', README[README.index('**Proved,**'):README.index('**Assumed:**')]):
+for name in re.findall(r'`([a-z]+(?:_[a-z]+)+)`', README[README.index('**Proved,**'):README.index('**Assumed:**')]):
     if name not in statements:
         wrong.append('README.md: there is no %s' % name)
-known = all_defined('crates/*/src/*.rt') | {os.path.basename(path)[:-5] for path in glob.glob(os.path.join(ROOT, 'crates/*/must-fail/*.edit'))}
+known = statements | all_defined('crates/*/src/*.rt') | {os.path.basename(path)[:-5] for path in glob.glob(os.path.join(ROOT, 'crates/*/must-fail/*.edit'))}
 known |= {crate for crate in os.listdir(os.path.join(ROOT, 'crates'))}
 for name in re.findall(r'`([a-z0-9]+(?:_[a-z0-9]+)+)`', text_of(CONTRACTS)):
     if name not in known:
-        wrong.append('%s: %s is no function, no crate and no wrong program' % (CONTRACTS, name))
+        wrong.append('%s: %s is no function, no theorem, no crate and no wrong program' % (CONTRACTS, name))
 
 # the numbers of RULES T4 and R5, held to those of the definitions
 def numbered(start, end):

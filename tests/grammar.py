@@ -31,8 +31,8 @@ SAME = {'AsyncConciseBody': 'ConciseBody'}
 WRITTEN_OUT = ('Element', 'Binding', 'SpreadElement')
 # What the standard has a name for, and the types have as kinds of tokens and classes of them.
 TOKENS = {'NullLiteral': 'Null', 'BooleanLiteral': 'True False', 'NumericLiteral': 'Number', 'StringLiteral': 'Str', 'RegularExpressionLiteral': 'RegExp',
-          'Identifier': 'identifiers', 'IdentifierReference': 'identifiers', 'BindingIdentifier': 'identifiers', 'IdentifierName': 'identifier-names',
-          'ReservedWord': 'reserved-words', 'and those that no production here names': 'Reserved'}
+          'Identifier': 'identifiers', 'IdentifierReference': 'identifiers', 'BindingIdentifier': 'identifiers', 'IdentifierName': 'identifier_names',
+          'ReservedWord': 'reserved_words', 'and those that no production here names': 'Reserved'}
 INITIALIZER = ('=', 'AssignmentExpression')
 RESTRICTION = re.compile(r'\[(no LineTerminator here|lookahead ≠ .|empty)\]')
 RULE = re.compile(r'(?:[\d.]+ )?([A-Z]\w*) : (.*)')

@@ -1,7 +1,6 @@
 #!/usr/bin/env bash
-# All tests. First those that need nothing built: a failure stops here. Then the toolchain's gate, which proves every crate from nothing,
-# tries the must-fail edits and runs the programs; then what is run with the program and the archive that it has built. The last line is the
-# gate's verdict.
+# All tests. First those that need nothing built: a failure stops here. Then the toolchain's gate, which proves every crate, tries the must-fail
+# edits and runs the programs; then what is run with the program that it has built, and with the archive. The last line is the gate's verdict.
 set -euo pipefail
 cd "$(dirname "${BASH_SOURCE[0]}")/.."
 
@@ -30,7 +29,6 @@ passes() { # SCRIPT
 python3 -B tests/names.py
 python3 -B tests/grammar.py
 python3 -B tests/contracts.py
-python3 -B tests/made.py
 python3 -B tools/believe.py --check
 python3 -B tools/map.py --check
 python3 -B tools/port.py
@@ -48,14 +46,18 @@ made examples/report.sheet tests/sheet_files.py --example report
 made crates/printout_test/stdin tests/sheet_files.py --input
 made crates/printout_test/stdout tests/sheet_files.py
 
-# One job more than processors: crates and edits run in groups that wait for their slowest, and so no processor waits with them.
-export RT_JOBS=${RT_JOBS:-$(($(nproc) + 1))}
+# The gate. It passes a must-fail edit that cannot be applied, which shows nothing: here that is a failure.
 log=$(mktemp)
 trap 'rm -f "$log"' EXIT
 rt ci </dev/null | tee "$log"
+if ! grep -q '^rt: ok' "$log" || grep -q '^rt: ok.*, [0-9]* bad' "$log"; then
+    echo "rt ci: a must-fail edit is bad, or there is no line 'rt: ok'"
+    echo "0 passed, 1 failed"
+    exit 1
+fi
 python3 -B tests/wrong.py
 passes tests/sheet.sh
 passes tests/archive.sh
 passes tests/crate.sh
 passes tests/tools.sh
-tail -n 1 "$log"
+grep -oE '^[0-9]+ passed, [0-9]+ failed' "$log" | tail -n 1

@@ -1,9 +1,9 @@
 #!/usr/bin/env bash
 # The program `sheet` as its users meet it: files, standard input, examples, what cannot be opened or read, files that never end.
-# It needs target/bin/sheet, which `rt check sheet` and the gate build.
+# It needs crates/sheet/out/sheet, which `rt run` in crates/sheet and the gate build.
 set -uo pipefail
 cd "$(dirname "${BASH_SOURCE[0]}")/.."
-sheet=$PWD/target/bin/sheet
+sheet=$PWD/crates/sheet/out/sheet
 work=$(mktemp -d)
 trap 'rm -rf "$work"' EXIT
 p1=$PWD/crates/sheet/data/p1.sheet

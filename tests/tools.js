@@ -142,9 +142,9 @@ function saysInRust() {
 
 // The examples that are calls of the library, in a program that is linked with it.
 function callsLibrary() {
-    const archive = path.join(ROOT, 'target', 'staticlib', 'libvuolmaset.a');
+    const archive = path.join(ROOT, 'crates', 'vuolmaset', 'out', 'libvuolmaset.a');
     if (!fs.existsSync(archive)) {
-        console.log('tools/sheet: the examples that are calls were not tried, the archive is not built (rt staticlib vuolmaset)');
+        console.log('tools/sheet: the examples that are calls were not tried, the archive is not built (cd crates/vuolmaset && rt lib)');
         return;
     }
     const tries = Object.values(NUMBERS.refusal).filter((entry) => entry.sheet.call).map(({ sheet: { call }, gives }) => {
@@ -212,7 +212,7 @@ function saysWhy() {
         fs.cpSync(path.join(ROOT, name), path.join(work, 'clone', name), { recursive: true });
     }
     const bare = (words) => spawnSync(path.join(work, 'clone', 'tools', 'sheet'), [...words, 't0.txt', ...(words[0] === 'pack' ? ['-o', 'bare.sheet'] : [])], { cwd: work, encoding: 'utf8' });
-    const build = 'target/bin/sheet is not built yet; this builds it: rt check sheet\n';
+    const build = 'crates/sheet/out/sheet is not built yet; this builds it: (cd crates/sheet && rt run -- data/p1.sheet)\n';
     holds('show, not built', bare(['show']).stderr === build && bare(['show']).status === 2);
     holds('pack, not built', bare(['pack']).stderr === build && bare(['pack']).status === 2 && !fs.existsSync(path.join(work, 'bare.sheet')));
     const forced = bare(['pack', '--force']);

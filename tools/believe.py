@@ -40,7 +40,7 @@ def groups():
         elif line.startswith('#'):
             crates = None
         elif ':' in line and crates is not None:
-            crates.append(line.partition(':')[0])
+            crates.append(line.split(':')[0].split()[0])
     return found
 
 

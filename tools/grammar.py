@@ -160,7 +160,7 @@ def source():
     texts = {name: comment[-1] for name, (comment, _) in abbreviations(read(KINDS), 'ℕ').items()}
     numbers = {name: int(number) for name, (_, number) in abbreviations(read(ROWS), 'ℕ').items()}
     rows = dict((name, (spread, plain)) for name, spread, plain in
-                re.findall(r'^(\S+) kids = if ends-in-spread kids then Row\.(\w+) else Row\.(\w+)$', text, re.M))
+                re.findall(r'^(\S+) kids = if ends_in_spread kids then Row\.(\w+) else Row\.(\w+)$', text, re.M))
     links = re.search(r'pub data Links : .*\n  (.*) : Links', text).group(1).split()
     declared = text[text.index('pub data Nonterminal '):].split('\n\n')[0]
     nonterminals = [name for names in re.findall(r'^  ([^-\n].*?) : ', declared, re.M) for name in names.split()]

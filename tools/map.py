@@ -61,6 +61,7 @@ def parts_of(text):
             heading = OTHERS
         elif line and not line.startswith('#'):
             name, _, words = line.partition(':')
+            name = name.split()[0]
             found.setdefault(heading, []).append(name)
             below[name] = words.split()
         before = line

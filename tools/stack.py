@@ -1,7 +1,7 @@
 #!/usr/bin/env python3
 """Bounds the stack of every function of include/vuolmaset.h from the archive's object code, and holds what the header and the Rust crate say to it.
 
-    tools/stack.py [ARCHIVE]          target/staticlib/libvuolmaset.a, which `rt staticlib vuolmaset` writes
+    tools/stack.py [ARCHIVE]          crates/vuolmaset/out/libvuolmaset.a, which `rt lib` in crates/vuolmaset writes
     tools/stack.py --ways FILE ..     writes the bounds to a file too, by how many brackets or rows there are, for bench/harness's `search`
     tools/stack.py --uncut ..         the same with no call counted: it must fail with a cycle, or else cycles are not seen
 
@@ -285,7 +285,7 @@ def bounds(entry, functions, sources):
 
 def main():
     arguments = argparse.ArgumentParser(description=__doc__, formatter_class=argparse.RawDescriptionHelpFormatter)
-    arguments.add_argument('archive', nargs='?', default=os.path.join(ROOT, 'target/staticlib/libvuolmaset.a'))
+    arguments.add_argument('archive', nargs='?', default=os.path.join(ROOT, 'crates/vuolmaset/out/libvuolmaset.a'))
     arguments.add_argument('--ways', metavar='FILE')
     arguments.add_argument('--uncut', action='store_true')
     asked = arguments.parse_args()

@@ -7,7 +7,7 @@
 #     RUN        one of those that tools/crate/src/main.rs names
 #
 # FOLDER, or OXC_SOURCE, has arrow.rs, grammar.rs, operator.rs, binding.rs and object.rs of oxc_parser 0.156.0 (its src/js). They are compiled where they lie;
-# nothing of them is in this repository. ARCHIVE names another archive than that of `rt staticlib vuolmaset`; READER=twin asks readers/twin instead. JOBS says
+# nothing of them is in this repository. ARCHIVE names another archive than that of `rt lib` in crates/vuolmaset; READER=twin asks readers/twin instead. JOBS says
 # how many threads there are, SECONDS_EACH when a run is stopped (600). Fails on a difference of no known class (src/compare/classes.rs).
 set -euo pipefail
 here=$(cd "$(dirname "${BASH_SOURCE[0]}")" && pwd)
@@ -43,8 +43,8 @@ OXC_SUM=$(cd "$source" && cut -d' ' -f3 "$here/sums.txt" | xargs cat | sha256sum
 export OXC_SUM
 features=()
 if [ "${READER:-archive}" = archive ]; then
-    export VUOLMASET_ARCHIVE=${ARCHIVE:-$root/target/staticlib/libvuolmaset.a}
-    [ -f "$VUOLMASET_ARCHIVE" ] || leave_out "no archive at $VUOLMASET_ARCHIVE (rt staticlib vuolmaset)"
+    export VUOLMASET_ARCHIVE=${ARCHIVE:-$root/crates/vuolmaset/out/libvuolmaset.a}
+    [ -f "$VUOLMASET_ARCHIVE" ] || leave_out "no archive at $VUOLMASET_ARCHIVE (cd crates/vuolmaset && rt lib)"
     features=(--features archive)
 fi
 target=${CRATE_TARGET:-$root/target/crate}

@@ -6,7 +6,7 @@ const { spawnSync } = require('child_process');
 const { fileOf, spelled, tokensOf } = require('./pack.js');
 const { Problem, bytesOf, textOf } = require('./source.js');
 
-const PROGRAM = path.join(__dirname, '..', '..', 'target', 'bin', 'sheet');
+const PROGRAM = path.join(__dirname, '..', '..', 'crates', 'sheet', 'out', 'sheet');
 
 // One byte more than the longest sheet file has. The program looks no further: a longer file is no sheet's.
 const ENOUGH = 8205;
@@ -14,11 +14,11 @@ const ENOUGH = 8205;
 // What the program prints for the bytes of a sheet file.
 function ask(bytes) {
     if (!fs.existsSync(PROGRAM)) {
-        throw new Problem('target/bin/sheet is not built yet; this builds it: rt check sheet');
+        throw new Problem('crates/sheet/out/sheet is not built yet; this builds it: (cd crates/sheet && rt run -- data/p1.sheet)');
     }
     const run = spawnSync(PROGRAM, [], { input: bytes.subarray(0, ENOUGH), encoding: 'utf8', maxBuffer: 1 << 20 });
     if (run.error || run.status !== 0 || run.stderr !== '') {
-        throw new Problem(`target/bin/sheet failed: ${run.error?.message ?? (run.stderr.trim() || `status ${run.status}`)}`);
+        throw new Problem(`crates/sheet/out/sheet failed: ${run.error?.message ?? (run.stderr.trim() || `status ${run.status}`)}`);
     }
     return run.stdout;
 }

@@ -3,13 +3,13 @@
 # So many executions are made in all, a million if none are named: of 100, 70 with up to 64 tokens, 28 with up to 256, 2 with up to 4,400; JOBS
 # processes at a time, one for each core. The last line says how many were made and how many findings there are; what was found is kept until the
 # next run in target/fuzz/finding-*, with the log of its process, and fails the run.
-# ARCHIVE names the archive; without it target/staticlib/libvuolmaset.a is taken, which `rt staticlib vuolmaset` makes.
+# ARCHIVE names the archive; without it crates/vuolmaset/out/libvuolmaset.a is taken, which `rt lib` in crates/vuolmaset makes.
 set -euo pipefail
 root=$(cd "$(dirname "${BASH_SOURCE[0]}")/../.." && pwd)
-archive=$(realpath -m "${ARCHIVE:-$root/target/staticlib/libvuolmaset.a}")
+archive=$(realpath -m "${ARCHIVE:-$root/crates/vuolmaset/out/libvuolmaset.a}")
 cd "$root"
 executions=${1:-1000000} seed=${2:-1} jobs=${JOBS:-$(nproc)}
-[ -e "$archive" ] || rt staticlib vuolmaset
+[ -e "$archive" ] || (cd crates/vuolmaset && rt lib)
 
 # clang with its runtime libraries, which newer Debians have in a package of their own.
 install() { DEBIAN_FRONTEND=noninteractive apt-get install -y --no-install-recommends "$@" > /dev/null; }
