@@ -10,10 +10,6 @@ use tokens::cause::Cause;
 use tokens::check::Checked;
 use tokens::{causes, checks, classes};
 
-fn wide(k: u8) -> usize {
-    k as usize
-}
-
 fn told(test: bool) -> u8 {
     if test { 1 } else { 0 }
 }
