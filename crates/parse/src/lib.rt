@@ -1,5 +1,5 @@
 // The one cycle of calls: expressions, arrows, literals and bindings call one another (13.2 to 13.16, 14.3.3, 15.3, 15.9).
-// All of it stands in one file, in the order of the standard; the cycle is named `expressions`.
+// All of it stands in one file, from Expression down to the parts of bindings; the cycle is named `expressions`.
 #![tactic(auto)]
 
 ghost use Rattle.std.specs.Prelude.{◌+◌, ◌<◌, length, get_or, if◌then◌else◌};

@@ -1,13 +1,13 @@
 // What a kind is (RULES T5 to T8): names, words, literals, and what the three-way answer takes for names and modifiers.
 ghost use Rattle.std.specs.Prelude.{◌≡◌};
-ghost use Rattle.tokens.specs.Bool.{between as is-between};
+ghost use Rattle.tokens.specs.Bool.{between as is_between};
 ghost use Rattle.tokens.specs.Token.{is_name, is_word, is_literal, is_binding_identifier, is_modifier_kind};
 
 use crate::kind;
 
 // Whether a kind is one of low, .., high.
 pub fn between(low: u8, high: u8, k: u8) -> bool
-    ensures { result ≡ is-between low high k }
+    ensures { result ≡ is_between low high k }
 {
     low <= k && k <= high
 }

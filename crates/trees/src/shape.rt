@@ -2,7 +2,7 @@
 ghost use Rattle.std.specs.Prelude.{◌≡◌, ◌+◌, ◌<◌, leb};
 ghost use Rattle.tokens.specs.Bool.{◌and◌};
 ghost use Rattle.rows.specs.Mask.{has, Cell};
-ghost use Rattle.rows.specs.Shape.{is_listed as listed, shape_of, least, may_be, may_end, fits as may-stand};
+ghost use Rattle.rows.specs.Shape.{is_listed as listed, shape_of, least, may_be, may_end, fits as may_stand};
 
 use rows::row;
 
@@ -329,7 +329,7 @@ fn may_end(kind: u32, kid: u32, last: u32) -> bool
 // Whether a row of this kind may have a kid of kind `kid`, with so many kids before it and so many after it, its own last kid of
 // kind `last` (0 if it has none). A kind that is not listed has no kids and is none.
 pub fn fits(kind: u32, before: u64, after: u64, kid: u32, last: u32) -> bool
-    ensures { result ≡ may-stand kind before after kid last }
+    ensures { result ≡ may_stand kind before after kid last }
 {
     if 63 < kid {
         return false;
