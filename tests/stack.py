@@ -40,6 +40,46 @@ BAD = {
     'address of a function': 'static long one(long n) { return n + 1; } long use(void *); long call(void) { return (long)one; }',
 }
 
+# A jump by a table, as the archive's compiler writes it: 18 and 20 lead to the first call, 19 to the second, and no other value to either.
+TABLE = """
+    .section .text.f,"ax",@progbits
+    .globl f
+    .type f,@function
+f:  add $-18,%eax
+    cmp $2,%eax
+    ja .Lother
+    lea .Ltable(%rip),%rsi
+    movslq (%rsi,%rax,4),%rax
+    add %rsi,%rax
+    jmp *%rax
+.Lfirst:
+    call g
+    ret
+.Lsecond:
+    call g
+.Lother:
+    ret
+    .size f,.-f
+    .section .text.g,"ax",@progbits
+    .globl g
+    .type g,@function
+g:  ret
+    .size g,.-g
+    .section .rodata,"a"
+    .p2align 2
+.Ltable:
+    .long .Lfirst-.Ltable, .Lsecond-.Ltable, .Lfirst-.Ltable
+"""
+
+
+def untested_calls(folder, constants):
+    """How many of the two calls of TABLE no test stands before that found one of the constants."""
+    source, target = os.path.join(folder, 'a.s'), os.path.join(folder, 'a.o')
+    open(source, 'w').write(TABLE)
+    subprocess.run(['gcc', '-c', source, '-o', target], check=True, cwd=folder)
+    function = next(each for each in frames.read_archive(target, {}) if each.name == 'f')
+    return len(frames.before_test(function, constants) & set(function.calls))
+
 
 def compiled(folder, text):
     """The functions of a text in C, and the frames that gcc says."""
@@ -90,6 +130,10 @@ def main():
         # The arguments of `many` are on the stack at its call, and not at that of memset.
         if ways['last'] != (frame['last'] + frame['cleared'] - 16 + 8 + stack.OUTSIDE['memset'], ('cleared', 0)):
             wrong.append('the longest way: %s bytes, of %s' % (ways['last'], frame))
+        for constants, wanted in ([18, 20], 1), ([18, 19, 20], 0), ([18], 2), ([], 2):
+            got = untested_calls(folder, constants)
+            if got != wanted:
+                wrong.append('a table of jumps, of %s: %d calls without a test, and not %d' % (constants, got, wanted))
         for words, text in BAD.items():
             got = refusal(folder, text)
             if words.strip() not in got:

@@ -23,6 +23,7 @@ class Function:
         self.code = {}      # address: (mnemonic, operands, relocation), in order
         self.after = {}     # address: the next one
         self.table = set()  # the addresses in its tables of jumps
+        self.tables = {}    # of each table, by its section and place: where each of its places leads
         self.ways = {}      # address: where the way goes on in the function
         self.calls = {}     # address: (bytes on the stack where the callee starts, the callee)
         self.frame = 0      # the most bytes that it puts on the stack itself
@@ -103,6 +104,7 @@ def read_tables(archive, functions):
         if function is None or found[2] != 'R_X86_64_PC32' or name != function.section or offset - (at - start) not in function.code:
             raise Wrong('%s+0x%x: an address of %s, and no table of jumps' % (section, at, name))
         function.table.add(offset - (at - start))
+        function.tables.setdefault((section, start), {})[(at - start) // 4] = offset - (at - start)
 
 
 def callee(function, at, functions, outside):
@@ -187,8 +189,27 @@ def walk(function, functions, outside):
             raise function.wrong(at, 'never reached')
 
 
+def chosen(function, at):
+    """Of a jump by a table: where each value leads, if the six lines before it are those that take the value to a place in the table, and no way leads
+    between them. The value less a constant is the place: `add`, `cmp`, `ja`, `lea` of the table, `movslq`, `add`."""
+    lines = list(function.code)
+    before = lines[max(lines.index(at) - 6, 0):lines.index(at)]
+    texts = [' '.join(function.code[line][:2]) for line in before]
+    found = re.fullmatch(r'add \$0x(?P<less>[0-9a-f]+),%e(?P<place>\w\w);cmp \$0x[0-9a-f]+,%e(?P=place);ja [0-9a-f]+;'
+                         r'lea 0x0\(%rip\),%(?P<table>\w+);movslq \(%(?P=table),%r(?P=place),4\),%r(?P=place);add %(?P=table),%r(?P=place)', ';'.join(texts))
+    inner = set(before[1:]) | {at}
+    if not found or any(way in inner and function.after.get(line) != way for line, ways in function.ways.items() for way in ways):
+        return None
+    section, offset = named(function.code[before[3]][2][1])
+    leads = {}
+    for place, way in function.tables.get((section, offset + 4), {}).items():
+        leads.setdefault(way, set()).add((place - int(found['less'], 16)) % 2 ** 32)
+    return leads
+
+
 def before_test(function, constants):
-    """The addresses that a function comes to with no test before them that found something equal to one of the constants."""
+    """The addresses that a function comes to with no test before them that found something equal to one of the constants, and by no jump of a table
+    that leads there for such values alone."""
     found, waiting = set(), [(function.start, False)]
     while waiting:
         at, tested = state = waiting.pop()
@@ -203,6 +224,9 @@ def before_test(function, constants):
             ways = [way for way in ways if (way == function.after.get(at)) == (mnemonic == 'je')]
         elif not mnemonic.startswith(('mov', 'lea')):
             tested = False
+            leads = chosen(function, at) if mnemonic == 'jmp' and operands.startswith('*') else None
+            if leads:
+                ways = [way for way, values in leads.items() if not values <= set(constants)]
         waiting += [(way, tested) for way in ways]
     return {at for at, _ in found}
 

@@ -17,7 +17,7 @@ ROOT = os.path.join(os.path.dirname(os.path.abspath(__file__)), '..')
 PAGE, PORT = 'docs/MAP.md', '## The port\n'
 CITED = re.compile(r'`(\w+/src/\w+\.rt)((?: \w+)*)`')
 ROW = re.compile(r'^\| `([\w:]+)` \| [\w./]+:\d+ \|(.*)\|$', re.M)
-ITEM = re.compile(r'((?:^//.*\n)*)(?:^#\[.*\n)*^(?:pub )?(?:extern "C" )?(fn|const|enum|struct) (\w+)', re.M)
+ITEM = re.compile(r'((?:^ *//.*\n)*)(?:^ *#\[.*\n)*^ *(?:pub )?(?:extern "C" )?(fn|const|enum|struct) (\w+)', re.M)
 SAID = re.compile(r'(?:Follows|Stands for) ([^.]*)\.')
 
 

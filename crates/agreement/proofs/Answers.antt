@@ -1,6 +1,7 @@
 -- Demand 3 of the entries. Past the checks 1 to 7, in a list without the early commit, an entry answers Read exactly if the plain reader reads the list; and then both
 -- buffers hold what the plain reader reads: its rows and its records, and then 0. With no exception: where an entry answers Read, the plain reader reads that.
 -- The statements, at the end: `entry_agrees`, `read_agrees`, `pattern_agrees`, `entry_read`. Assumes nothing.
+use Rattle.std.specs.Prelude.{Ok}
 use Prim.Native.Nat.{ℕ, ◌≤◌}
 use mathlib.Core.Path.{◌≡◌, refl}
 use mathlib.Core.List.{List}
@@ -8,7 +9,6 @@ use native.Mathlib.Omega.{arith}
 use lib.ListN.{length}
 use Rattle.tokens.specs.declared.cause.Answer.{Answer}
 use Rattle.tokens.specs.declared.cause.Counts.{Counts}
-use Rattle.tokens.specs.declared.check.Checked.{Checked}
 use Rattle.rows.specs.Tree.{Forest, sizes, flats}
 use Rattle.rows.specs.Record.{Record, record_words}
 use Rattle.grammar.specs.Sheet.{Sheet}
@@ -33,7 +33,7 @@ pub record ShowsPlain (given : Given) (rows records : List ℕ) (plainly : Whole
   pub plain_reads : ReadAs plainly trees said
   pub shows : Shows given rows records trees said
 
-module _ (job : Job) (sheet : Sheet) (rows records : List ℕ) (there : looked_at job ≤ length sheet.kinds) (fine : checks sheet rows records ≡ Checked.Fine) where
+module _ (job : Job) (sheet : Sheet) (rows records : List ℕ) (there : looked_at job ≤ length sheet.kinds) (fine : checks sheet rows records ≡ Ok tt) where
   box_shows : {trees : Forest} {said : List Record} → ReadAs (reading (box sheet) sheet job cleared) trees said → Shows (entry job sheet rows records) rows records trees said
   unfolding entry checked answered
   box_shows r = record { abandoned = noted_places r.after; answer = rw (fine, r.is_whole); rows_hold = rw (fine, r.is_whole); records_hold = rw (fine, r.is_whole) }
@@ -54,10 +54,10 @@ module _ (job : Job) (sheet : Sheet) (rows records : List ℕ) (there : looked_a
   entry_agrees none trees said r = box_shows (other_way sheet job there none trees said r)
 
 -- the reader's entry and the pattern entry
-pub read_agrees : (sheet : Sheet) (rows records : List ℕ) → checks sheet rows records ≡ Checked.Fine → NoEarly sheet → (trees : Forest) (said : List Record)
+pub read_agrees : (sheet : Sheet) (rows records : List ℕ) → checks sheet rows records ≡ Ok tt → NoEarly sheet → (trees : Forest) (said : List Record)
     → ReadAs (plain_reading sheet) trees said → Shows (read_entry sheet rows records) rows records trees said
 read_agrees sheet rows records fine = entry_agrees (expression 0) sheet rows records (omega arith) fine
 
-pub pattern_agrees : (sheet : Sheet) (rows records : List ℕ) → checks sheet rows records ≡ Checked.Fine → NoEarly sheet → (trees : Forest) (said : List Record)
+pub pattern_agrees : (sheet : Sheet) (rows records : List ℕ) → checks sheet rows records ≡ Ok tt → NoEarly sheet → (trees : Forest) (said : List Record)
     → ReadAs (plain_pattern sheet) trees said → Shows (pattern_entry sheet rows records) rows records trees said
 pattern_agrees sheet rows records fine = entry_agrees (binding_element 0) sheet rows records (omega arith) fine

@@ -1,6 +1,6 @@
 -- How long all brackets are together: at most the number of tokens times one more than the deepest nesting.
 -- `deepest` is the definition; the statements, at the end: `spans_bounded`, and `nesting_64`: after check 7 the deepest nesting is at most 64. Assumes nothing.
-use Rattle.std.specs.Prelude.{if◌then◌else◌}
+use Rattle.std.specs.Prelude.{if◌then◌else◌, Ok, Err}
 use Prim.Native.Nat.{ℕ, zero, suc, ◌+◌, ◌-◌, ◌*◌, ◌≤◌, ◌<◌, max}
 use mathlib.Core.Path.{◌≡◌, refl, sym, ap, ◌∙◌}
 use mathlib.Core.Bool.{Bool, true, false}
@@ -14,7 +14,6 @@ use Rattle.tokens.specs.Bool.{◌or◌, ◌is◌}
 use Rattle.tokens.specs.Kind.{LParen, RParen, LBrack, RBrack, LCurly, RCurly}
 use Rattle.tokens.specs.Check.{depth_after, nesting, check_nesting}
 use Rattle.tokens.specs.declared.cause.Cause.{Cause}
-use Rattle.tokens.specs.declared.check.Checked.{Checked}
 use Rattle.grammar.specs.Sheet.{Sheet, token}
 use Rattle.laws.proofs.Balanced.{side_of, Side}
 use Rattle.agreement.proofs.Scope.{closing, scope, closes_from, closing_flat, closing_open, closing_close, closing_here, closing_later}
@@ -121,7 +120,7 @@ pub spans_bounded : (sheet : Sheet) → spans sheet (length sheet.kinds) 0 ≤ l
 spans_bounded sheet = omega (arith, bounded sheet (length sheet.kinds) 0 0 (deepest sheet) (omega arith) (omega arith))
 
 -- check 7 bounds the nesting
-nested_64 : (sheet : Sheet) (kinds : List ℕ) (depth p q : ℕ) → ((i : ℕ) → get_or kinds i 0 ≡ token sheet (p + i)) → nesting depth q kinds ≡ Checked.Fine → depth ≤ 64
+nested_64 : (sheet : Sheet) (kinds : List ℕ) (depth p q : ℕ) → ((i : ℕ) → get_or kinds i 0 ≡ token sheet (p + i)) → nesting depth q kinds ≡ Ok tt → depth ≤ 64
     → deepest_from sheet (length kinds) p depth ≤ 64
 unfolding nesting deepest_from
 nested_64 sheet [] depth p q same fine le = le
@@ -130,12 +129,12 @@ nested_64 sheet (k ∷ kinds) depth p q same fine le =
     go (ltb 64 (depth_after depth k)) refl fine
     (λ f l. rw (sym here) (nested_64 sheet kinds (depth_after depth k) (p + 1) (suc q) (λ i. same (suc i) ∙ ap (token sheet) (omega arith)) f l))
   where
-    go : (b : Bool) → ltb 64 (depth_after depth k) ≡ b → (if b then Checked.Refused (Cause.Nesting q) else nesting (depth_after depth k) (suc q) kinds) ≡ Checked.Fine
-        → (nesting (depth_after depth k) (suc q) kinds ≡ Checked.Fine → depth_after depth k ≤ 64 → deepest_from sheet (length kinds) (p + 1) (depth_after depth (token sheet p)) ≤ 64)
+    go : (b : Bool) → ltb 64 (depth_after depth k) ≡ b → (if b then Err (Cause.Nesting q) else nesting (depth_after depth k) (suc q) kinds) ≡ Ok tt
+        → (nesting (depth_after depth k) (suc q) kinds ≡ Ok tt → depth_after depth k ≤ 64 → deepest_from sheet (length kinds) (p + 1) (depth_after depth (token sheet p)) ≤ 64)
         → max depth (deepest_from sheet (length kinds) (p + 1) (depth_after depth (token sheet p))) ≤ 64
     go true e f h = let z : ◌≡◌ {A = ℕ} 0 1 = cc in absurd (omega arith)
     go false e f h = omega (arith, h f (omega (arith, ltb-false 64 (depth_after depth k) e)))
 
-pub nesting_64 : (sheet : Sheet) → check_nesting sheet.kinds ≡ Checked.Fine → deepest sheet ≤ 64
+pub nesting_64 : (sheet : Sheet) → check_nesting sheet.kinds ≡ Ok tt → deepest sheet ≤ 64
 unfolding check_nesting
 nesting_64 sheet fine = nested_64 sheet sheet.kinds 0 0 0 (λ i. ap (token sheet) (omega arith)) fine (omega arith)

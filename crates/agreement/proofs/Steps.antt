@@ -3,7 +3,7 @@
 -- A reader with any policy applies at most (13 · tokens + 12) · (1 + heads given up) productions. The box's reader gives up no head twice: at most (13 · tokens + 12) · (1 + abandoned),
 -- and at most 69 · tokens · (1 + deepest nesting), which after check 7 is at most 4,485 · tokens; and it never sticks, whether the list is read or refused.
 -- The statements, at the end: `any_work`, `box_work`, of a counting reader that is done or fails; of a whole list `list_work`, `read_work`, `checked_work`. Assumes nothing.
-use Rattle.std.specs.Prelude.{if◌then◌else◌}
+use Rattle.std.specs.Prelude.{if◌then◌else◌, Ok}
 use Prim.Native.Nat.{ℕ, zero, suc, ◌+◌, ◌-◌, ◌*◌, ◌≤◌, ◌<◌, min}
 use mathlib.Core.Path.{◌≡◌, refl, sym, ap, ◌∙◌}
 use mathlib.Core.Bool.{Bool, true, false}
@@ -17,7 +17,6 @@ use borrow.Author.Tests.{eq-eqb, ne_eqb, lt-ltb, le-ltb, eqb-true}
 use Rattle.tokens.specs.Bool.{◌is◌}
 use Rattle.tokens.specs.Kind.{Async, LParen}
 use Rattle.tokens.specs.Check.{check_nesting}
-use Rattle.tokens.specs.declared.check.Checked.{Checked}
 use Rattle.rows.specs.Tree.{Forest}
 use Rattle.rows.specs.Record.{Record}
 use Rattle.grammar.specs.Sheet.{Sheet, token, Out, done, fail}
@@ -295,10 +294,10 @@ module _ (sheet : Sheet) (some_tokens : 1 ≤ length sheet.kinds) (small : lengt
       ends after w c (ended_fail cause k r) = let d = c.done_at_end in let z : ◌≡◌ {A = ℕ} 0 1 = cc in absurd (omega arith)
 
   -- after check 7 at most 4,485 productions a token
-  pub checked_work : check_nesting sheet.kinds ≡ Checked.Fine → (m : Counted (List ℕ)) → m.steps ≤ 69 * (length sheet.kinds * (1 + deepest sheet)) → m.steps ≤ 4485 * length sheet.kinds
+  pub checked_work : check_nesting sheet.kinds ≡ Ok tt → (m : Counted (List ℕ)) → m.steps ≤ 69 * (length sheet.kinds * (1 + deepest sheet)) → m.steps ≤ 4485 * length sheet.kinds
   checked_work fine m by_nesting =
       let n = length sheet.kinds in
       omega (arith, by_nesting, mul-le-mul_left n (deep fine), mul_comm n 65)
     where
-      deep : check_nesting sheet.kinds ≡ Checked.Fine → 1 + deepest sheet ≤ 65
+      deep : check_nesting sheet.kinds ≡ Ok tt → 1 + deepest sheet ≤ 65
       deep fine = omega (arith, nesting_64 sheet fine)

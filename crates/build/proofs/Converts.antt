@@ -1,5 +1,6 @@
 -- Conversion of the tree that was read last: its rows stand from `from` up to n.
 -- Assumes nothing.
+use Rattle.std.specs.Prelude.{Ok, Err}
 use Prim.Native.Nat.{ℕ, ◌+◌, ◌*◌, ◌≤◌}
 use mathlib.Core.Path.{◌≡◌, refl, sym, ap, ◌∙◌}
 use mathlib.Core.List.{List, ◌++◌, append-nil, append_assoc}
@@ -15,7 +16,7 @@ use Rattle.rows.proofs.Records.{length_record_words}
 use Rattle.conversion.specs.Conversion.{Role, simple, Outcome, turned, refused, convert_as}
 use Rattle.conversion.specs.Conversion.{potential}
 use Rattle.targets.specs.Post as Targets
-use Rattle.targets.specs.declared.Conversion.{Conversion}
+use Rattle.targets.specs.Outcome.{Conversion}
 use Rattle.laws.proofs.Owed.{same_size, pays}
 use Rattle.build.specs.Post.{cursor, Made}
 
@@ -54,15 +55,6 @@ pub record Unturned (r₀ s₀ : List ℕ) (left : Tree) (role : Role) (cause : 
   pub rows_same : r ≡ r₀
   pub records_same : s ≡ s₀
 
-same_count : (a b : ℕ) → Conversion.Turned a ≡ Conversion.Turned b → a ≡ b
-same_count a b e = cc
-
-same_cause : (a b : Cause) → Conversion.Refused a ≡ Conversion.Refused b → a ≡ b
-same_cause a b e = cc
-
-apart : (a : ℕ) (b : Cause) → Conversion.Turned a ≡ Conversion.Refused b → ⊥
-apart a b e = let z : ◌≡◌ {A = ℕ} 0 1 = cc in omega arith
-
 module _ {r₀ s₀ r s : List ℕ} {from n root k : ℕ} {role : Role} {x : Conversion} (h : Targets.RowConverted r₀ s₀ root role k r s x) (left : Tree) (g : Grown r₀ from r₀ n (one left))
     (e : n ≡ root + 1) (room : 6 * n ≤ length r₀) (deep : 2 * (k + potential left) ≤ length s₀) where
   tree_made : (t : Tree) (records : List Record) → convert_as left role ≡ turned t records
@@ -90,24 +82,21 @@ module _ {r₀ s₀ r s : List ℕ} {from n root k : ℕ} {role : Role} {x : Con
         };
       }
 
-  cases : {count : ℕ} → x ≡ Conversion.Turned count → (o : Outcome Tree) → convert_as left role ≡ o → Turned r₀ s₀ from n k left role count r s
+  cases : {count : ℕ} → x ≡ Ok count → (o : Outcome Tree) → convert_as left role ≡ o → Turned r₀ s₀ from n k left role count r s
   cases {count} q (turned t records) c =
       let m = h.done (rooted g e room) t records c in
-      let a : count ≡ length records = same_count _ _ (sym q ∙ m.0) in
+      let a : count ≡ length records = cc in
       record { target = t; records = records; converts = c; counted = a; made = λ at. rw a (tree_made t records c m.1 at) }
-  cases {count} q (refused cause) c = absurd (apart count cause (sym q ∙ (h.fail (rooted g e room) cause c).0))
+  cases q (refused cause) c = let m = h.fail (rooted g e room) cause c in absurd (cc)
 
-  pub is_turned : {count : ℕ} → x ≡ Conversion.Turned count → Turned r₀ s₀ from n k left role count r s
+  pub is_turned : {count : ℕ} → x ≡ Ok count → Turned r₀ s₀ from n k left role count r s
   is_turned q = cases q (convert_as left role) refl
 
-  cases' : {cause : Cause} → x ≡ Conversion.Refused cause → (o : Outcome Tree) → convert_as left role ≡ o → Unturned r₀ s₀ left role cause r s
-  cases' {cause} q (turned t records) c = absurd (apart _ cause (sym (h.done (rooted g e room) t records c).0 ∙ q))
-  cases' {cause} q (refused other) c =
-      let m = h.fail (rooted g e room) other c in
-      let a : other ≡ cause = same_cause _ _ (sym m.0 ∙ q) in
-      record { converts = c ∙ ap refused a; rows_same = m.1; records_same = m.2 }
+  cases' : {cause : Cause} → x ≡ Err cause → (o : Outcome Tree) → convert_as left role ≡ o → Unturned r₀ s₀ left role cause r s
+  cases' q (turned t records) c = let m = h.done (rooted g e room) t records c in absurd (cc)
+  cases' q (refused other) c = let m = h.fail (rooted g e room) other c in record { converts = cc; rows_same = m.1; records_same = m.2 }
 
-  pub is_refused : {cause : Cause} → x ≡ Conversion.Refused cause → Unturned r₀ s₀ left role cause r s
+  pub is_refused : {cause : Cause} → x ≡ Err cause → Unturned r₀ s₀ left role cause r s
   is_refused q = cases' q (convert_as left role) refl
 
 -- the records of a conversion are no more than what the tree owed

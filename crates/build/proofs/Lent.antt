@@ -1,12 +1,12 @@
 -- P1 to P10 and G1 to G7 of docs/RULES.md of the reader's entry, exact to the last word of both buffers.
 -- Assumes nothing.
+use Rattle.std.specs.Prelude.{Ok}
 use Prim.Native.Nat.{ℕ, ◌+◌, ◌*◌}
 use mathlib.Core.Path.{◌≡◌, refl, ap, ◌∙◌}
 use mathlib.Core.List.{List, [], ◌∷◌}
 use native.Mathlib.Nat.{sub-zero}
 use lib.ListN.{length, replicate, length-replicate}
 use Rattle.tokens.specs.Check.{check_length, check_flag_length, first_such, check_flags, check_kinds, depth_after, nesting, check_nesting}
-use Rattle.tokens.specs.declared.check.Checked.{Checked}
 use Rattle.grammar.specs.Sheet.{Sheet}
 use Rattle.grammar.specs.Reading.{Whole, whole, refused, box_reading, answer_of}
 use Rattle.laws.proofs.Sheets as Said
@@ -14,7 +14,7 @@ use Rattle.laws.proofs.Sheets.{Case, row_words, said_words, sheet_of, sheets, Al
 use Rattle.grammar.specs.Lent.{check_row_room, check_record_room, checks, padded, answered, checked, entry, read_entry}
 
 -- a list that passes the checks is read
-past_checks : (sheet : Sheet) (rows records : List ℕ) → checks sheet rows records ≡ Checked.Fine → read_entry sheet rows records ≡ answered rows records (box_reading sheet)
+past_checks : (sheet : Sheet) (rows records : List ℕ) → checks sheet rows records ≡ Ok tt → read_entry sheet rows records ≡ answered rows records (box_reading sheet)
 unfolding entry checked
 past_checks sheet rows records fine = rw fine
 
@@ -41,7 +41,7 @@ Holds case =
 
 -- the case passes the checks
 abbrev Passes : Case → Type 0
-Passes case = checks (sheet_of case) (rows_lent case) (records_lent case) ≡ Checked.Fine
+Passes case = checks (sheet_of case) (rows_lent case) (records_lent case) ≡ Ok tt
 
 passes : All Passes sheets
 unfolding checks check_row_room check_record_room check_length check_flag_length first_such check_flags check_kinds depth_after nesting check_nesting

@@ -1,5 +1,6 @@
 pub mod Rules
 pub mod Ways
+pub mod Results
 pub mod Ends
 pub mod Makes
 pub mod Lent

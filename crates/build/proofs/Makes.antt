@@ -1,5 +1,6 @@
 -- What is added, one part after another: trees and records, rows over them, records after them; and what is given up again.
 -- Assumes nothing.
+use Rattle.std.specs.Prelude.{Ok}
 use Prim.Native.Nat.{ℕ, ◌+◌, ◌*◌, ◌≤◌}
 use mathlib.Core.Path.{◌≡◌, refl, sym, ap, subst, ◌∙◌}
 use mathlib.Core.List.{List, [], ◌∷◌, ◌++◌}
@@ -13,7 +14,6 @@ use Rattle.grammar.specs.Sheet.{done, leaf}
 use Rattle.grammar.specs.Job.{Job}
 use Rattle.build.specs.Post.{cursor, Comes, Met, Made, Unmade, Leafed, Topped, Said}
 use Rattle.build.specs.declared.cursor.Cursor.{Cursor}
-use Rattle.build.specs.declared.cursor.Step.{Step}
 use Rattle.build.proofs.Ends.{is_done}
 
 -- rows that stand, as rows added to what stands
@@ -91,7 +91,7 @@ count_one ts t e = rw e
 module _ {ks fs r₀ s₀ m₀ r s m : List ℕ} {job : Job} {n k : ℕ} where
   -- a step that ends in a row over all that was added
   pub is_topped : {r₁ : List ℕ} {c d : Cursor} {kind mark first end kids : ℕ} {ts : Forest} {rs : List Record} → Topped r₁ c kind mark first end kids n r d
-      → Comes ks fs job m₀ (done end (one (node kind mark first end ts)) rs m) → Made r₀ s₀ n k r₁ s c ts rs → kids ≡ count ts → Met ks fs r₀ s₀ m₀ r s m job n k (Step.Done d)
+      → Comes ks fs job m₀ (done end (one (node kind mark first end ts)) rs m) → Made r₀ s₀ n k r₁ s c ts rs → kids ≡ count ts → Met ks fs r₀ s₀ m₀ r s m job n k (Ok d)
   is_topped {kind = kind} {mark} {first} {end} {ts = ts} {rs} top h a e =
       is_done refl record {
         trees = one (node kind mark first end ts);
@@ -102,7 +102,7 @@ module _ {ks fs r₀ s₀ m₀ r s m : List ℕ} {job : Job} {n k : ℕ} where
 
 -- a step that ends in a row over one token
 pub is_leafed : {ks fs r₀ m₀ r s m : List ℕ} {job : Job} {n k at kind : ℕ} {d : Cursor} → Leafed r₀ (cursor at n k) kind r d → Comes ks fs job m₀ (done (at + 1) (one (leaf kind at)) [] m)
-    → Met ks fs r₀ s m₀ r s m job n k (Step.Done d)
+    → Met ks fs r₀ s m₀ r s m job n k (Ok d)
 is_leafed {ks} {fs} {m₀ = m₀} {m = m} {job = job} {at = at} {kind} top h =
     is_done refl record {
       trees = one (leaf kind at);

@@ -1,22 +1,22 @@
 -- What is made of operators once their operands are read; and keys of object literals and object bindings.
-use Rattle.std.specs.Prelude.{◌+◌, ◌-◌, ◌*◌, ◌≤◌, ◌<◌, ◌≡◌, ◌++◌, if◌then◌else◌}
+use Rattle.std.specs.Prelude.{◌+◌, ◌-◌, ◌*◌, ◌≤◌, ◌<◌, ◌≡◌, ◌++◌, if◌then◌else◌, Ok, Err, Option, Some, None}
 use Rattle.rows.specs.Base.{ℕ, Bool, true, not, List, length, get_or, ◌or◌, ◌and◌, ◌is◌, Cause, Tree, node, cons, one, Record, is_name, is_word}
 use Rattle.tokens.specs.Kind.{Question2, Star2, Str, Number, Colon}
 use Rattle.rows.specs.Post.{Grown}
 use Rattle.grammar.specs.{Sheet.sheet_of, Sheet.done, Sheet.fail, Job.left_hand_side, Job.postfix, Job.unary, Binary.operation_kind, Binary.operation_records}
 use Rattle.grammar.specs.Update.{is_unary_operator, is_update_operator}
 use Rattle.conversion.specs.Conversion.{potential as owed}
-use Rattle.build.specs.{Post.Comes, Post.Made, Post.Unmade, declared.cursor.Cursor.Cursor, declared.cursor.Step.Step}
+use Rattle.build.specs.{Post.Comes, Post.Made, Post.Unmade, declared.cursor.Cursor.Cursor, Post.Step}
 use Rattle.rows.specs.Row as Row
 
 abbrev pub or_and : List ℕ → List ℕ → ℕ → Bool  -- the row is a Logical one whose own operator is `||` or `&&`
 or_and ks r root = get_or r (6 * root + 0) 0 is Row.Logical and not (get_or ks (get_or r (6 * root + 1) 0) 0 is Question2)
 
-abbrev pub record_number : List ℕ → List ℕ → ℕ → ℕ → ℕ → ℕ  -- the number of the record of a binary row over two rows, 0 for none
+abbrev pub record_number : List ℕ → List ℕ → ℕ → ℕ → ℕ → Option ℕ  -- the number of the record of a binary row over two rows, if it has one
 record_number ks r at left right =
-    if get_or ks at 0 is Question2 then (if or_and ks r left or or_and ks r right then 6 else 0)
-    else if get_or ks at 0 is Star2 and get_or r (6 * left + 0) 0 is Row.Unary then 7
-    else 0
+    if get_or ks at 0 is Question2 then (if or_and ks r left or or_and ks r right then Some 6 else None)
+    else if get_or ks at 0 is Star2 and get_or r (6 * left + 0) 0 is Row.Unary then Some 7
+    else None
 
 abbrev pub is_prefix_operator : ℕ → Bool  -- a prefix operator
 is_prefix_operator k = is_unary_operator k or is_update_operator k
@@ -64,8 +64,8 @@ pub record PostfixFail (ks fs r₀ s₀ : List ℕ) (d : Cursor) (first from : �
   pub records_same : s ≡ s₀
 
 pub record MetPostfix (ks fs r₀ s₀ : List ℕ) (d : Cursor) (first from : ℕ) (r s : List ℕ) (x : Step) : Type 0 where
-  pub done_to : (u : Cursor) → x ≡ Step.Done u → (left : Tree) → Grown r₀ from r₀ d.rows (one left) → 2 * (d.records + owed left) ≤ length s₀ → PostfixTo ks fs r₀ s₀ d first from r s left u
-  pub fail_at : (cause : Cause) → x ≡ Step.Fail cause → (left : Tree) → Grown r₀ from r₀ d.rows (one left) → 2 * (d.records + owed left) ≤ length s₀
+  pub done_to : (u : Cursor) → x ≡ Ok u → (left : Tree) → Grown r₀ from r₀ d.rows (one left) → 2 * (d.records + owed left) ≤ length s₀ → PostfixTo ks fs r₀ s₀ d first from r s left u
+  pub fail_at : (cause : Cause) → x ≡ Err cause → (left : Tree) → Grown r₀ from r₀ d.rows (one left) → 2 * (d.records + owed left) ≤ length s₀
       → PostfixFail ks fs r₀ s₀ d first from r s left cause
 
 -- prefix operators stand from `first` up to `start`, and their operand up to the cursor; there is room for a row for each
@@ -101,8 +101,8 @@ pub record Before (ks fs r₀ s₀ : List ℕ) (d : Cursor) (start from : ℕ) (
   pub comes : Comes ks fs (unary start) m₀ (done d.at (one left) rs m)
 
 pub record MetPrefixes (ks r₀ s₀ : List ℕ) (d : Cursor) (first start from : ℕ) (r s : List ℕ) (x : Step) : Type 0 where
-  pub done_to : (u : Cursor) → x ≡ Step.Done u → (fs m₀ m : List ℕ) (rs : List Record) → Before ks fs r₀ s₀ d start from m₀ m rs → PrefixedTo ks fs r₀ s₀ d first from m₀ m rs r s u
-  pub fail_at : (cause : Cause) → x ≡ Step.Fail cause → (fs m₀ m : List ℕ) (rs : List Record) → Before ks fs r₀ s₀ d start from m₀ m rs
+  pub done_to : (u : Cursor) → x ≡ Ok u → (fs m₀ m : List ℕ) (rs : List Record) → Before ks fs r₀ s₀ d start from m₀ m rs → PrefixedTo ks fs r₀ s₀ d first from m₀ m rs r s u
+  pub fail_at : (cause : Cause) → x ≡ Err cause → (fs m₀ m : List ℕ) (rs : List Record) → Before ks fs r₀ s₀ d start from m₀ m rs
       → PrefixedFail ks fs r₀ s₀ d first from m₀ m r s cause
 
 abbrev pub is_shorthand : List ℕ → ℕ → Bool  -- a name stands at the place, and no `:` after it

@@ -1,13 +1,19 @@
 -- What the contracts of the reader say: the room that it asks, what a part of a reading comes to, and what it leaves in the lent buffers.
 -- ks and fs are the kinds and flags; r, s and m the words of the rows, of the records, and the notes.
-use Rattle.std.specs.Prelude.{◌+◌, ◌-◌, ◌*◌, ◌^◌, ◌≤◌, ◌<◌, ◌≡◌}
+use Rattle.std.specs.Prelude.{◌+◌, ◌-◌, ◌*◌, ◌^◌, ◌≤◌, ◌<◌, ◌≡◌, Ok, Err, Result}
 use Rattle.rows.specs.Base.{ℕ, List, length, get_or, Cause, Tree, Forest, one, count, Record}
 use Rattle.rows.specs.Post.{Pushed, PushedRecord, Grown, Kept, GrownRecords, KeptRecords}
 use Rattle.grammar.specs.{Sheet.sheet_of, Sheet.Out, Sheet.done, Sheet.fail, Job.Job, Job.assignment, Reading.box}
 use Rattle.laws.specs.Settles.{Settles}
 use Rattle.conversion.specs.Conversion.{potential as owed}
-use Rattle.build.specs.{declared.cursor.Cursor.Cursor, declared.cursor.Step.Step, declared.cursor.Listed.Listed}
+use Rattle.build.specs.declared.cursor.Cursor.{Cursor}
 use Rattle.heads.specs.declared.Head.{Head}
+
+abbrev pub Step : Type 0  -- what comes of reading a part: it is read up to a cursor, or refused
+Step = Result Cursor Cause
+
+abbrev pub Listed : Type 0  -- what comes of reading a list: it is read up to a cursor, with so many kids, or refused
+Listed = Result (Cursor × ℕ) Cause
 
 abbrev pub cursor : ℕ → ℕ → ℕ → Cursor
 cursor at rows records = record { at = at; rows = rows; records = records }
@@ -54,8 +60,8 @@ pub record ListTo (ks fs r₀ s₀ m₀ r s m : List ℕ) (job : Job) (n k : ℕ
   pub counted : kids ≡ count trees
 
 pub record Met (ks fs r₀ s₀ m₀ r s m : List ℕ) (job : Job) (n k : ℕ) (x : Step) : Type 0 where  -- a step does what the nonterminal comes to
-  pub done_to : (d : Cursor) → x ≡ Step.Done d → ReadTo ks fs r₀ s₀ m₀ r s m job n k d
-  pub fail_at : (cause : Cause) → x ≡ Step.Fail cause → Refused ks fs r₀ s₀ m₀ r s m job n k cause
+  pub done_to : (d : Cursor) → x ≡ Ok d → ReadTo ks fs r₀ s₀ m₀ r s m job n k d
+  pub fail_at : (cause : Cause) → x ≡ Err cause → Refused ks fs r₀ s₀ m₀ r s m job n k cause
 
 -- the same for a nonterminal over the one tree that was read last: its rows stand from `from` up to n
 pub record MetOver (ks fs r₀ s₀ m₀ r s m : List ℕ) (job : Tree → Job) (from n k : ℕ) (x : Step) : Type 0 where
@@ -67,8 +73,8 @@ pub record MetAfter (ks fs r₀ s₀ m₀ r s m : List ℕ) (job : Forest → Jo
 
 -- a nonterminal that gives any number of trees was read up to a cursor, with their number, or refused
 pub record MetList (ks fs r₀ s₀ m₀ r s m : List ℕ) (job : Job) (n k : ℕ) (x : Listed) : Type 0 where
-  pub list_to : (d : Cursor) (kids : ℕ) → x ≡ Listed.Done d kids → ListTo ks fs r₀ s₀ m₀ r s m job n k d kids
-  pub list_fail : (cause : Cause) → x ≡ Listed.Fail cause → Refused ks fs r₀ s₀ m₀ r s m job n k cause
+  pub list_to : (d : Cursor) (kids : ℕ) → x ≡ Ok (d, kids) → ListTo ks fs r₀ s₀ m₀ r s m job n k d kids
+  pub list_fail : (cause : Cause) → x ≡ Err cause → Refused ks fs r₀ s₀ m₀ r s m job n k cause
 
 -- a nonterminal and then a token were read, up to past the token; or the nonterminal was refused, or the token does not stand there
 pub record ClosedTo (ks fs r₀ s₀ m₀ r s m : List ℕ) (job : Job) (close n k : ℕ) (d : Cursor) : Type 0 where
@@ -90,8 +96,8 @@ pub record NotClosedAt (ks fs r₀ s₀ m₀ r s m : List ℕ) (job : Job) (clos
   pub unmade : Unmade r₀ s₀ n k r s
 
 pub record MetClosed (ks fs r₀ s₀ m₀ r s m : List ℕ) (job : Job) (close : ℕ) (cause_at : ℕ → Cause) (n k : ℕ) (x : Step) : Type 0 where
-  pub closed_to : (d : Cursor) → x ≡ Step.Done d → ClosedTo ks fs r₀ s₀ m₀ r s m job close n k d
-  pub closed_fail : (cause : Cause) → x ≡ Step.Fail cause → NotClosedAt ks fs r₀ s₀ m₀ r s m job close cause_at n k cause
+  pub closed_to : (d : Cursor) → x ≡ Ok d → ClosedTo ks fs r₀ s₀ m₀ r s m job close n k d
+  pub closed_fail : (cause : Cause) → x ≡ Err cause → NotClosedAt ks fs r₀ s₀ m₀ r s m job close cause_at n k cause
 
 pub record Leafed (r₀ : List ℕ) (c : Cursor) (kind : ℕ) (r : List ℕ) (d : Cursor) : Type 0 where  -- a row over one token was written
   pub is : d ≡ cursor (c.at + 1) (c.rows + 1) c.records
@@ -165,5 +171,5 @@ pub record InitTo (ks fs r₀ s₀ m₀ r s m : List ℕ) (at kind from n k : �
   pub topped : Topped rows before kind at (at - 1) d.at 2 from r d
 
 pub record MetInit (ks fs r₀ s₀ m₀ r s m : List ℕ) (at kind from n k : ℕ) (x : Step) : Type 0 where
-  pub init_to : (d : Cursor) → x ≡ Step.Done d → InitTo ks fs r₀ s₀ m₀ r s m at kind from n k d
-  pub init_fail : (cause : Cause) → x ≡ Step.Fail cause → Refused ks fs r₀ s₀ m₀ r s m (assignment (at + 1)) n k cause
+  pub init_to : (d : Cursor) → x ≡ Ok d → InitTo ks fs r₀ s₀ m₀ r s m at kind from n k d
+  pub init_fail : (cause : Cause) → x ≡ Err cause → Refused ks fs r₀ s₀ m₀ r s m (assignment (at + 1)) n k cause

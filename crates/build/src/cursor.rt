@@ -1,41 +1,25 @@
-// Where a reading is, what a part of it comes to, and the few ways in which rows are written.
+// Where a reading is, and the few ways in which rows are written.
 ghost use Rattle.std.specs.Prelude.{length};
-ghost use Rattle.build.specs.Post.{cursor, Leafed, LeafRoom, Topped, TopRoom, Said, SayRoom};
-
-use tokens::cause::Cause;
+ghost use Rattle.build.specs.Post.{Leafed, LeafRoom, Topped, TopRoom, Said, SayRoom};
 
 // The place of the next token, and how many rows and records are used.
-#[derive(Clone, Copy)]
+#[derive(Clone, Copy, Debug, PartialEq, Eq)]
 pub struct Cursor {
     pub at: usize,
     pub rows: usize,
     pub records: usize,
 }
 
-// What comes of reading a part: it is read up to a cursor, or refused.
-#[derive(Clone, Copy)]
-pub enum Step {
-    Done(Cursor),
-    Fail(Cause),
-}
-
-// What comes of reading a list: it is read up to a cursor, with so many kids, or refused.
-#[derive(Clone, Copy)]
-pub enum Listed {
-    Done(Cursor, usize),
-    Fail(Cause),
-}
-
-// A row over one token, with no kids, where so many rows are made and so many records said.
-pub fn leaf(rows: &mut [u32], at: usize, made: usize, said: usize, kind: u32) -> Cursor
-    requires { LeafRoom (length rows.old) (cursor at made said) }
-    ensures { Leafed rows.old (cursor at made said) kind rows.new result }
+// A row over the next token, with no kids.
+pub fn leaf(rows: &mut [u32], c: Cursor, kind: u32) -> Cursor
+    requires { LeafRoom (length rows.old) c }
+    ensures { Leafed rows.old c kind rows.new result }
 {
-    rows::push_row(rows, made, kind, at, at, at + 1, 0, 1);
+    rows::push_row(rows, c.rows, kind, c.at, c.at, c.at + 1, 0, 1);
     Cursor {
-        at: at + 1,
-        rows: made + 1,
-        records: said,
+        at: c.at + 1,
+        rows: c.rows + 1,
+        ..c
     }
 }
 
@@ -58,11 +42,11 @@ pub fn over(
     Cursor {
         at: end,
         rows: n + 1,
-        records: c.records,
+        ..c
     }
 }
 
-// A record is added. Stands for `error`.
+// A record is added, of any number as `rows::push_record` writes it. Stands for `error`.
 pub fn say(records: &mut [u32], c: Cursor, number: u32, place: usize) -> Cursor
     requires { SayRoom (length records.old) c place }
     ensures { Said records.old c number place records.new result }
@@ -70,8 +54,7 @@ pub fn say(records: &mut [u32], c: Cursor, number: u32, place: usize) -> Cursor
     let n = c.records;
     rows::push_record(records, n, number, place);
     Cursor {
-        at: c.at,
-        rows: c.rows,
         records: n + 1,
+        ..c
     }
 }

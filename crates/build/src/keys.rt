@@ -9,18 +9,12 @@ use tokens::{classes, kind};
 pub fn is_shorthand(kinds: &[u8], at: usize) -> bool
     ensures { result ≡ is_shorthand kinds.now at }
 {
-    if classes::is_name(tokens::kind_at(kinds, at)) {
-        return tokens::kind_after(kinds, at, 1) != kind::COLON;
-    }
-    false
+    classes::is_name(tokens::kind_at(kinds, at)) && tokens::kind_after(kinds, at, 1) != kind::COLON
 }
 
 // A key of one token. Follows a part of `parse_property_name`.
 pub fn is_key(k: u8) -> bool
     ensures { result ≡ is_key k }
 {
-    if classes::is_word(k) {
-        return true;
-    }
-    k == kind::STR || k == kind::NUMBER
+    classes::is_word(k) || matches!(k, kind::STR | kind::NUMBER)
 }

@@ -41,7 +41,7 @@ read_is e = cc
 clean_is : (words records : List ℕ) (row : ℕ) (t : Tree) (out : Outcome Tree) → (done words records row t out).answer ≡ clean (size t)
     → (t' : Tree) × (out ≡ turned t' [])
 unfolding done
-clean_is words records row t (refused c) e = let z : ◌≡◌ {A = ℕ} 0 1 = cc in absurd (omega arith)
+clean_is words records row t (refused c) e = cc
 clean_is words records row t (turned t' rs) e = let n : length rs ≡ 0 = ap (λ (c : Counts). c.records) (read_is e) in (t', ap (turned t') (no_records rs n))
 
 is_clean : (words records : List ℕ) (row : ℕ) (t t' : Tree) → (done words records row t (turned t' [])).answer ≡ clean (size t)

@@ -184,11 +184,11 @@ data Step (kids : Forest) : Change → Type 0 where
   goes : {kind : ℕ} {before : List Record} {each : ℕ → Role} {after : List Record} → before ≡ [] → after ≡ [] → RuledKids each kids → Step kids (turn kind before each after)
 
 pub refused_turned : {A : Type 0} {c : Cause} {a : A} {rs : List Record} → ◌≡◌ {A = Outcome A} (refused c) (turned a rs) → ⊥
-refused_turned e = let z : ◌≡◌ {A = ℕ} 0 1 = cc in omega arith
+refused_turned e = cc
 
 pub append_nil : (xs ys : List Record) → xs ++ ys ≡ [] → (xs ≡ []) × (ys ≡ [])
 append_nil [] ys e = (refl, e)
-append_nil (x ∷ xs) ys e = let z : ◌≡◌ {A = ℕ} 0 1 = cc in absurd (omega arith)
+append_nil (x ∷ xs) ys e = cc
 
 step : (ch : Change) (kind mark first end : ℕ) (kids : Forest) (out : Outcome Forest) (t' : Tree) → over ch (node kind mark first end kids) out ≡ turned t' []
     → ((ts' : Forest) → out ≡ turned ts' [] → RuledKids (roles ch) kids) → Step kids ch
@@ -209,19 +209,19 @@ by_test P false s f g = g refl s
 
 pub both_true : (a b : Bool) → a and b ≡ true → (a ≡ true) × (b ≡ true)
 both_true true b e = (refl, e)
-both_true false b e = let z : ◌≡◌ {A = ℕ} 0 1 = cc in absurd (omega arith)
+both_true false b e = cc
 
 -- exactly one kid, exactly two kids
 pub one_kid : (kids : Forest) → eqb (count kids) 1 ≡ true → (t : Tree) × (kids ≡ one t)
 unfolding count
-one_kid nil e = let z : ◌≡◌ {A = ℕ} 0 1 = cc in absurd (omega arith)
+one_kid nil e = cc
 one_kid (cons t nil) e = (t, refl)
 one_kid (cons t (cons u us)) e = let z = eqb-true (count us + 1 + 1) 1 e in absurd (omega arith)
 
 pub two_kids : (kids : Forest) → eqb (count kids) 2 ≡ true → (t : Tree) × (u : Tree) × (kids ≡ cons t (one u))
 unfolding count
-two_kids nil e = let z : ◌≡◌ {A = ℕ} 0 1 = cc in absurd (omega arith)
-two_kids (cons t nil) e = let z : ◌≡◌ {A = ℕ} 0 1 = cc in absurd (omega arith)
+two_kids nil e = cc
+two_kids (cons t nil) e = cc
 two_kids (cons t (cons u nil)) e = (t, u, refl)
 two_kids (cons t (cons u (cons v vs))) e = let z = eqb-true (count vs + 1 + 1 + 1) 2 e in absurd (omega arith)
 
@@ -288,11 +288,11 @@ property_no_spread (pair d) e = omega arith
 
 last_no_spread : {t : Tree} {r : Record} {P Q : Tree → Type 0} → (P t → kind_of t ≡ row.Spread → ⊥) → Last (r ∷ []) P Q t → kind_of t ≡ row.Spread → ⊥
 last_no_spread h (one_more p) e = h p e
-last_no_spread h (rest c q) e = let z : ◌≡◌ {A = ℕ} 0 1 = cc in omega arith
+last_no_spread h (rest c q) e = cc
 
 no_rest_comma : (others last : Role) → ((t : Tree) → Ruled last t → kind_of t ≡ row.Spread → ⊥) → (ts : Forest) → ends_in_spread ts ≡ true → RuledKids (each others last) ts → ⊥
 unfolding RuledKids kind_of count
-no_rest_comma others last h nil e k = let z : ◌≡◌ {A = ℕ} 0 1 = cc in omega arith
+no_rest_comma others last h nil e k = cc
 no_rest_comma others last h (cons t nil) e k = h t k.0 (eqb-true _ _ e)
 no_rest_comma others last h (cons t (cons u us)) e k = no_rest_comma others last h (cons u us) e k.1
 
@@ -383,8 +383,8 @@ rule_property k m f e kids s =
 simple_argument : {t : Tree} → Target t → object_argument t ≡ [] → Simple t
 unfolding inner_kind
 simple_argument (simple s) e = s
-simple_argument (array d) e = let z : ◌≡◌ {A = ℕ} 0 1 = cc in absurd (omega arith)
-simple_argument (object d) e = let z : ◌≡◌ {A = ℕ} 0 1 = cc in absurd (omega arith)
+simple_argument (array d) e = cc
+simple_argument (object d) e = cc
 
 rule_last_property : (comma : List Record) (k m f e : ℕ) (kids : Forest) → Step kids (as_last_property comma (seen (node k m f e kids)))
     → Last comma Property Simple (node k m f e kids)

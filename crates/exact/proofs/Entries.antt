@@ -1,26 +1,23 @@
--- From the contracts of the entries to what is seen: the words of one forest and of one list of records; the checks 1 to 7; demand 2 in the standard's own terms; one law for
+-- From the contracts of the entries to what is seen: the words of one forest and of one list of records; demand 2 in the standard's own terms; one law for
 -- vuolmaset_read and vuolmaset_pattern at once, by the job, and those of the other entries; the six ways of vuolmaset_convert; and the work for a list past the checks. Assumes nothing.
-use Rattle.std.specs.Prelude.{if◌then◌else◌}
-use Prim.Native.Nat.{ℕ, ◌*◌, zero, suc, ◌+◌, ◌≤◌, ◌-◌}
+use Rattle.std.specs.Prelude.{if◌then◌else◌, Ok, Err}
+use Prim.Native.Nat.{ℕ, ◌*◌, ◌+◌, ◌≤◌, ◌-◌}
 use mathlib.Core.Path.{◌≡◌, refl, sym, ap, ◌∙◌}
 use mathlib.Core.List.{List, [], ◌∷◌, ◌++◌, append-nil}
 use native.Mathlib.Omega.{arith}
 use lib.ListN.{length, take}
 use mathlib.Core.Bool.{Bool, true, false, not}
-use lib.Dec.{ltb}
-use borrow.Author.Tests.{eqb-true, eqb-false}
 use mathlib.Core.Logic.{◌↔◌}
 use native.Mathlib.Nat.{add-zero}
 use Rattle.rows.specs.Tree.{Forest, sizes, flats, Tree, one, size, flat, node, nil, cons}
 use Rattle.rows.specs.Record.{Record, says, record_words}
 use Rattle.rows.proofs.Flat.{length_flats, flats_injective, length_flat, some_row, well_formed_once}
-use Rattle.grammar.specs.Lent.{padded, check_row_room, check_record_room, checks, Given, read_entry, pattern_entry, answered, checked, entry, Answers}
+use Rattle.grammar.specs.Lent.{padded, checks, Given, read_entry, pattern_entry, answered, checked, entry, Answers}
 use Rattle.tokens.specs.Bool.{◌or◌, ◌is◌, ◌and◌}
 use Rattle.tokens.specs.Cause.{number, place}
-use Rattle.tokens.specs.Check.{◌and_then◌, check_length, check_flag_length, first_such, check_flags, check_kinds, depth_after, nesting, check_nesting}
 use Rattle.tokens.specs.declared.cause.Cause.{Cause}
-use Rattle.tokens.specs.declared.check.Checked.{Checked}
-use Rattle.lookahead.specs.Entry.{check_place, checked as tell, three_way_entry}
+use Rattle.tokens.specs.Check.{Checked}
+use Rattle.lookahead.specs.Entry.{checked as tell, three_way_entry}
 use Rattle.grammar.specs.Sheet.{Sheet}
 use Rattle.tokens.specs.declared.cause.Answer.{Answer}
 use Rattle.tokens.specs.declared.cause.Counts.{Counts}
@@ -31,7 +28,6 @@ use Rattle.agreement.proofs.Agreement.{agreement, pattern_agreement}
 use Rattle.agreement.proofs.Answers.{Shows, entry_read, read_agrees, pattern_agrees}
 use Rattle.ecma262.specs.Derives.{Nonterminal, Expression, BindingElement, Derived}
 use Rattle.lookahead.specs.ThreeWay.{three_way}
-use Rattle.lookahead.specs.declared.ThreeWay.{ThreeWay}
 use Rattle.rows.specs.Part.{subtree}
 use Rattle.rows.specs.Handed.{Inside, chosen, Handed, own, empty}
 use Rattle.conversion.specs.Conversion.{Outcome, turned, refused as not_turned, convert, Role, Change, refuse, keep, turn, is_array_or_object, Seen, seen, is_with, is_closed, as_simple, as_any, as_value, as_element, as_last_element, as_property, as_last_property, as_name, change, roles, over, both, convert_as, convert_kids}
@@ -43,7 +39,7 @@ use Rattle.laws.specs.Promises.{Inside as Stands}
 use Rattle.grammar.specs.Told.{number_of, first_of, second_of, third_of, Told, ToldThreeWay, ToldSubtree}
 use Rattle.rows.specs.Row as row
 use Rattle.rows.specs.Part.{WellFormed}
-use Rattle.grammar.proofs.Checked.{ready}
+use Rattle.grammar.proofs.Checked.{each_fine, some_tokens, short_enough, check_numbers, three_way_numbers}
 use Rattle.agreement.specs.Terms.{Counted, Ended, ended_done, ended_fail}
 use Rattle.agreement.proofs.Steps.{Start, ListWork, ReadWork, list_work, read_work, checked_work}
 use Rattle.exact.proofs.Sound.{Standard, clean_expression, clean_binding}
@@ -87,149 +83,6 @@ pub one_list : (rs ss : List Record) (size : ℕ) → length rs ≡ length ss �
 one_list rs ss size n e =
     sym (read_back rs) ∙ ap records_of (one_padded (record_words rs) (record_words ss) size (omega (arith, length_records rs, length_records ss)) e) ∙ read_back ss
 
--- THE CHECKS: a refusal's number and place, and what is known of a list that passes them
--- a refusal of a check: from 1 to high, at one of so many places or at their end
-pub record Numbered (most high : ℕ) (cause : Cause) : Type 0 where
-  pub from_one : 1 ≤ number cause
-  pub to_high : number cause ≤ high
-  pub there : place cause ≤ most
-
--- a check that refuses only so
-record Says (most high : ℕ) (x : Checked) : Type 0 where
-  says : (cause : Cause) → x ≡ Checked.Refused cause → Numbered most high cause
-
-refused_fine : (cause : Cause) → Checked.Refused cause ≡ Checked.Fine → ⊥
-refused_fine cause e = let z : ◌≡◌ {A = ℕ} 0 1 = cc in omega arith
-
-module _ {most high : ℕ} where
-  says_fine : Says most high Checked.Fine
-  says_fine = record { says = λ cause e. absurd (refused_fine cause (sym e)) }
-
-  says_cause : (cause : Cause) → Numbered most high cause → Says most high (Checked.Refused cause)
-  says_cause cause n = record { says = λ other e. let z : cause ≡ other = cc in rw z at n }
-
-  says_if : (t : Bool) {a b : Checked} → Says most high a → Says most high b → Says most high (if t then a else b)
-  says_if true f g = f
-  says_if false f g = g
-
-  says_then : (a : Checked) {b : Checked} → Says most high a → (a ≡ Checked.Fine → Says most high b) → Says most high (a and_then b)
-  says_then Checked.Fine f g = g refl
-  says_then (Checked.Refused cause) f g = f
-
-  says_such : (test : ℕ → Bool) (cause : ℕ → Cause) → ((p : ℕ) → p ≤ most → Numbered most high (cause p)) → (p : ℕ) (xs : List ℕ) → p + length xs ≤ most → Says most high (first_such test cause p xs)
-  unfolding first_such
-  says_such test cause at p [] l = says_fine
-  says_such test cause at p (x ∷ xs) l = says_if (test x) (says_cause (cause p) (at p (omega arith))) (says_such test cause at (suc p) xs (omega arith))
-
-  says_nesting : 7 ≤ high → (depth p : ℕ) (xs : List ℕ) → p + length xs ≤ most → Says most high (nesting depth p xs)
-  unfolding nesting
-  says_nesting h depth p [] l = says_fine
-  says_nesting h depth p (x ∷ xs) l =
-      says_if (ltb 64 (depth_after depth x)) (says_cause (Cause.Nesting p) (record { from_one = omega arith; to_high = omega arith; there = omega arith }))
-      (says_nesting h (depth_after depth x) (suc p) xs (omega arith))
-
-  -- the checks whose place is 0
-  says_zero : (t : Bool) (cause : Cause) → 1 ≤ number cause → number cause ≤ high → place cause ≡ 0 → Says most high (if t then Checked.Refused cause else Checked.Fine)
-  says_zero t cause a b z = says_if t (says_cause cause (record { from_one = a; to_high = b; there = omega arith })) says_fine
-
-as_long : (ks fs : List ℕ) → check_flag_length ks fs ≡ Checked.Fine → length fs ≡ length ks
-unfolding check_flag_length
-as_long ks fs e = go (length fs is length ks) refl e
-  where
-    go : (b : Bool) → length fs is length ks ≡ b → (if b then Checked.Fine else Checked.Refused (Cause.FlagLength 0)) ≡ Checked.Fine → length fs ≡ length ks
-    go true q f = eqb-true _ _ q
-    go false q f = absurd (refused_fine (Cause.FlagLength 0) f)
-
--- the checks that two entries share, whatever their highest number
-module _ {high : ℕ} (six : 6 ≤ high) (ks : List ℕ) where
-  says_length : Says (length ks) high (check_length ks)
-  unfolding check_length
-  says_length = says_zero (length ks is 0 or ltb 2048 (length ks)) (Cause.Length 0) (omega arith) (omega arith) refl
-
-  says_flag_length : (fs : List ℕ) → Says (length ks) high (check_flag_length ks fs)
-  unfolding check_flag_length
-  says_flag_length fs = says_if (length fs is length ks) says_fine (says_cause (Cause.FlagLength 0) (record { from_one = omega arith; to_high = omega arith; there = omega arith }))
-
-  says_flags : (fs : List ℕ) → length fs ≡ length ks → Says (length ks) high (check_flags fs)
-  unfolding check_flags
-  says_flags fs e = says_such _ Cause.Flag (λ p l. record { from_one = omega arith; to_high = omega arith; there = l }) 0 fs (omega arith)
-
-  says_kinds : Says (length ks) high (check_kinds ks)
-  unfolding check_kinds
-  says_kinds = says_such _ Cause.Kind (λ p l. record { from_one = omega arith; to_high = omega arith; there = l }) 0 ks (omega arith)
-
-says_row_room : (ks rows : List ℕ) → Says (length ks) 7 (check_row_room ks rows)
-unfolding check_row_room
-says_row_room ks rows = says_zero (ltb (length rows) (6 * length ks)) (Cause.RowRoom 0) (omega arith) (omega arith) refl
-
-says_record_room : (ks records : List ℕ) → Says (length ks) 7 (check_record_room ks records)
-unfolding check_record_room
-says_record_room ks records = says_zero (ltb (length records) (2 * length ks)) (Cause.RecordRoom 0) (omega arith) (omega arith) refl
-
-says_open : (ks : List ℕ) → Says (length ks) 7 (check_nesting ks)
-unfolding check_nesting
-says_open ks = says_nesting (omega arith) 0 0 ks (omega arith)
-
-says_place : (ks : List ℕ) (at : ℕ) → Says (length ks) 14 (check_place ks at)
-unfolding check_place
-says_place ks at = says_if (ltb at (length ks)) says_fine (says_cause (Cause.Outside 0) (record { from_one = omega arith; to_high = omega arith; there = omega arith }))
-
--- whatever check refuses a list first: 1 to 7, at a place of the list or at its end
-pub check_numbers : (sheet : Sheet) (rows records : List ℕ) (cause : Cause) → checks sheet rows records ≡ Checked.Refused cause → Numbered (length sheet.kinds) 7 cause
-unfolding checks
-check_numbers sheet rows records cause e =
-    (says_then (check_length sheet.kinds) (says_length (omega arith) sheet.kinds)
-    (λ _. says_then (check_flag_length sheet.kinds sheet.flags) (says_flag_length (omega arith) sheet.kinds sheet.flags)
-    (λ f. says_then (check_row_room sheet.kinds rows) (says_row_room sheet.kinds rows)
-    (λ _. says_then (check_record_room sheet.kinds records) (says_record_room sheet.kinds records)
-    (λ _. says_then (check_flags sheet.flags) (says_flags (omega arith) sheet.kinds sheet.flags (as_long sheet.kinds sheet.flags f))
-    (λ _. says_then (check_kinds sheet.kinds) (says_kinds (omega arith) sheet.kinds) (λ _. says_open sheet.kinds))))))).says cause e
-
--- and in the three-way entry: 1 to 14
-pub three_way_numbers : (ks fs : List ℕ) (at : ℕ) (cause : Cause)
-    → check_length ks and_then check_flag_length ks fs and_then check_flags fs and_then check_kinds ks and_then check_place ks at ≡ Checked.Refused cause → Numbered (length ks) 14 cause
-three_way_numbers ks fs at cause e =
-    (says_then (check_length ks) (says_length (omega arith) ks)
-    (λ _. says_then (check_flag_length ks fs) (says_flag_length (omega arith) ks fs)
-    (λ f. says_then (check_flags fs) (says_flags (omega arith) ks fs (as_long ks fs f))
-    (λ _. says_then (check_kinds ks) (says_kinds (omega arith) ks) (λ _. says_place ks at))))).says cause e
-
--- WHAT PASSES
-fine_first : (a b : Checked) → a and_then b ≡ Checked.Fine → a ≡ Checked.Fine
-fine_first Checked.Fine b e = refl
-fine_first (Checked.Refused cause) b e = e
-
-fine_then : (a b : Checked) → a and_then b ≡ Checked.Fine → b ≡ Checked.Fine
-fine_then Checked.Fine b e = e
-fine_then (Checked.Refused cause) b e = absurd (refused_fine cause e)
-
-positive : (n : ℕ) → (n ≡ 0 → ⊥) → 1 ≤ n
-positive zero f = absurd (f refl)
-positive (suc n) f = omega arith
-
-module _ (sheet : Sheet) (rows records : List ℕ) (fine : checks sheet rows records ≡ Checked.Fine) where
-  length_fine : check_length sheet.kinds ≡ Checked.Fine
-  unfolding checks
-  length_fine = fine_first (check_length sheet.kinds) _ fine
-
-  -- there is a token
-  pub some_tokens : 1 ≤ length sheet.kinds
-  unfolding check_length
-  some_tokens = go (length sheet.kinds is 0) refl length_fine
-    where
-      go : (b : Bool) → length sheet.kinds is 0 ≡ b → (if b or ltb 2048 (length sheet.kinds) then Checked.Refused (Cause.Length 0) else Checked.Fine) ≡ Checked.Fine → 1 ≤ length sheet.kinds
-      go true q f = absurd (refused_fine (Cause.Length 0) f)
-      go false q f = positive (length sheet.kinds) (eqb-false _ _ q)
-
-  -- and no more than 64 brackets are open
-  pub shallow : check_nesting sheet.kinds ≡ Checked.Fine
-  unfolding checks
-  shallow =
-      fine_then (check_kinds sheet.kinds) _
-      (fine_then (check_flags sheet.flags) _
-      (fine_then (check_record_room sheet.kinds records) _
-      (fine_then (check_row_room sheet.kinds rows) _ (fine_then (check_flag_length sheet.kinds sheet.flags) _ (fine_then (check_length sheet.kinds) _ fine)))))
-
 -- DEMAND 2, OF THE ENTRIES. Past the checks: where an entry answers Read with no record, ECMA-262 derives the whole list, and the rows are those of its tree.
 -- In a list without the early commit, what ECMA-262 derives an entry answers so, with those rows.
 -- what the plain reader reads, whatever the notes after: it has none
@@ -267,7 +120,7 @@ shows_derived : {x : Nonterminal} {sheet : Sheet} {given : Given} {rows records 
     → Standard sheet x trees → ShowsDerived x sheet given rows records
 shows_derived q s d = record { tree = d.tree; derived = d.derived; shows = rw (q, d.is_tree) at s }
 
-module _ (sheet : Sheet) (rows records : List ℕ) (fine : checks sheet rows records ≡ Checked.Fine) where
+module _ (sheet : Sheet) (rows records : List ℕ) (fine : checks sheet rows records ≡ Ok tt) where
   -- with no exception: Read with no record is derived, and the rows are the tree's
   pub read_is_derived : (counts : Counts) → (read_entry sheet rows records).answer ≡ Answer.Read counts → counts.records ≡ 0 → ShowsDerived Expression sheet (read_entry sheet rows records) rows records
   read_is_derived counts e z =
@@ -349,13 +202,13 @@ module _ {job : Job} {i : Input} {x : Output} where
   by_ways : Bounds job i → (c : Checked) (w : Whole (List ℕ)) → checks (sheet i) i.rows i.records ≡ c → comes_to job i ≡ w → (a : Answer)
       → Answers (checked i.rows i.records c (answered i.rows i.records w)) x.rows x.records a → Told a x.first x.second x.third x.number → Answered job i x
   unfolding checked answered
-  by_ways b (Checked.Refused cause) w e f a g h =
+  by_ways b (Err cause) w e f a g h =
       let n = check_numbers (sheet i) i.rows i.records cause e in
       Terms.checked cause e (refusal cause 1 7 g.answer h n.from_one n.to_high n.there) g.rows g.records
-  by_ways b Checked.Fine (refused cause) e f a g h =
+  by_ways b (Ok fine) (refused cause) e f a g h =
       let n = b.stands cause f in
       Terms.unread e cause f (refusal cause 8 12 g.answer h n.from_eight n.to_twelve n.there) g.rows g.records
-  by_ways b Checked.Fine (whole trees said notes) e f a g h =
+  by_ways b (Ok fine) (whole trees said notes) e f a g h =
       let o = h.first_is ∙ ap first_of g.answer in
       let p = h.second_is ∙ ap second_of g.answer in
       Terms.read e trees said notes f (record { number = h.number ∙ ap number_of g.answer; first = o; second = p; rows = g.rows; records = g.records })
@@ -463,10 +316,10 @@ by_subtree {tree} {row} {x} g = go g.handed g.words
 -- THE THREE-WAY ENTRY
 module _ (kinds flags : List ℕ) (is_ts is_jsx : Bool) (at : ℕ) {told number' : ℕ} where
   by_check : (c : Checked) → three_way_checks kinds flags at ≡ c
-      → ToldThreeWay (tell c (ThreeWay.Told (three_way kinds flags is_ts is_jsx at))) told number' → ThreeWayAnswered kinds flags is_ts is_jsx at told number'
+      → ToldThreeWay (tell c (Ok (three_way kinds flags is_ts is_jsx at))) told number' → ThreeWayAnswered kinds flags is_ts is_jsx at told number'
   unfolding tell
-  by_check Checked.Fine e g = Terms.three_told e g.number g.told_is
-  by_check (Checked.Refused cause) e g =
+  by_check (Ok fine) e g = Terms.three_told e g.number g.told_is
+  by_check (Err cause) e g =
       let n = three_way_numbers kinds flags at cause e in
       Terms.three_refused cause e g.number n.from_one n.to_high g.told_is n.there
 
@@ -638,8 +491,9 @@ module _ {job : Job} {i : Input} {x : Output} (a : Answered job i x) (l : ListWo
 
 pub work_bounded : {job : Job} {i : Input} {x : Output} → Start job → Answered job i x → Passes i → Bounded job i x
 work_bounded {job} {i} start a p =
-    let some = some_tokens (sheet i) i.rows i.records p in
-    let few = (ready i.kinds i.flags i.rows i.records p).short in
+    let fine = each_fine (sheet i) i.rows i.records p in
+    let some = some_tokens i.kinds fine.length_fine in
+    let few = short_enough i.kinds fine.length_fine in
     let l = list_work (sheet i) some few job start in
     bounded a l (λ trees said notes e. read_work (sheet i) some few job start e)
-    (checked_work (sheet i) some few (shallow (sheet i) i.rows i.records p) l.after l.work.by_nesting)
+    (checked_work (sheet i) some few fine.nesting_fine l.after l.work.by_nesting)

@@ -1,5 +1,5 @@
 -- The words in which the demands are said: what firmware hands to an entry of the archive, what it sees afterwards, and what the numbers and words that it sees say.
-use Rattle.std.specs.Prelude.{◌+◌, ◌-◌, ◌*◌, ◌≤◌, ◌<◌, ◌≡◌, ◌++◌}
+use Rattle.std.specs.Prelude.{◌+◌, ◌-◌, ◌*◌, ◌≤◌, ◌<◌, ◌≡◌, ◌++◌, Ok, Err}
 use Rattle.rows.specs.Base.{ℕ, Bool, true, List, length, take, drop, replicate, number, place, Cause, Checked, ◌and_then◌, check_length, check_flag_length, check_flags, check_kinds, Tree, Forest, size, sizes, flat, flats, node, cons, kind_of, first_of, end_of, Record, record_words, ◌is◌, ◌or◌}
 use Rattle.lookahead.specs.{ThreeWay.three_way, Entry.check_place}
 use Rattle.rows.specs.{Part.WellFormed, Handed.Inside, Handed.chosen}
@@ -34,7 +34,7 @@ abbrev pub sheet : Input → Sheet  -- the list that is handed in
 sheet i = sheet_of i.kinds i.flags
 
 abbrev pub Passes : Input → Type 0  -- it passes the checks 1 to 7
-Passes i = checks (sheet i) i.rows i.records ≡ Checked.Fine
+Passes i = checks (sheet i) i.rows i.records ≡ Ok tt
 
 abbrev pub comes_to : Job → Input → Whole (List ℕ)  -- what the box's reader comes to on it, as an Expression or as a pattern
 comes_to job i = reading (box (sheet i)) (sheet i) job cleared
@@ -81,7 +81,7 @@ pub data Answered (job : Job) (i : Input) (x : Output) : Type 0 where  -- the th
   read : Passes i → (trees : Forest) (said : List Record) (notes : List ℕ) → comes_to job i ≡ whole trees said notes → Shown i x trees said
       → x.first ≤ length i.kinds → x.second ≤ length i.kinds → x.third ≡ noted_places notes → Answered job i x
   -- 1 to 7, the first check that refuses: both buffers hold what they held
-  checked : (cause : Cause) → checks (sheet i) i.rows i.records ≡ Checked.Refused cause → Refused cause 1 7 i x → x.rows ≡ i.rows → x.records ≡ i.records → Answered job i x
+  checked : (cause : Cause) → checks (sheet i) i.rows i.records ≡ Err cause → Refused cause 1 7 i x → x.rows ≡ i.rows → x.records ≡ i.records → Answered job i x
   -- 8 to 12, where the definition refuses: every word of both buffers is 0
   unread : Passes i → (cause : Cause) → comes_to job i ≡ refused cause → Refused cause 8 12 i x
       → x.rows ≡ replicate (length i.rows) 0 → x.records ≡ replicate (length i.records) 0 → Answered job i x
@@ -127,9 +127,9 @@ three_way_checks kinds flags at =
 -- the two ways in which vuolmaset_three_way answers
 pub data ThreeWayAnswered (kinds flags : List ℕ) (is_ts is_jsx : Bool) (at told returned : ℕ) : Type 0 where
   -- 0: the checks pass; the three-way answer at the place, 0 False, 1 True, 2 Maybe
-  three_told : three_way_checks kinds flags at ≡ Checked.Fine → returned ≡ 0 → told ≡ tristate_number (three_way kinds flags is_ts is_jsx at) → ThreeWayAnswered kinds flags is_ts is_jsx at told returned
+  three_told : three_way_checks kinds flags at ≡ Ok tt → returned ≡ 0 → told ≡ tristate_number (three_way kinds flags is_ts is_jsx at) → ThreeWayAnswered kinds flags is_ts is_jsx at told returned
   -- refused: the first check that fails; its number, and its place, at most the number of tokens
-  three_refused : (cause : Cause) → three_way_checks kinds flags at ≡ Checked.Refused cause → returned ≡ number cause → 1 ≤ number cause → number cause ≤ 14 → told ≡ place cause → place cause ≤ length kinds
+  three_refused : (cause : Cause) → three_way_checks kinds flags at ≡ Err cause → returned ≡ number cause → 1 ≤ number cause → number cause ≤ 14 → told ≡ place cause → place cause ≤ length kinds
       → ThreeWayAnswered kinds flags is_ts is_jsx at told returned
 
 -- THE TARGETS: in a tree, the rows of a target's kind, and what it is that they are the standard's targets

@@ -1,6 +1,6 @@
 -- What the two entries answer and leave in the lent buffers, for any input: the definition's answer, the checks of room in their place among
 -- the others, and every word of both buffers. `rows` and `records` are the words that the buffers hold before.
-use Rattle.std.specs.Prelude.{◌-◌, ◌*◌, ◌≤◌, ◌++◌, if◌then◌else◌, ◌≡◌}
+use Rattle.std.specs.Prelude.{◌-◌, ◌*◌, ◌≤◌, ◌++◌, if◌then◌else◌, ◌≡◌, Ok, Err}
 use Rattle.rows.specs.Base.{ℕ, List, ltb, length, replicate, ◌and_then◌, check_length, check_flag_length, check_flags, check_kinds, check_nesting, Cause, Answer, Checked, flats, record_words}
 use Rattle.grammar.specs.{Sheet.Sheet, Job.Job, Job.expression, Job.binding_element}
 use Rattle.grammar.specs.Reading.{Whole, whole, refused, reading, box, cleared, answer_of}
@@ -10,11 +10,14 @@ pub record Given : Type 0 where  -- what an entry gives: its answer, and what th
   pub rows : List ℕ
   pub records : List ℕ
 
+abbrev pub check_room : List ℕ → List ℕ → ℕ → Cause → Checked  -- so many words lent per token
+check_room kinds words each cause = if ltb (length words) (each * length kinds) then Err cause else Ok tt
+
 unfoldable pub check_row_room : List ℕ → List ℕ → Checked  -- 3: fewer than 6 words lent per token
-check_row_room kinds rows = if ltb (length rows) (6 * length kinds) then Checked.Refused (Cause.RowRoom 0) else Checked.Fine
+check_row_room kinds rows = check_room kinds rows 6 (Cause.RowRoom 0)
 
 unfoldable pub check_record_room : List ℕ → List ℕ → Checked  -- 4: fewer than 2 record words per token
-check_record_room kinds records = if ltb (length records) (2 * length kinds) then Checked.Refused (Cause.RecordRoom 0) else Checked.Fine
+check_record_room kinds records = check_room kinds records 2 (Cause.RecordRoom 0)
 
 unfoldable pub checks : Sheet → List ℕ → List ℕ → Checked  -- the checks in the order 1 to 7
 checks sheet rows records =
@@ -41,8 +44,8 @@ answered rows records (refused cause) =
     record { answer = Answer.Refused cause; rows = replicate (length rows) 0; records = replicate (length records) 0 }
 
 unfoldable pub checked : List ℕ → List ℕ → Checked → Given → Given  -- after 1 to 7 both buffers hold what they held
-checked rows records Checked.Fine given = given
-checked rows records (Checked.Refused cause) given = record { answer = Answer.Refused cause; rows = rows; records = records }
+checked rows records (Ok fine) given = given
+checked rows records (Err cause) given = record { answer = Answer.Refused cause; rows = rows; records = records }
 
 unfoldable pub entry : Job → Sheet → List ℕ → List ℕ → Given
 entry job sheet rows records = checked rows records (checks sheet rows records) (answered rows records (reading (box sheet) sheet job cleared))

@@ -1,7 +1,7 @@
 -- What comes of a reading, and the few words in which the productions are written. The files of the productions take from
 -- here also what they need of numbers, tests, tokens, trees and records.
 pub use Rattle.rows.specs.Base.{ℕ, Bool, not, List, [], ◌and◌, ◌or◌, ◌is◌, between, is_name, is_word, is_literal, Cause, Tree, Forest, node, nil, cons, one, join, kind_of, mark_of, kids_of, Record, break_before_arrow, rest_initializer, mixed_coalesce, unary_power, shorthand_initializer, Sheet, sheet_of, token, break_before}
-use Rattle.std.specs.Prelude.{◌+◌, ◌∷◌, ◌++◌, if◌then◌else◌}
+use Rattle.std.specs.Prelude.{◌+◌, ◌++◌, if◌then◌else◌}
 use Rattle.tokens.specs.Kind.{Comma}
 
 infixl 10 ◌>>=◌

@@ -1,8 +1,8 @@
 -- What the entries for other languages tell, in numbers.
-use Rattle.std.specs.Prelude.{◌≡◌}
+use Rattle.std.specs.Prelude.{◌≡◌, Ok, Err}
 use Rattle.rows.specs.Base.{ℕ, List, length, number, place, Answer}
 use Rattle.rows.specs.Handed.{Handed}
-use Rattle.lookahead.specs.{declared.ThreeWay.ThreeWay, declared.Tristate.Tristate}
+use Rattle.lookahead.specs.{Entry.ThreeWay, declared.Tristate.Tristate}
 use Rattle.conversion.specs.Entry.{Answered}
 use Rattle.grammar.specs.{Sheet.sheet_of, Lent.read_entry, Lent.pattern_entry, Lent.Answers}
 
@@ -45,8 +45,8 @@ pub record ToldConvert (t₀ s₀ : List ℕ) (row : ℕ) (t s : List ℕ) (firs
   pub told : Told answer first second third x
 
 abbrev pub three_way_number : ThreeWay → ℕ  -- 0, or the refusal's number
-three_way_number (ThreeWay.Told told) = 0
-three_way_number (ThreeWay.Refused cause) = number cause
+three_way_number (Ok told) = 0
+three_way_number (Err cause) = number cause
 
 abbrev pub tristate_number : Tristate → ℕ  -- 0 for False, 1 for True, 2 for Maybe
 tristate_number Tristate.False = 0
@@ -54,8 +54,8 @@ tristate_number Tristate.True = 1
 tristate_number Tristate.Maybe = 2
 
 abbrev pub three_way_told : ThreeWay → ℕ  -- that number, or the refusal's place
-three_way_told (ThreeWay.Told answer) = tristate_number answer
-three_way_told (ThreeWay.Refused cause) = place cause
+three_way_told (Ok answer) = tristate_number answer
+three_way_told (Err cause) = place cause
 
 pub record ToldThreeWay (answer : ThreeWay) (told x : ℕ) : Type 0 where
   pub number : x ≡ three_way_number answer

@@ -1,6 +1,6 @@
 -- Where a head may open, the way that the box takes there, and what is left of a head that failed.
 use Rattle.std.specs.Prelude.{◌≡◌, if◌then◌else◌}
-use Rattle.rows.specs.Base.{ℕ, Bool, true, false, List, set, get_or, ◌or◌, ◌is◌}
+use Rattle.rows.specs.Base.{ℕ, Bool, List, set, get_or, ◌or◌, ◌is◌}
 use Rattle.tokens.specs.Kind.{Async, LParen, LCurly}
 use Rattle.grammar.specs.{Reading.box, Sheet.sheet_of}
 use Rattle.heads.specs.declared.Way.{Way}
@@ -17,16 +17,6 @@ unfoldable pub way_of : Way → Grammar.Way  -- the code's ways
 way_of Way.Pass = Grammar.pass
 way_of Way.Attempt = Grammar.attempt
 way_of Way.Commit = Grammar.commit
-
-abbrev pub is_pass : Way → Bool  -- no head is read
-is_pass Way.Pass = true
-is_pass Way.Attempt = false
-is_pass Way.Commit = false
-
-abbrev pub is_commit : Way → Bool  -- a head that fails is a refusal
-is_commit Way.Pass = false
-is_commit Way.Attempt = false
-is_commit Way.Commit = true
 
 -- a head that failed is dropped: 1 is noted at its place, and there are as many records as before it
 pub record Dropped (m₀ : List ℕ) (at said : ℕ) (m : List ℕ) (r : ℕ) : Type 0 where

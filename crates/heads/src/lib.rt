@@ -4,77 +4,58 @@
 ghost use Rattle.std.specs.Prelude.{◌≡◌, ◌≤◌, ◌<◌, length};
 ghost use Rattle.grammar.specs.Assignment.{is_async_name};
 ghost use Rattle.grammar.specs.Sheet.{sheet_of};
-ghost use Rattle.heads.specs.Heads.{Dropped, is_block, is_pass, is_commit, may_open, way_at, way_of, arrow_kind};
+ghost use Rattle.heads.specs.Heads.{Dropped, is_block, may_open, way_at, way_of, arrow_kind};
 
 use lookahead::Tristate;
 use rows::row;
-use tokens::{classes, kind};
+use tokens::{Sheet, classes, kind};
 
 pub mod singles;
 
 // What to do where the assignment level starts: pass a head, try one, or read one for good.
-#[derive(Clone, Copy)]
+#[derive(Clone, Copy, Debug, PartialEq, Eq)]
 pub enum Way {
     Pass,
     Attempt,
     Commit,
 }
 
-// No head is read.
-pub fn is_pass(way: Way) -> bool
-    ensures { result ≡ is_pass way }
-{
-    match way {
-        Way::Pass => true,
-        Way::Attempt => false,
-        Way::Commit => false,
-    }
-}
-
-// A head that fails is a refusal.
-pub fn is_commit(way: Way) -> bool
-    ensures { result ≡ is_commit way }
-{
-    match way {
-        Way::Pass => false,
-        Way::Attempt => false,
-        Way::Commit => true,
-    }
-}
-
 // `(` and Async may open a head. Follows a part of `is_parenthesized_arrow_function_expression`.
+#[tactic(auto, unfolding(crate::specs::Heads::may_open))]
 fn may_open(k: u8) -> bool
     ensures { result ≡ may_open k }
 {
-    k == kind::L_PAREN || k == kind::ASYNC
+    matches!(k, kind::L_PAREN | kind::ASYNC)
 }
 
 // The three-way answer with both flags off, at `(` or Async; a place whose head failed is passed.
 // Follows `try_parse_parenthesized_arrow_function_expression` and a part of `parse_possible_parenthesized_arrow_function_expression`.
-pub fn way_at(kinds: &[u8], flags: &[u8], notes: &[u8; 2048], at: usize) -> Way
-    requires { length kinds.now ≤ 2048 }
-    ensures { way_of result ≡ way_at kinds.now flags.now notes.now at }
+#[tactic(auto, unfolding(crate::specs::Heads::way_of, crate::specs::Heads::way_at, grammar::specs::Reading::way_of))]
+pub fn way_at(sheet: &Sheet, notes: &[u8; 2048], at: usize) -> Way
+    requires { length sheet.now.kinds.now ≤ 2048 }
+    ensures { way_of result ≡ way_at sheet.now.kinds.now sheet.now.flags.now notes.now at }
 {
-    if !may_open(tokens::kind_at(kinds, at)) {
+    if !may_open(tokens::kind_at(sheet.kinds, at)) {
         return Way::Pass;
     }
     let answer = lookahead::is_parenthesized_arrow_function_expression(
-        kinds, flags, false, false, at,
+        sheet.kinds,
+        sheet.flags,
+        false,
+        false,
+        at,
     );
     match answer {
         Tristate::False => Way::Pass,
         Tristate::True => Way::Commit,
-        Tristate::Maybe => {
-            if notes[at] != 0 {
-                return Way::Pass;
-            }
-            Way::Attempt
-        }
+        Tristate::Maybe if notes[at] != 0 => Way::Pass,
+        Tristate::Maybe => Way::Attempt,
     }
 }
 
 // Drops a head that failed: its place is noted, and none of its records stays. The answer is how many records there are then.
 // Follows a part of `parse_possible_parenthesized_arrow_function_expression`.
+// Notes are bytes, 0 or 1: so RULES S5 has them, and so the definition of a reading counts them.
 pub fn drop_head(notes: &mut [u8; 2048], at: usize, said: usize) -> usize
     requires { at < 2048 }
     ensures { Dropped notes.old at said notes.new result }
@@ -85,7 +66,7 @@ pub fn drop_head(notes: &mut [u8; 2048], at: usize, said: usize) -> usize
 
 // A head that was read: the kind of its arrow, where it begins, the row of its first parameter, and how many parameters it has.
 // Follows `ArrowFunctionHead`.
-#[derive(Clone, Copy)]
+#[derive(Clone, Copy, Debug, PartialEq, Eq)]
 pub struct Head {
     pub kind: u32,
     pub first: usize,
@@ -94,19 +75,17 @@ pub struct Head {
 }
 
 // The head that began at a place. Follows a part of `parse_parenthesized_arrow_function_head`.
+#[tactic(auto, unfolding(crate::specs::Heads::arrow_kind))]
 pub fn head_of(kinds: &[u8], first: usize, from: usize, kids: usize) -> Head
     ensures { result ≡ record { kind = arrow_kind kinds.now first; first = first; from = from; kids = kids } }
 {
-    if tokens::kind_at(kinds, first) == kind::ASYNC {
-        return Head {
-            kind: row::ASYNC_ARROW,
-            first,
-            from,
-            kids,
-        };
-    }
+    let kind = if tokens::kind_at(kinds, first) == kind::ASYNC {
+        row::ASYNC_ARROW
+    } else {
+        row::ARROW
+    };
     Head {
-        kind: row::ARROW,
+        kind,
         first,
         from,
         kids,
@@ -114,19 +93,14 @@ pub fn head_of(kinds: &[u8], first: usize, from: usize, kids: usize) -> Head
 }
 
 // Async, a name on its line, and `=>`. Follows `is_un_parenthesized_async_arrow_function_worker`.
-pub fn is_async_name(kinds: &[u8], flags: &[u8], at: usize) -> bool
-    ensures { result ≡ is_async_name (sheet_of kinds.now flags.now) at }
+#[tactic(auto, unfolding(grammar::specs::Assignment::is_async_name))]
+pub fn is_async_name(sheet: &Sheet, at: usize) -> bool
+    ensures { result ≡ is_async_name (sheet_of sheet.now.kinds.now sheet.now.flags.now) at }
 {
-    if tokens::kind_at(kinds, at) != kind::ASYNC {
-        return false;
-    }
-    if classes::is_name(tokens::kind_after(kinds, at, 1)) {
-        if tokens::flag_after(flags, at, 1) == 1 {
-            return false;
-        }
-        return tokens::kind_after(kinds, at, 2) == kind::ARROW;
-    }
-    false
+    tokens::kind_at(sheet.kinds, at) == kind::ASYNC
+        && classes::is_name(tokens::kind_after(sheet.kinds, at, 1))
+        && tokens::flag_after(sheet.flags, at, 1) != 1
+        && tokens::kind_after(sheet.kinds, at, 2) == kind::ARROW
 }
 
 // Whether a body that begins at the place is a block, which the box does not read. Follows a part of `parse_arrow_function_expression_body`.

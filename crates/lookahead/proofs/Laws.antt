@@ -2,7 +2,7 @@
 -- Beside the definition: nothing here changes what the answer is.
 -- Assumes nothing.
 use Rattle.std.specs.Prelude.{if◌then◌else◌}
-use Prim.Native.Nat.{ℕ, ◌+◌, ◌≤◌}
+use Prim.Native.Nat.{ℕ, ◌+◌, ◌≤◌, ◌<◌}
 use mathlib.Core.Path.{◌≡◌, refl, subst, sym, ◌∙◌}
 use mathlib.Core.Bool.{Bool, true, false, not}
 use mathlib.Core.List.{List}
@@ -39,12 +39,12 @@ either false b e f g = g e
 
 both : {C : Type 0} (a b : Bool) → a and b ≡ true → (a ≡ true → b ≡ true → C) → C
 both true b e f = f refl e
-both false b e f = absurd (let z : ◌≡◌ {A = ℕ} 0 1 = cc in omega arith)
+both false b e f = cc
 
 neither : {C : Type 0} (a b : Bool) → not a and not b ≡ false → (a ≡ true → C) → (b ≡ true → C) → C
 neither true b e f g = f refl
 neither false true e f g = g refl
-neither false false e f g = absurd (let z : ◌≡◌ {A = ℕ} 0 1 = cc in omega arith)
+neither false false e f g = cc
 
 and_false : (a : Bool) → a and false ≡ false
 and_false true = refl
@@ -117,7 +117,7 @@ to_modifies k e n =
     either (between Modifier Const k) (k is Async or k is In) e
     (λ a. both (leb Modifier k) (leb k Const) a (λ low high. modifier_or_const k (leb-true _ _ low) (leb-true _ _ high)))
     (λ b. either (k is Async) (k is In) b
-    (λ t. absurd (let f = not-true (k is Async) n in let z : ◌≡◌ {A = ℕ} 0 1 = cc in omega arith))
+    (λ t. let f = not-true (k is Async) n in cc)
     (λ t. in_word (eqb-true _ _ t)))
 
 -- `(` and two words
@@ -285,16 +285,23 @@ record Word (k : ℕ) : Type 0 where
   no_curly : k ≡ LCurly → ⊥
   no_dots : k ≡ Dot3 → ⊥
 
+-- no kind below `(` is one, nor is one above `...`
+low_word : (k : ℕ) → k < LParen → Word k
+low_word k h = record { no_close = λ e. omega arith; no_brack = λ e. omega arith; no_curly = λ e. omega arith; no_dots = λ e. omega arith }
+
+high_word : (k : ℕ) → Dot3 < k → Word k
+high_word k h = record { no_close = λ e. omega arith; no_brack = λ e. omega arith; no_curly = λ e. omega arith; no_dots = λ e. omega arith }
+
 first_word : (k : ℕ) → First k → Word k
-first_word k (a_name (name low high)) = record { no_close = λ e. omega arith; no_brack = λ e. omega arith; no_curly = λ e. omega arith; no_dots = λ e. omega arith }
-first_word k (a_name (await a)) = record { no_close = λ e. omega arith; no_brack = λ e. omega arith; no_curly = λ e. omega arith; no_dots = λ e. omega arith }
-first_word k (a_name (yield a)) = record { no_close = λ e. omega arith; no_brack = λ e. omega arith; no_curly = λ e. omega arith; no_dots = λ e. omega arith }
-first_word k (this a) = record { no_close = λ e. omega arith; no_brack = λ e. omega arith; no_curly = λ e. omega arith; no_dots = λ e. omega arith }
+first_word k (a_name (name low high)) = low_word k (omega arith)
+first_word k (a_name (await a)) = low_word k (omega arith)
+first_word k (a_name (yield a)) = low_word k (omega arith)
+first_word k (this a) = low_word k (omega arith)
 
 modifies_word : (k : ℕ) → Modifies k → Word k
-modifies_word k (modifier a) = record { no_close = λ e. omega arith; no_brack = λ e. omega arith; no_curly = λ e. omega arith; no_dots = λ e. omega arith }
-modifies_word k (const a) = record { no_close = λ e. omega arith; no_brack = λ e. omega arith; no_curly = λ e. omega arith; no_dots = λ e. omega arith }
-modifies_word k (in_word a) = record { no_close = λ e. omega arith; no_brack = λ e. omega arith; no_curly = λ e. omega arith; no_dots = λ e. omega arith }
+modifies_word k (modifier a) = low_word k (omega arith)
+modifies_word k (const a) = low_word k (omega arith)
+modifies_word k (in_word a) = high_word k (omega arith)
 
 module _ (kinds : List ℕ) (is_ts is_jsx is_async : Bool) (p : ℕ) (starts : kind_at kinds p ≡ LParen) where
   -- after `(` and a word the answer is that of the first parameter

@@ -6,44 +6,31 @@ ghost use Rattle.lookahead.specs.ThreeWay.{three_way, after_open, after_paren, a
 ghost use Rattle.lookahead.specs.Entry.{three_way_entry, check_place};
 
 use tokens::cause::Cause;
-use tokens::check::Checked;
 use tokens::{checks, classes, kind};
 
 // What the next tokens say of a head: it is none, it is one, or it has to be tried. Follows `Tristate`.
-#[derive(Clone, Copy)]
+#[derive(Clone, Copy, Debug, PartialEq, Eq)]
 pub enum Tristate {
     False,
     True,
     Maybe,
 }
 
-// The answer of the entry.
-#[derive(Clone, Copy)]
-pub enum ThreeWay {
-    Told(Tristate),
-    Refused(Cause),
-}
-
 // `()`: what stands after it decides. Follows a part of `is_parenthesized_arrow_function_expression_worker`.
+#[tactic(auto, unfolding(crate::specs::ThreeWay::no_parameters))]
 fn no_parameters(is_ts: bool, is_async: bool, third: u8) -> Tristate
     ensures { result ≡ no_parameters is_ts is_async third }
 {
     match third {
-        kind::COLON => {
-            if is_ts {
-                if is_async {
-                    return Tristate::Maybe;
-                }
-                return Tristate::True;
-            }
-            Tristate::False
-        }
+        kind::COLON if is_ts && is_async => Tristate::Maybe,
+        kind::COLON if is_ts => Tristate::True,
         kind::ARROW | kind::L_CURLY => Tristate::True,
         _ => Tristate::False,
     }
 }
 
 // `(...`: a plain name makes it a head, a literal none. Follows a part of `is_parenthesized_arrow_function_expression_worker`.
+#[tactic(auto, unfolding(crate::specs::ThreeWay::rest_parameter))]
 fn rest_parameter(third: u8) -> Tristate
     ensures { result ≡ rest_parameter third }
 {
@@ -57,16 +44,14 @@ fn rest_parameter(third: u8) -> Tristate
 }
 
 // `(` a name or `this`, and what stands after it. Follows a part of `is_parenthesized_arrow_function_expression_worker`.
+#[tactic(auto, unfolding(crate::specs::ThreeWay::after_name))]
 fn after_name(third: u8, fourth: u8) -> Tristate
     ensures { result ≡ after_name third fourth }
 {
     match third {
         kind::COLON => Tristate::True,
         kind::QUESTION => match fourth {
-            kind::COLON => Tristate::True,
-            kind::COMMA => Tristate::True,
-            kind::EQ => Tristate::True,
-            kind::R_PAREN => Tristate::True,
+            kind::COLON | kind::COMMA | kind::EQ | kind::R_PAREN => Tristate::True,
             _ => Tristate::False,
         },
         kind::COMMA | kind::EQ | kind::R_PAREN => Tristate::Maybe,
@@ -75,19 +60,17 @@ fn after_name(third: u8, fourth: u8) -> Tristate
 }
 
 // `(` and two words, a modifier but no Async and a name. Follows a part of `is_parenthesized_arrow_function_expression_worker`.
+#[tactic(auto, unfolding(crate::specs::ThreeWay::modified_name))]
 fn modified_name(second: u8, third: u8) -> bool
     ensures { result ≡ modified_name second third }
 {
-    if second == kind::ASYNC {
-        return false;
-    }
-    if classes::is_modifier_kind(second) {
-        return classes::is_binding_identifier(third);
-    }
-    false
+    second != kind::ASYNC
+        && classes::is_modifier_kind(second)
+        && classes::is_binding_identifier(third)
 }
 
 // `(` and then neither `)`, `[`, `{` nor `...`. Follows a part of `is_parenthesized_arrow_function_expression_worker`.
+#[tactic(auto, unfolding(crate::specs::ThreeWay::first_parameter))]
 fn first_parameter(second: u8, third: u8, fourth: u8) -> Tristate
     ensures { result ≡ first_parameter second third fourth }
 {
@@ -97,16 +80,14 @@ fn first_parameter(second: u8, third: u8, fourth: u8) -> Tristate
         }
         return Tristate::True;
     }
-    if second == kind::THIS {
-        return after_name(third, fourth);
-    }
-    if classes::is_binding_identifier(second) {
+    if second == kind::THIS || classes::is_binding_identifier(second) {
         return after_name(third, fourth);
     }
     Tristate::False
 }
 
 // `(` at the place. Follows a part of `is_parenthesized_arrow_function_expression_worker`.
+#[tactic(auto, unfolding(crate::specs::ThreeWay::after_paren))]
 fn after_paren(kinds: &[u8], is_ts: bool, is_async: bool, at: usize) -> Tristate
     ensures { result ≡ after_paren kinds.now is_ts is_async at }
 {
@@ -121,18 +102,15 @@ fn after_paren(kinds: &[u8], is_ts: bool, is_async: bool, at: usize) -> Tristate
 }
 
 // `<` and a name, with JSX. Follows a part of `is_parenthesized_arrow_function_expression_worker`.
+#[tactic(auto, unfolding(crate::specs::ThreeWay::type_parameter))]
 fn type_parameter(third: u8, fourth: u8) -> Tristate
     ensures { result ≡ type_parameter third fourth }
 {
     match third {
         kind::EXTENDS => match fourth {
             kind::EQ | kind::R_ANGLE | kind::SLASH => Tristate::False,
-            _ => {
-                if classes::is_binding_identifier(fourth) {
-                    return Tristate::Maybe;
-                }
-                Tristate::True
-            }
+            _ if classes::is_binding_identifier(fourth) => Tristate::Maybe,
+            _ => Tristate::True,
         },
         kind::EQ | kind::COMMA => Tristate::True,
         _ => Tristate::False,
@@ -140,39 +118,34 @@ fn type_parameter(third: u8, fourth: u8) -> Tristate
 }
 
 // Whether a kind may stand after `<`: a name or Const. Follows a part of `is_parenthesized_arrow_function_expression_worker`.
+#[tactic(auto, unfolding(crate::specs::ThreeWay::names_type))]
 fn names_type(second: u8) -> bool
     ensures { result ≡ names_type second }
 {
-    if second == kind::CONST {
-        return true;
-    }
-    classes::is_binding_identifier(second)
+    second == kind::CONST || classes::is_binding_identifier(second)
 }
 
 // `<` at the place. Follows a part of `is_parenthesized_arrow_function_expression_worker`.
+#[tactic(auto, unfolding(crate::specs::ThreeWay::after_angle))]
 fn after_angle(kinds: &[u8], is_jsx: bool, at: usize) -> Tristate
     ensures { result ≡ after_angle kinds.now is_jsx at }
 {
     let second = tokens::kind_after(kinds, at, 1);
-    if names_type(second) {
-        if is_jsx {
-            if second == kind::CONST {
-                return type_parameter(
-                    tokens::kind_after(kinds, at, 3),
-                    tokens::kind_after(kinds, at, 4),
-                );
-            }
-            return type_parameter(
-                tokens::kind_after(kinds, at, 2),
-                tokens::kind_after(kinds, at, 3),
-            );
-        }
+    if !names_type(second) {
+        return Tristate::False;
+    }
+    if !is_jsx {
         return Tristate::Maybe;
     }
-    Tristate::False
+    let more = if second == kind::CONST { 3 } else { 2 };
+    type_parameter(
+        tokens::kind_after(kinds, at, more),
+        tokens::kind_after(kinds, at, more + 1),
+    )
 }
 
 // `(` or `<` at the place, and False at any other start. Follows a part of `is_parenthesized_arrow_function_expression_worker`.
+#[tactic(auto, unfolding(crate::specs::ThreeWay::after_open))]
 fn after_open(kinds: &[u8], is_ts: bool, is_jsx: bool, is_async: bool, at: usize) -> Tristate
     ensures { result ≡ after_open kinds.now is_ts is_jsx is_async at }
 {
@@ -185,6 +158,7 @@ fn after_open(kinds: &[u8], is_ts: bool, is_jsx: bool, is_async: bool, at: usize
 }
 
 // The worker of arrow.rs: an Async is eaten, and what opens must stand on its line. Follows `is_parenthesized_arrow_function_expression_worker`.
+#[tactic(auto, unfolding(crate::specs::ThreeWay::three_way))]
 fn is_parenthesized_arrow_function_expression_worker(
     kinds: &[u8],
     flags: &[u8],
@@ -205,6 +179,7 @@ fn is_parenthesized_arrow_function_expression_worker(
 }
 
 // The three-way answer at any place, with the short cut for `(` before a literal. Follows `is_parenthesized_arrow_function_expression`.
+#[tactic(auto, using(crate::proofs::ShortCut::short_cut))]
 pub fn is_parenthesized_arrow_function_expression(
     kinds: &[u8],
     flags: &[u8],
@@ -215,42 +190,38 @@ pub fn is_parenthesized_arrow_function_expression(
     ensures { result ≡ three_way kinds.now flags.now is_ts is_jsx at }
 {
     let first = tokens::kind_at(kinds, at);
-    if first == kind::L_PAREN {
-        if classes::is_literal(tokens::kind_after(kinds, at, 1)) {
-            return Tristate::False;
-        }
+    if first == kind::L_PAREN && classes::is_literal(tokens::kind_after(kinds, at, 1)) {
+        return Tristate::False;
     }
     is_parenthesized_arrow_function_expression_worker(kinds, flags, is_ts, is_jsx, at)
 }
 
 // 14: a place outside.
-fn check_place(kinds: &[u8], at: usize) -> Checked
+#[tactic(auto, unfolding(crate::specs::Entry::check_place))]
+fn check_place(kinds: &[u8], at: usize) -> Result<(), Cause>
     ensures { result ≡ check_place kinds.now at }
 {
     if at < kinds.len() {
-        return Checked::Fine;
+        return Ok(());
     }
-    Checked::Refused(Cause::Outside(0))
+    Err(Cause::Outside(0))
 }
 
 // The entry: checks 1, 2, 5, 6, 14, and then the three-way answer.
-pub fn three_way(kinds: &[u8], flags: &[u8], is_ts: bool, is_jsx: bool, at: usize) -> ThreeWay
+#[tactic(auto, unfolding(crate::specs::Entry::three_way_entry, crate::specs::Entry::checked))]
+pub fn three_way(
+    kinds: &[u8],
+    flags: &[u8],
+    is_ts: bool,
+    is_jsx: bool,
+    at: usize,
+) -> Result<Tristate, Cause>
     ensures { result ≡ three_way_entry kinds.now flags.now is_ts is_jsx at }
 {
-    if let Checked::Refused(cause) = checks::check_length(kinds) {
-        return ThreeWay::Refused(cause);
-    }
-    if let Checked::Refused(cause) = checks::check_flag_length(kinds, flags) {
-        return ThreeWay::Refused(cause);
-    }
-    if let Checked::Refused(cause) = checks::check_flags(flags) {
-        return ThreeWay::Refused(cause);
-    }
-    if let Checked::Refused(cause) = checks::check_kinds(kinds) {
-        return ThreeWay::Refused(cause);
-    }
-    if let Checked::Refused(cause) = check_place(kinds, at) {
-        return ThreeWay::Refused(cause);
-    }
-    ThreeWay::Told(is_parenthesized_arrow_function_expression(kinds, flags, is_ts, is_jsx, at))
+    checks::check_length(kinds)?;
+    checks::check_flag_length(kinds, flags)?;
+    checks::check_flags(flags)?;
+    checks::check_kinds(kinds)?;
+    check_place(kinds, at)?;
+    Ok(is_parenthesized_arrow_function_expression(kinds, flags, is_ts, is_jsx, at))
 }

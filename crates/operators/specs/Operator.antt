@@ -1,5 +1,5 @@
--- The operator that a token kind stands for (RULES O6), by the five mapping functions of operator.rs; what was unreachable there is None.
-use Rattle.std.specs.Prelude.{◌∷◌, if◌then◌else◌}
+-- The operator that a token kind stands for (RULES O6), by the five mapping functions of operator.rs; None where that cannot be reached.
+use Rattle.std.specs.Prelude.{◌∷◌, if◌then◌else◌, Option, Some, None}
 use Rattle.tokens.specs.Bool.{ℕ, List, [], ◌is◌}
 use Rattle.operators.specs.{declared.BinaryOperator.BinaryOperator, declared.UnaryOperator.UnaryOperator, declared.LogicalOperator.LogicalOperator}
 use Rattle.operators.specs.{declared.UpdateOperator.UpdateOperator, declared.AssignmentOperator.AssignmentOperator}
@@ -9,9 +9,9 @@ infix 25 ◌means◌
 pub data Line (A : Type 0) : Type 0 where  -- one line of a table: a kind, and what it means
   ◌means◌ : ℕ → A → Line A
 
-unfoldable pub look_up : {A : Type 0} → List (Line A) → A → ℕ → A  -- what the first line for a kind says, or the other value where there is none
-look_up [] other k = other
-look_up ((a means x) ∷ lines) other k = if k is a then x else look_up lines other k
+unfoldable pub look_up : {A : Type 0} → List (Line A) → ℕ → Option A  -- what the first line for a kind says, if there is one
+look_up [] k = None
+look_up ((a means x) ∷ lines) k = if k is a then Some x else look_up lines k
 
 abbrev pub binary_lines : List (Line BinaryOperator)  -- 13.6 to 13.12
 binary_lines =
@@ -25,8 +25,8 @@ binary_lines =
     (Kind.Amp means BinaryOperator.BitwiseAnd) ∷ (Kind.In means BinaryOperator.In) ∷ (Kind.Instanceof means BinaryOperator.Instanceof) ∷
     (Kind.Star2 means BinaryOperator.Exponential) ∷ []
 
-unfoldable pub binary_operator : ℕ → BinaryOperator
-binary_operator k = look_up binary_lines BinaryOperator.None k
+unfoldable pub binary_operator : ℕ → Option BinaryOperator
+binary_operator k = look_up binary_lines k
 
 abbrev pub unary_lines : List (Line UnaryOperator)  -- 13.5
 unary_lines =
@@ -34,22 +34,22 @@ unary_lines =
     (Kind.Tilde means UnaryOperator.BitwiseNot) ∷ (Kind.Typeof means UnaryOperator.Typeof) ∷ (Kind.Void means UnaryOperator.Void) ∷
     (Kind.Delete means UnaryOperator.Delete) ∷ []
 
-unfoldable pub unary_operator : ℕ → UnaryOperator
-unary_operator k = look_up unary_lines UnaryOperator.None k
+unfoldable pub unary_operator : ℕ → Option UnaryOperator
+unary_operator k = look_up unary_lines k
 
 abbrev pub logical_lines : List (Line LogicalOperator)  -- 13.13
 logical_lines =
     (Kind.Pipe2 means LogicalOperator.Or) ∷ (Kind.Amp2 means LogicalOperator.And) ∷ (Kind.Question2 means LogicalOperator.Coalesce) ∷ []
 
-unfoldable pub logical_operator : ℕ → LogicalOperator
-logical_operator k = look_up logical_lines LogicalOperator.None k
+unfoldable pub logical_operator : ℕ → Option LogicalOperator
+logical_operator k = look_up logical_lines k
 
 abbrev pub update_lines : List (Line UpdateOperator)  -- 13.4
 update_lines =
     (Kind.Plus2 means UpdateOperator.Increment) ∷ (Kind.Minus2 means UpdateOperator.Decrement) ∷ []
 
-unfoldable pub update_operator : ℕ → UpdateOperator
-update_operator k = look_up update_lines UpdateOperator.None k
+unfoldable pub update_operator : ℕ → Option UpdateOperator
+update_operator k = look_up update_lines k
 
 abbrev pub assignment_lines : List (Line AssignmentOperator)  -- 13.15
 assignment_lines =
@@ -62,5 +62,5 @@ assignment_lines =
     (Kind.Amp2Eq means AssignmentOperator.LogicalAnd) ∷ (Kind.Pipe2Eq means AssignmentOperator.LogicalOr) ∷
     (Kind.Question2Eq means AssignmentOperator.LogicalNullish) ∷ (Kind.Star2Eq means AssignmentOperator.Exponential) ∷ []
 
-unfoldable pub assignment_operator : ℕ → AssignmentOperator
-assignment_operator k = look_up assignment_lines AssignmentOperator.None k
+unfoldable pub assignment_operator : ℕ → Option AssignmentOperator
+assignment_operator k = look_up assignment_lines k

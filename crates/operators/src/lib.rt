@@ -20,18 +20,11 @@ const PRECEDENCE_TABLE: [u8; 256] = [
     0, 0, 0,
 ];
 
-// The level of a kind, and 0 for a kind that is no operator. Follows `kind_to_precedence`.
+// The level of a kind, and 0 for a kind that is no operator: 0 and no `None` is the rule (RULES S6), and lies below every level. Follows `kind_to_precedence`.
 pub fn kind_to_precedence(k: u8) -> u8
     ensures { result ≡ level k }
 {
-    PRECEDENCE_TABLE[wide(k)]
-}
-
-// A byte as an index.
-fn wide(k: u8) -> usize
-    ensures { result ≡ k }
-{
-    k as usize
+    PRECEDENCE_TABLE[usize::from(k)]
 }
 
 // The levels of the operators from `??` to `in`, four bits each, the lowest first: `??` 1, `||` 2, `&&` 3, `|` 4, `^` 5, `&` 6, four of equality 7, six of comparison 8.
@@ -61,13 +54,12 @@ fn level_at(levels: u64, place: u8) -> u8
     requires { place < 16 }
     ensures { result ≡ levels / 2 ^ (4 * place) % 16 }
 {
-    ((levels >> (4 * wide(place))) % 16) as u8
+    ((levels >> (4 * place)) % 16) as u8
 }
 
-// The binary operators (13.6 to 13.12), and None.
-#[derive(Clone, Copy)]
+// The binary operators (13.6 to 13.12).
+#[derive(Clone, Copy, Debug, PartialEq, Eq)]
 pub enum BinaryOperator {
-    None,
     Equality,
     Inequality,
     StrictEquality,
@@ -92,41 +84,41 @@ pub enum BinaryOperator {
     Exponential,
 }
 
-// The binary operator that a kind stands for. Follows `map_binary_operator`.
-pub fn map_binary_operator(k: u8) -> BinaryOperator
+// The binary operator that a kind stands for, if any. Follows `map_binary_operator`.
+#[tactic(auto, unfolding(crate::specs::Operator::look_up, crate::specs::Operator::binary_operator))]
+pub fn map_binary_operator(k: u8) -> Option<BinaryOperator>
     ensures { result ≡ binary_operator k }
 {
     match k {
-        kind::EQ2 => BinaryOperator::Equality,
-        kind::NEQ => BinaryOperator::Inequality,
-        kind::EQ3 => BinaryOperator::StrictEquality,
-        kind::NEQ2 => BinaryOperator::StrictInequality,
-        kind::L_ANGLE => BinaryOperator::LessThan,
-        kind::LT_EQ => BinaryOperator::LessEqualThan,
-        kind::R_ANGLE => BinaryOperator::GreaterThan,
-        kind::GT_EQ => BinaryOperator::GreaterEqualThan,
-        kind::SHIFT_LEFT => BinaryOperator::ShiftLeft,
-        kind::SHIFT_RIGHT => BinaryOperator::ShiftRight,
-        kind::SHIFT_RIGHT3 => BinaryOperator::ShiftRightZeroFill,
-        kind::PLUS => BinaryOperator::Addition,
-        kind::MINUS => BinaryOperator::Subtraction,
-        kind::STAR => BinaryOperator::Multiplication,
-        kind::SLASH => BinaryOperator::Division,
-        kind::PERCENT => BinaryOperator::Remainder,
-        kind::PIPE => BinaryOperator::BitwiseOR,
-        kind::CARET => BinaryOperator::BitwiseXOR,
-        kind::AMP => BinaryOperator::BitwiseAnd,
-        kind::IN => BinaryOperator::In,
-        kind::INSTANCEOF => BinaryOperator::Instanceof,
-        kind::STAR2 => BinaryOperator::Exponential,
-        _ => BinaryOperator::None,
+        kind::EQ2 => Some(BinaryOperator::Equality),
+        kind::NEQ => Some(BinaryOperator::Inequality),
+        kind::EQ3 => Some(BinaryOperator::StrictEquality),
+        kind::NEQ2 => Some(BinaryOperator::StrictInequality),
+        kind::L_ANGLE => Some(BinaryOperator::LessThan),
+        kind::LT_EQ => Some(BinaryOperator::LessEqualThan),
+        kind::R_ANGLE => Some(BinaryOperator::GreaterThan),
+        kind::GT_EQ => Some(BinaryOperator::GreaterEqualThan),
+        kind::SHIFT_LEFT => Some(BinaryOperator::ShiftLeft),
+        kind::SHIFT_RIGHT => Some(BinaryOperator::ShiftRight),
+        kind::SHIFT_RIGHT3 => Some(BinaryOperator::ShiftRightZeroFill),
+        kind::PLUS => Some(BinaryOperator::Addition),
+        kind::MINUS => Some(BinaryOperator::Subtraction),
+        kind::STAR => Some(BinaryOperator::Multiplication),
+        kind::SLASH => Some(BinaryOperator::Division),
+        kind::PERCENT => Some(BinaryOperator::Remainder),
+        kind::PIPE => Some(BinaryOperator::BitwiseOR),
+        kind::CARET => Some(BinaryOperator::BitwiseXOR),
+        kind::AMP => Some(BinaryOperator::BitwiseAnd),
+        kind::IN => Some(BinaryOperator::In),
+        kind::INSTANCEOF => Some(BinaryOperator::Instanceof),
+        kind::STAR2 => Some(BinaryOperator::Exponential),
+        _ => None,
     }
 }
 
-// The unary operators (13.5), and None.
-#[derive(Clone, Copy)]
+// The unary operators (13.5).
+#[derive(Clone, Copy, Debug, PartialEq, Eq)]
 pub enum UnaryOperator {
-    None,
     UnaryNegation,
     UnaryPlus,
     LogicalNot,
@@ -136,66 +128,66 @@ pub enum UnaryOperator {
     Delete,
 }
 
-// The unary operator that a kind stands for. Follows `map_unary_operator`.
-pub fn map_unary_operator(k: u8) -> UnaryOperator
+// The unary operator that a kind stands for, if any. Follows `map_unary_operator`.
+#[tactic(auto, unfolding(crate::specs::Operator::look_up, crate::specs::Operator::unary_operator))]
+pub fn map_unary_operator(k: u8) -> Option<UnaryOperator>
     ensures { result ≡ unary_operator k }
 {
     match k {
-        kind::MINUS => UnaryOperator::UnaryNegation,
-        kind::PLUS => UnaryOperator::UnaryPlus,
-        kind::BANG => UnaryOperator::LogicalNot,
-        kind::TILDE => UnaryOperator::BitwiseNot,
-        kind::TYPEOF => UnaryOperator::Typeof,
-        kind::VOID => UnaryOperator::Void,
-        kind::DELETE => UnaryOperator::Delete,
-        _ => UnaryOperator::None,
+        kind::MINUS => Some(UnaryOperator::UnaryNegation),
+        kind::PLUS => Some(UnaryOperator::UnaryPlus),
+        kind::BANG => Some(UnaryOperator::LogicalNot),
+        kind::TILDE => Some(UnaryOperator::BitwiseNot),
+        kind::TYPEOF => Some(UnaryOperator::Typeof),
+        kind::VOID => Some(UnaryOperator::Void),
+        kind::DELETE => Some(UnaryOperator::Delete),
+        _ => None,
     }
 }
 
-// The logical operators (13.13), and None.
-#[derive(Clone, Copy)]
+// The logical operators (13.13).
+#[derive(Clone, Copy, Debug, PartialEq, Eq)]
 pub enum LogicalOperator {
-    None,
     Or,
     And,
     Coalesce,
 }
 
-// The logical operator that a kind stands for. Follows `map_logical_operator`.
-pub fn map_logical_operator(k: u8) -> LogicalOperator
+// The logical operator that a kind stands for, if any. Follows `map_logical_operator`.
+#[tactic(auto, unfolding(crate::specs::Operator::look_up, crate::specs::Operator::logical_operator))]
+pub fn map_logical_operator(k: u8) -> Option<LogicalOperator>
     ensures { result ≡ logical_operator k }
 {
     match k {
-        kind::PIPE2 => LogicalOperator::Or,
-        kind::AMP2 => LogicalOperator::And,
-        kind::QUESTION2 => LogicalOperator::Coalesce,
-        _ => LogicalOperator::None,
+        kind::PIPE2 => Some(LogicalOperator::Or),
+        kind::AMP2 => Some(LogicalOperator::And),
+        kind::QUESTION2 => Some(LogicalOperator::Coalesce),
+        _ => None,
     }
 }
 
-// The update operators (13.4), and None.
-#[derive(Clone, Copy)]
+// The update operators (13.4).
+#[derive(Clone, Copy, Debug, PartialEq, Eq)]
 pub enum UpdateOperator {
-    None,
     Increment,
     Decrement,
 }
 
-// The update operator that a kind stands for. Follows `map_update_operator`.
-pub fn map_update_operator(k: u8) -> UpdateOperator
+// The update operator that a kind stands for, if any. Follows `map_update_operator`.
+#[tactic(auto, unfolding(crate::specs::Operator::look_up, crate::specs::Operator::update_operator))]
+pub fn map_update_operator(k: u8) -> Option<UpdateOperator>
     ensures { result ≡ update_operator k }
 {
     match k {
-        kind::PLUS2 => UpdateOperator::Increment,
-        kind::MINUS2 => UpdateOperator::Decrement,
-        _ => UpdateOperator::None,
+        kind::PLUS2 => Some(UpdateOperator::Increment),
+        kind::MINUS2 => Some(UpdateOperator::Decrement),
+        _ => None,
     }
 }
 
-// The assignment operators (13.15), and None.
-#[derive(Clone, Copy)]
+// The assignment operators (13.15).
+#[derive(Clone, Copy, Debug, PartialEq, Eq)]
 pub enum AssignmentOperator {
-    None,
     Assign,
     Addition,
     Subtraction,
@@ -214,27 +206,28 @@ pub enum AssignmentOperator {
     Exponential,
 }
 
-// The assignment operator that a kind stands for. Follows `map_assignment_operator`.
-pub fn map_assignment_operator(k: u8) -> AssignmentOperator
+// The assignment operator that a kind stands for, if any. Follows `map_assignment_operator`.
+#[tactic(auto, unfolding(crate::specs::Operator::look_up, crate::specs::Operator::assignment_operator))]
+pub fn map_assignment_operator(k: u8) -> Option<AssignmentOperator>
     ensures { result ≡ assignment_operator k }
 {
     match k {
-        kind::EQ => AssignmentOperator::Assign,
-        kind::PLUS_EQ => AssignmentOperator::Addition,
-        kind::MINUS_EQ => AssignmentOperator::Subtraction,
-        kind::STAR_EQ => AssignmentOperator::Multiplication,
-        kind::SLASH_EQ => AssignmentOperator::Division,
-        kind::PERCENT_EQ => AssignmentOperator::Remainder,
-        kind::SHIFT_LEFT_EQ => AssignmentOperator::ShiftLeft,
-        kind::SHIFT_RIGHT_EQ => AssignmentOperator::ShiftRight,
-        kind::SHIFT_RIGHT3_EQ => AssignmentOperator::ShiftRightZeroFill,
-        kind::PIPE_EQ => AssignmentOperator::BitwiseOR,
-        kind::CARET_EQ => AssignmentOperator::BitwiseXOR,
-        kind::AMP_EQ => AssignmentOperator::BitwiseAnd,
-        kind::AMP2_EQ => AssignmentOperator::LogicalAnd,
-        kind::PIPE2_EQ => AssignmentOperator::LogicalOr,
-        kind::QUESTION2_EQ => AssignmentOperator::LogicalNullish,
-        kind::STAR2_EQ => AssignmentOperator::Exponential,
-        _ => AssignmentOperator::None,
+        kind::EQ => Some(AssignmentOperator::Assign),
+        kind::PLUS_EQ => Some(AssignmentOperator::Addition),
+        kind::MINUS_EQ => Some(AssignmentOperator::Subtraction),
+        kind::STAR_EQ => Some(AssignmentOperator::Multiplication),
+        kind::SLASH_EQ => Some(AssignmentOperator::Division),
+        kind::PERCENT_EQ => Some(AssignmentOperator::Remainder),
+        kind::SHIFT_LEFT_EQ => Some(AssignmentOperator::ShiftLeft),
+        kind::SHIFT_RIGHT_EQ => Some(AssignmentOperator::ShiftRight),
+        kind::SHIFT_RIGHT3_EQ => Some(AssignmentOperator::ShiftRightZeroFill),
+        kind::PIPE_EQ => Some(AssignmentOperator::BitwiseOR),
+        kind::CARET_EQ => Some(AssignmentOperator::BitwiseXOR),
+        kind::AMP_EQ => Some(AssignmentOperator::BitwiseAnd),
+        kind::AMP2_EQ => Some(AssignmentOperator::LogicalAnd),
+        kind::PIPE2_EQ => Some(AssignmentOperator::LogicalOr),
+        kind::QUESTION2_EQ => Some(AssignmentOperator::LogicalNullish),
+        kind::STAR2_EQ => Some(AssignmentOperator::Exponential),
+        _ => None,
     }
 }

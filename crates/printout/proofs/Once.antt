@@ -1,5 +1,6 @@
 -- One answer for each input: any two results that the contract allows coincide, the answer and every word and byte of the buffers.
 -- Assumes nothing.
+use Rattle.std.specs.Prelude.{Option}
 use Prim.Native.Nat.{ℕ}
 use mathlib.Core.Path.{◌≡◌, sym, ap, ◌∙◌}
 use mathlib.Core.List.{List}
@@ -9,7 +10,6 @@ use Rattle.grammar.specs.Lent.{Given, read_entry}
 use Rattle.sheet_file.specs.Layout.{Sheet}
 use Rattle.sheet_file.proofs.Once.{kinds_once, flags_once}
 use Rattle.text.specs.Post.{laid_over, printed}
-use Rattle.text.specs.declared.Printed.{Printed}
 use Rattle.printout.specs.Printout.{text_of, reading_of, Shows, PrintsFile}
 
 -- a file is that of one sheet, so the reader gives one answer
@@ -36,7 +36,7 @@ shows_once (Shows.no_sheet none a b c) (Shows.reading y d e f) = absurd (none y)
 shows_once (Shows.no_sheet none a b c) (Shows.no_sheet none' d e f) = record { one_text = a ∙ sym d; one_tree = b ∙ sym e; one_list = c ∙ sym f }
 
 -- print_file
-pub print_file_once : {bytes r₀ s₀ out₀ r r' s s' out out' : List ℕ} {x y : Printed} → PrintsFile bytes r₀ s₀ out₀ r s out x → PrintsFile bytes r₀ s₀ out₀ r' s' out' y
+pub print_file_once : {bytes r₀ s₀ out₀ r r' s s' out out' : List ℕ} {x y : Option ℕ} → PrintsFile bytes r₀ s₀ out₀ r s out x → PrintsFile bytes r₀ s₀ out₀ r' s' out' y
     → (x ≡ y) × (r ≡ r') × (s ≡ s') × (out ≡ out')
 print_file_once {out₀ = out₀} g h =
     let e = shows_once g.shows h.shows in (

@@ -1,9 +1,9 @@
 -- What the box prints for the bytes of a file, any bytes at all, and what it leaves in the buffers that it is lent.
-use Rattle.std.specs.Prelude.{◌≤◌, ◌≡◌}
+use Rattle.std.specs.Prelude.{◌≤◌, ◌≡◌, Option}
 use Rattle.rows.specs.Base.{ℕ, List, length}
 use Rattle.grammar.specs.{Sheet.sheet_of, Lent.Given, Lent.read_entry}
 use Rattle.sheet_file.specs.Layout.{Sheet}
-use Rattle.text.specs.{Text.text, Text.bad_file, Post.Prints, declared.Printed.Printed}
+use Rattle.text.specs.{Text.text, Text.bad_file, Post.Prints}
 
 abbrev pub text_of : Given → List ℕ  -- the text of what an entry gives
 text_of given = text given.answer given.rows given.records
@@ -20,7 +20,7 @@ pub data Shows (bytes rows₀ records₀ text rows records : List ℕ) : Type 0 
 
 -- the text stands in the lent buffer, as far as it has room, and the answer says how long it is. No text is longer than 180,244 bytes: a first line of 20, and at
 -- most 2,048 rows of 66 bytes and as many records of 22
-pub record PrintsFile (bytes rows₀ records₀ out₀ rows records out : List ℕ) (answer : Printed) : Type 0 where
+pub record PrintsFile (bytes rows₀ records₀ out₀ rows records out : List ℕ) (answer : Option ℕ) : Type 0 where
   pub text : List ℕ
   pub shows : Shows bytes rows₀ records₀ text rows records
   pub prints : Prints out₀ text out answer

@@ -3,17 +3,19 @@
 
 ghost use Rattle.printout.specs.Printout.{PrintsFile};
 
-use text::Printed;
-
-// Prints what the reader answers for the sheet that the bytes are the file of, or that they are no sheet's.
-pub fn print_file(bytes: &[u8], rows: &mut [u32], records: &mut [u32], out: &mut [u8]) -> Printed
+// Prints what the reader answers for the sheet that the bytes are the file of, or that they are no sheet's. How long the text is, or None
+// where the buffer is shorter.
+pub fn print_file(
+    bytes: &[u8],
+    rows: &mut [u32],
+    records: &mut [u32],
+    out: &mut [u8],
+) -> Option<usize>
     ensures { PrintsFile bytes.now rows.old records.old out.old rows.new records.new out.new result }
 {
-    if !sheet_file::is_sheet(bytes) {
+    let Some(sheet) = sheet_file::sheet_of(bytes) else {
         return text::print_bad_file(out);
-    }
-    let kinds = sheet_file::kinds_of(bytes);
-    let flags = sheet_file::flags_of(bytes);
-    let answer = reader::read(kinds, flags, rows, records);
+    };
+    let answer = reader::read(sheet.kinds, sheet.flags, rows, records);
     text::print_answer(out, answer, rows, records)
 }

@@ -1,5 +1,6 @@
 -- The two entries: each way out of them.
 -- Assumes nothing.
+use Rattle.std.specs.Prelude.{Ok, Err}
 use Prim.Native.Nat.{ℕ, zero, suc, ◌≤◌}
 use mathlib.Core.Path.{◌≡◌, refl, sym, subst, ◌∙◌}
 use mathlib.Core.List.{List}
@@ -8,7 +9,7 @@ use lib.ListN.{length, get_or, replicate}
 use lib.Seq.{get_or-set_other}
 use Rattle.tokens.specs.declared.cause.Cause.{Cause}
 use Rattle.tokens.specs.declared.cause.Answer.{Answer}
-use Rattle.tokens.specs.declared.check.Checked.{Checked}
+use Rattle.tokens.specs.Check.{Checked}
 use Rattle.rows.specs.Tree.{Forest}
 use Rattle.rows.specs.Record.{Record}
 use Rattle.grammar.specs.Sheet.{sheet_of, Out, done}
@@ -23,19 +24,19 @@ use Rattle.laws.specs.Settles.{looked_at}
 use Rattle.laws.proofs.Steady.{kept_if_done}
 use Rattle.laws.proofs.Abandoned.{fine_cleared, notes_stay}
 use Rattle.build.specs.Post.{cursor, Room, Met}
-use Rattle.build.specs.declared.cursor.Step as Made
+use Rattle.build.specs.Post as Made
 use Rattle.build.proofs.Ends.{moved}
 use Rattle.reader.specs.Post.{Within, Checks, Came, CameOut, Finished}
 use Rattle.grammar.proofs.Checked.{ready}
 
 -- the list passes the checks: there is room to begin
-pub begins : {ks fs r s : List ℕ} {x : Checked} → Checks ks fs r s x → x ≡ Checked.Fine → Room ks r s (cursor 0 0 0)
+pub begins : {ks fs r s : List ℕ} {x : Checked} → Checks ks fs r s x → x ≡ Ok tt → Room ks r s (cursor 0 0 0)
 begins {ks} {fs} {r} {s} e q =
     let h = ready ks fs r s (sym e.found ∙ q) in
     record { short = h.short; wide = omega (arith, h.wide); deep = h.deep; inside = omega arith; few = omega arith; said = omega arith }
 
 -- and there still is
-pub ends : {ks fs r₀ s₀ r s : List ℕ} {x : Checked} → Checks ks fs r₀ s₀ x → x ≡ Checked.Fine → length r ≡ length r₀ → length s ≡ length s₀ → Ready ks r s
+pub ends : {ks fs r₀ s₀ r s : List ℕ} {x : Checked} → Checks ks fs r₀ s₀ x → x ≡ Ok tt → length r ≡ length r₀ → length s ≡ length s₀ → Ready ks r s
 ends {ks} {fs} {r₀} {s₀} e q u v =
     let h = ready ks fs r₀ s₀ (sym e.found ∙ q) in
     record { short = h.short; wide = omega (arith, h.wide); deep = omega (arith, h.deep) }
@@ -89,7 +90,7 @@ pub came_out : {ks fs r₀ s₀ r s m : List ℕ} {got : Made.Step} (job : Job) 
 came_out {ks} {fs} job start lone h = record { out = outcome job ks fs; came = came job start lone h }
 
 -- the list is refused by a check
-pub entry_refuses : {ks fs r s : List ℕ} {x : Checked} {cause : Cause} (job : Job) → Checks ks fs r s x → x ≡ Checked.Refused cause
+pub entry_refuses : {ks fs r s : List ℕ} {x : Checked} {cause : Cause} (job : Job) → Checks ks fs r s x → x ≡ Err cause
     → Answers (entry job (sheet_of ks fs) r s) r s (Answer.Refused cause)
 unfolding entry checked
 entry_refuses job e q = rw (sym e.found ∙ q) record { answer = refl; rows = refl; records = refl }
@@ -102,7 +103,7 @@ same_answered r₀ s₀ r s (refused cause) u v = rw (u, v)
 
 -- the list is read, or refused on the way
 pub entry_ends : {ks fs r₀ s₀ r₁ s₁ r s m : List ℕ} {x : Checked} {got : Made.Step} {answer : Answer} (job : Job) → looked_at job ≡ 0
-    → limits (sheet_of ks fs) job ≡ reads (sheet_of ks fs) 0 0 0 → Checks ks fs r₀ s₀ x → x ≡ Checked.Fine → Met ks fs r₀ s₀ cleared r₁ s₁ m job 0 0 got
+    → limits (sheet_of ks fs) job ≡ reads (sheet_of ks fs) 0 0 0 → Checks ks fs r₀ s₀ x → x ≡ Ok tt → Met ks fs r₀ s₀ cleared r₁ s₁ m job 0 0 got
     → length r₁ ≡ length r₀ → length s₁ ≡ length s₀ → Finished ks r₁ s₁ m got r s answer → Answers (entry job (sheet_of ks fs) r₀ s₀) r s answer
 unfolding entry checked reading outcome
 entry_ends {ks} {fs} {r₀} {s₀} {r₁} {s₁} {r} {s} {answer = answer} job start lone e q h u v f =

@@ -1,5 +1,6 @@
 -- `finish`: each way out of it.
 -- Assumes nothing.
+use Rattle.std.specs.Prelude.{Ok, Err}
 use Prim.Native.Nat.{ℕ, ◌-◌, ◌*◌}
 use mathlib.Core.Path.{◌≡◌, ap, subst, ◌∙◌}
 use mathlib.Core.List.{List, ◌++◌}
@@ -17,7 +18,7 @@ use Rattle.rows.proofs.Clear.{cleared_all, cleared_rows, cleared_records}
 use Rattle.grammar.specs.Reading.{noted_places, unconverteds, at_end}
 use Rattle.grammar.specs.Lent.{padded, answered, Ready}
 use Rattle.build.specs.declared.cursor.Cursor.{Cursor}
-use Rattle.build.specs.declared.cursor.Step.{Step}
+use Rattle.build.specs.Post.{Step}
 use Rattle.reader.specs.Post.{unconverted_rows, LastRoom, CameOut, Emptied, Finished}
 use Rattle.reader.proofs.Last.{grown_unconverted}
 
@@ -42,12 +43,12 @@ same_counts : {a b c a' b' c' : ℕ} → a ≡ a' → b ≡ b' → c ≡ c'
 same_counts p q s = cc
 
 module _ {ks r₀ s₀ m : List ℕ} {got : Step} where
-  pub finish_fails : {r s : List ℕ} {cause : Cause} {x : Answer} → got ≡ Step.Fail cause → Emptied r₀ s₀ cause r s x → Finished ks r₀ s₀ m got r s x
+  pub finish_fails : {r s : List ℕ} {cause : Cause} {x : Answer} → got ≡ Err cause → Emptied r₀ s₀ cause r s x → Finished ks r₀ s₀ m got r s x
   unfolding answered at_end
   finish_fails e c = record { answers = λ out h. rw (h.fail_at _ e) record { answer = c.answer; rows = cleared_all c.rows; records = cleared_all c.records } }
 
   -- something follows
-  pub finish_follows : {r s : List ℕ} {d : Cursor} {x : Answer} → got ≡ Step.Done d → (d.at ≡ length ks → ⊥) → Emptied r₀ s₀ (Cause.Unexpected d.at) r s x
+  pub finish_follows : {r s : List ℕ} {d : Cursor} {x : Answer} → got ≡ Ok d → (d.at ≡ length ks → ⊥) → Emptied r₀ s₀ (Cause.Unexpected d.at) r s x
       → Finished ks r₀ s₀ m got r s x
   unfolding answered at_end
   finish_follows e t c =
@@ -56,13 +57,13 @@ module _ {ks r₀ s₀ m : List ℕ} {got : Step} where
       }
 
   -- what the last pass asks
-  pub last_room : {d : Cursor} → Ready ks r₀ s₀ → CameOut ks r₀ s₀ m got → got ≡ Step.Done d → LastRoom r₀ (length s₀) d.rows d.records
+  pub last_room : {d : Cursor} → Ready ks r₀ s₀ → CameOut ks r₀ s₀ m got → got ≡ Ok d → LastRoom r₀ (length s₀) d.rows d.records
   last_room ready c e =
       let h = c.came.done_to _ e in
       let l = ap length (grown_unconverted h.rows) in
       record { inside = omega (arith, ready, h.few); few = omega (arith, ready, h.few); small = omega (arith, ready, h.paid, l); room = omega (arith, ready, h.paid, l) }
 
-  pub finish_reads : {s₁ r s : List ℕ} {d : Cursor} {used abandoned : ℕ} → got ≡ Step.Done d → d.at ≡ length ks
+  pub finish_reads : {s₁ r s : List ℕ} {d : Cursor} {used abandoned : ℕ} → got ≡ Ok d → d.at ≡ length ks
       → GrownRecords s₀ d.records s₁ used (unconverted_rows r₀ 0 d.rows) → length s₁ ≡ length s₀ → Cleared r₀ (6 * d.rows) r → Cleared s₁ (2 * used) s → abandoned ≡ noted_places m
       → Finished ks r₀ s₀ m got r s (Answer.Read (record { rows = d.rows; records = used; abandoned = abandoned }))
   unfolding answered at_end

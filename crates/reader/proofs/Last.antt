@@ -2,30 +2,24 @@
 -- Assumes nothing.
 use Rattle.std.specs.Prelude.{if◌then◌else◌}
 use Prim.Native.Nat.{ℕ, zero, suc, ◌+◌, ◌-◌, ◌*◌, ◌≤◌, ◌<◌}
-use mathlib.Core.Path.{◌≡◌, refl, sym, ap, subst, ◌∙◌}
+use mathlib.Core.Path.{◌≡◌, refl, sym, ap, ◌∙◌}
 use mathlib.Core.List.{List, [], ◌∷◌, ◌++◌, append-nil, append_assoc}
 use native.Mathlib.Omega.{arith}
 use native.Mathlib.Numerals.{add-one}
 use native.Mathlib.Nat.{zero-add}
-use lib.ListN.{length, get_or, drop, length-append, take-append-drop}
+use lib.ListN.{length, get_or, take, drop, length-append, take-append-drop}
+use Rattle.std.proofs.lemmas.List.{get_or-take, length-take}
 use lib.Seq.{drop-cons, get_or-append-add}
-use borrow.Author.Tests.{ne_eqb}
 use Rattle.tokens.specs.Bool.{◌is◌}
 use Rattle.rows.specs.Tree.{Tree, Forest, node, nil, cons, count, size, sizes, row, flat, flats}
 use Rattle.rows.specs.Row as Row
 use Rattle.rows.specs.Record.{Record, shorthand_initializer}
-use Rattle.rows.specs.Post.{Word, Grown, GrownRecords, PushedRecord}
+use Rattle.rows.specs.Post.{Grown, GrownRecords}
 use Rattle.rows.proofs.Flat.{length_flat, length_flats}
-use Rattle.rows.proofs.Records.{grown_records_none, grown_records_join, grown_record}
+use Rattle.rows.proofs.Records.{grown_records_join}
 use Rattle.grammar.specs.Reading.{noted_places, unconverted, unconverteds}
 use Rattle.laws.specs.Promises.{Fine}
 use Rattle.reader.specs.Post.{unconverted_row, unconverted_rows, Within, LastRowRoom, LastRoom}
-
--- so many notes stand before a place
-pub record Counted (m : List ℕ) (total at : ℕ) : Type 0 where
-  pub inside : at ≤ 2048
-  pub few : total ≤ at
-  pub same : total + noted_places (drop at m) ≡ noted_places m
 
 -- where no place is noted any more, there is nothing to count
 none_past : (m : List ℕ) (at : ℕ) → ((place : ℕ) → at ≤ place → get_or m place 0 ≡ 0) → noted_places (drop at m) ≡ 0
@@ -35,21 +29,18 @@ none_past [] (suc at) h = refl
 none_past (note ∷ m) zero h = omega (arith, h 0 (omega arith), none_past m 0 (λ place l. h (suc place) (omega arith)))
 none_past (note ∷ m) (suc at) h = none_past m at (λ place l. h (suc place) (omega arith))
 
-module _ {m : List ℕ} where
-  pub counted_none : Counted m 0 0
-  counted_none = record { inside = omega arith; few = omega arith; same = zero-add (noted_places m) }
+pub none_left : {m : List ℕ} {tokens : ℕ} → Within tokens m → noted_places (drop tokens m) ≡ 0
+none_left {m} {tokens} w = none_past m tokens w.past
 
-  pub counted_more : {total at tokens : ℕ} → Fine m → tokens ≤ 2048 → Counted m total at → at < tokens → Counted m (total + get_or m at 0) (at + 1)
-  unfolding noted_places
-  counted_more {total} {at} f w c l =
-      let each = f.each at in
-      let long = f.long in
-      let e : noted_places (drop at m) ≡ get_or m at 0 + noted_places (drop (at + 1) m) = rw (drop-cons m at 0 (omega arith), add-one at) in
-      let same = c.same in
-      record { inside = omega arith; few = omega (arith, c.few, each); same = omega (arith, e, same) }
-
-  pub counted_all : {total at tokens : ℕ} → Within tokens m → Counted m total at → tokens ≤ at → total ≡ noted_places m
-  counted_all {total} {at} w c l = omega (arith, none_past m at (λ place h. w.past place (omega arith)), c.same)
+-- a note of the first so many is 0 or 1, and with those after it makes up those from its place on
+pub notes_left : (m : List ℕ) (tokens at : ℕ) → Fine m → at < length (take tokens m)
+    → (get_or (take tokens m) at 0 + noted_places (drop (at + 1) m) ≡ noted_places (drop at m)) × (get_or (take tokens m) at 0 ≤ 1)
+unfolding noted_places
+notes_left m tokens at f l =
+    let n = length-take tokens m in
+    let e : get_or (take tokens m) at 0 ≡ get_or m at 0 = get_or-take tokens m at 0 (omega arith) in
+    let p : get_or m at 0 + noted_places (drop (at + 1) m) ≡ noted_places (drop at m) = rw (drop-cons m at 0 (omega arith), add-one at) in
+    (omega arith, omega (arith, f.each at))
 
 -- the records 8 of some rows and of those after them
 split : (r : List ℕ) (a m n k : ℕ) → k ≡ m + n → unconverted_rows r a k ≡ unconverted_rows r a m ++ unconverted_rows r (a + m) n
@@ -110,64 +101,19 @@ grown_unconverted {r} {n} {ts} g =
     let u : n ≡ sizes ts = omega (arith, g.used) in
     ap (unconverted_rows r 0) u ∙ forest_rows ts r [] (drop (6 * n) r) 0 (sym (take-append-drop (6 * n) r) ∙ ap (λ (l : List ℕ). l ++ drop (6 * n) r) g.text) refl
 
--- the records 8 of the rows before a place were added
-pub record Lasting (r s₀ : List ℕ) (n k : ℕ) (s : List ℕ) (here at : ℕ) : Type 0 where
-  pub inside : at ≤ n
-  pub long : length s ≡ length s₀
-  pub grown : GrownRecords s₀ k s here (unconverted_rows r 0 at)
-
 one_more : (r : List ℕ) (at : ℕ) → unconverted_rows r 0 (at + 1) ≡ unconverted_rows r 0 at ++ unconverted_row r at
 unfolding unconverted_rows
 one_more r at = ap (unconverted_rows r 0) (add-one at) ∙ ap (λ (i : ℕ). unconverted_rows r 0 at ++ unconverted_row r i) (zero-add at)
 
--- a row that is a ShorthandInit, and any other
-row_says : {r : List ℕ} {at x y : ℕ} → Word r at 0 x → x ≡ Row.ShorthandInit → Word r at 1 y → unconverted_row r at ≡ shorthand_initializer y ∷ []
-unfolding unconverted_row
-row_says w e v = rw (sym w.is ∙ e, sym v.is)
+-- before each of the first n rows its record has room, and after it the records of one row more were added
+pub lasting_fits : {r s₀ s : List ℕ} {n k here at : ℕ} → LastRoom r (length s₀) n k → GrownRecords s₀ k s here (unconverted_rows r 0 at) → length s ≡ length s₀ → at < n
+    → LastRowRoom r (length s) at here
+lasting_fits {r} {n = n} {at = at} room g q l =
+    let a = fewer r 0 (at + 1) n (omega arith) in
+    let b = ap length (one_more r at) ∙ length-append (unconverted_rows r 0 at) (unconverted_row r at) in
+    let u = g.used in
+    record { inside = omega (arith, room); room = omega (arith, a, b, u, room); small = omega (arith, a, b, u, room) }
 
-row_silent : {r : List ℕ} {at x : ℕ} → Word r at 0 x → (x ≡ Row.ShorthandInit → ⊥) → unconverted_row r at ≡ []
-unfolding unconverted_row
-row_silent {x = x} w e = rw (sym w.is, ne_eqb x Row.ShorthandInit e)
-
--- the kind and the mark of a row by their places among the words
-pub kind_word : (r : List ℕ) (n : ℕ) → Word r n 0 (get_or r (6 * n) 0)
-kind_word r n = let e : 6 * n ≡ 6 * n + 0 = omega arith in record { is = ap (λ (i : ℕ). get_or r i 0) e }
-
-pub mark_word : (r : List ℕ) (n : ℕ) → Word r n 1 (get_or r (6 * n + 1) 0)
-mark_word r n = record { is = refl }
-
--- its record has room
-pub said_fits : {r : List ℕ} {words at k x y : ℕ} → LastRowRoom r words at k → Word r at 0 x → x ≡ Row.ShorthandInit → Word r at 1 y → 2 * k + 2 ≤ words
-said_fits room w e v = let l = ap length (row_says w e v) in omega (arith, room, l)
-
-pub said : {r s s' : List ℕ} {at k x y : ℕ} → Word r at 0 x → x ≡ Row.ShorthandInit → Word r at 1 y → PushedRecord s k 8 y s' → GrownRecords s k s' (k + 1) (unconverted_row r at)
-said {s = s} {s'} {k = k} w e v p = subst (λ (records : List Record). GrownRecords s k s' (k + 1) records) (sym (row_says w e v)) (grown_record p)
-
-pub silent : {r s : List ℕ} {at k x : ℕ} → Word r at 0 x → (x ≡ Row.ShorthandInit → ⊥) → GrownRecords s k s k (unconverted_row r at)
-silent {s = s} {k = k} w e = subst (λ (records : List Record). GrownRecords s k s k records) (sym (row_silent w e)) (grown_records_none s k)
-
-module _ {r s₀ : List ℕ} {n k : ℕ} where
-  pub lasting_none : Lasting r s₀ n k s₀ k 0
-  unfolding unconverted_rows
-  lasting_none = record { inside = omega arith; long = refl; grown = grown_records_none s₀ k }
-
-  pub lasting_fits : {s : List ℕ} {here at : ℕ} → LastRoom r (length s₀) n k → Lasting r s₀ n k s here at → at < n → LastRowRoom r (length s) at here
-  lasting_fits {at = at} room h l =
-      let a = fewer r 0 (at + 1) n (omega arith) in
-      let b = ap length (one_more r at) ∙ length-append (unconverted_rows r 0 at) (unconverted_row r at) in
-      let u = h.grown.used in
-      record { inside = omega (arith, room); room = omega (arith, a, b, u, room, h.long); small = omega (arith, a, b, u, room) }
-
-  pub lasting_more : {s s' : List ℕ} {here here' at : ℕ} → Lasting r s₀ n k s here at → at < n → GrownRecords s here s' here' (unconverted_row r at) → length s' ≡ length s
-      → Lasting r s₀ n k s' here' (at + 1)
-  lasting_more {s' = s'} {here' = here'} {at = at} h l g q =
-      record {
-        inside = omega arith;
-        long = q ∙ h.long;
-        grown = subst (λ (records : List Record). GrownRecords s₀ k s' here' records) (sym (one_more r at)) (grown_records_join h.grown g);
-      }
-
-  pub lasting_all : {s : List ℕ} {here at : ℕ} → Lasting r s₀ n k s here at → n ≤ at → GrownRecords s₀ k s here (unconverted_rows r 0 n)
-  lasting_all {s = s} {here = here} {at = at} h l =
-      let e : at ≡ n = omega (arith, h.inside) in
-      subst (λ (i : ℕ). GrownRecords s₀ k s here (unconverted_rows r 0 i)) e h.grown
+pub lasting_more : (r : List ℕ) (at : ℕ) {s₀ s s' : List ℕ} {k here here' : ℕ} → GrownRecords s₀ k s here (unconverted_rows r 0 at) → GrownRecords s here s' here' (unconverted_row r at)
+    → GrownRecords s₀ k s' here' (unconverted_rows r 0 (at + 1))
+lasting_more r at g h = rw (one_more r at) (grown_records_join g h)

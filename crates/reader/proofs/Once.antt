@@ -6,8 +6,8 @@ use mathlib.Core.List.{List}
 use Rattle.tokens.specs.declared.cause.Answer.{Answer}
 use Rattle.grammar.specs.Sheet.{Sheet}
 use Rattle.grammar.specs.Lent.{Given, read_entry, pattern_entry, Answers}
-use Rattle.tokens.specs.declared.check.Checked.{Checked}
-use Rattle.build.specs.declared.cursor.Step.{Step}
+use Rattle.tokens.specs.Check.{Checked}
+use Rattle.build.specs.Post.{Step}
 use Rattle.reader.specs.Post.{Checks, CameOut, Finished}
 
 answers_once : {g : Given} {r r' s s' : List ℕ} {x y : Answer} → Answers g r s x → Answers g r' s' y → (x ≡ y) × (r ≡ r') × (s ≡ s')

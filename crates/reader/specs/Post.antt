@@ -1,11 +1,11 @@
 -- What the contracts inside the entries say: the room that is checked, the last pass for record 8, and the end of a reading.
 -- ks are the kinds; r, s and m the words of the rows, of the records, and the notes.
-use Rattle.std.specs.Prelude.{◌+◌, ◌*◌, ◌≤◌, ◌≡◌, ◌∷◌, ◌++◌, if◌then◌else◌}
+use Rattle.std.specs.Prelude.{◌+◌, ◌*◌, ◌≤◌, ◌≡◌, ◌∷◌, ◌++◌, if◌then◌else◌, Ok, Err}
 use Rattle.rows.specs.Base.{ℕ, zero, suc, List, [], length, get_or, ◌is◌, Cause, Answer, Checked, Forest, Record, shorthand_initializer}
 use Rattle.rows.specs.Post.{Cleared, Grown, GrownRecords}
 use Rattle.grammar.specs.{Sheet.sheet_of, Sheet.Out, Sheet.done, Sheet.fail, Reading.unconverteds, Reading.at_end, Lent.checks, Lent.answered, Lent.Answers}
 use Rattle.laws.specs.Promises.{Fine}
-use Rattle.build.specs.{declared.cursor.Cursor.Cursor, declared.cursor.Step.Step}
+use Rattle.build.specs.{declared.cursor.Cursor.Cursor, Post.Step}
 use Rattle.rows.specs.Row as Row
 
 abbrev pub word : List ℕ → ℕ → ℕ → ℕ  -- a word of the row n
@@ -50,8 +50,8 @@ pub record DoneTo (ks r s m : List ℕ) (d : Cursor) (out : Out (List ℕ)) : Ty
   pub within : Within (length ks) m
 
 pub record Came (ks r s m : List ℕ) (got : Step) (out : Out (List ℕ)) : Type 0 where  -- a step is what a reading came to
-  pub done_to : (d : Cursor) → got ≡ Step.Done d → DoneTo ks r s m d out
-  pub fail_at : (cause : Cause) → got ≡ Step.Fail cause → out ≡ fail cause m
+  pub done_to : (d : Cursor) → got ≡ Ok d → DoneTo ks r s m d out
+  pub fail_at : (cause : Cause) → got ≡ Err cause → out ≡ fail cause m
 
 pub record CameOut (ks r s m : List ℕ) (got : Step) : Type 0 where
   pub out : Out (List ℕ)

@@ -2,70 +2,42 @@
 ghost use Rattle.std.specs.Prelude.{◌≤◌, ◌≡◌, length};
 ghost use Rattle.rows.specs.Post.{GrownRecords};
 ghost use Rattle.grammar.specs.Reading.{noted_places};
-ghost use Rattle.grammar.specs.Lent.{check_row_room, check_record_room};
+ghost use Rattle.grammar.specs.Lent.{check_room, Ready};
 ghost use Rattle.laws.specs.Promises.{Fine};
 ghost use Rattle.reader.specs.Post.{Within, unconverted_row, unconverted_rows, LastRowRoom, LastRoom, Checks, CameOut, Emptied, Finished};
-ghost use Rattle.grammar.specs.Lent.{Ready};
 
-use build::cursor::Step;
+use build::cursor::Cursor;
 use tokens::cause::{Answer, Cause, Counts};
-use tokens::check::Checked;
 use tokens::checks;
 
-// Check 3: room for six words a token.
-fn check_row_room(kinds: &[u8], rows: &[u32]) -> Checked
-    requires { length kinds.now ≤ 2048 }
-    ensures { result ≡ check_row_room kinds.now rows.now }
+// Whether so many words are lent for each token: check 3 of the rows, check 4 of the records.
+fn check_room(kinds: &[u8], words: &[u32], each: usize, cause: Cause) -> Result<(), Cause>
+    requires tokens_bound { length kinds.now ≤ 2048 }
+    requires each_bound { each ≤ 6 }
+    ensures { result ≡ check_room kinds.now words.now each cause }
 {
-    if rows.len() < 6 * kinds.len() {
-        return Checked::Refused(Cause::RowRoom(0));
+    if words.len() < each * kinds.len() {
+        return Err(cause);
     }
-    Checked::Fine
-}
-
-// Check 4: room for two record words a token.
-fn check_record_room(kinds: &[u8], records: &[u32]) -> Checked
-    requires { length kinds.now ≤ 2048 }
-    ensures { result ≡ check_record_room kinds.now records.now }
-{
-    if records.len() < 2 * kinds.len() {
-        return Checked::Refused(Cause::RecordRoom(0));
-    }
-    Checked::Fine
+    Ok(())
 }
 
 // The checks 1 to 7, in this order.
-pub fn check(kinds: &[u8], flags: &[u8], rows: &[u32], records: &[u32]) -> Checked
+#[tactic(auto, using(grammar::proofs::Checked::short_enough), unfolding(grammar::specs::Lent::checks, grammar::specs::Lent::check_row_room, grammar::specs::Lent::check_record_room))]
+pub fn check(kinds: &[u8], flags: &[u8], rows: &[u32], records: &[u32]) -> Result<(), Cause>
     ensures { Checks kinds.now flags.now rows.now records.now result }
 {
-    let length = checks::check_length(kinds);
-    let Checked::Fine = length else {
-        return length;
-    };
-    let flag_length = checks::check_flag_length(kinds, flags);
-    let Checked::Fine = flag_length else {
-        return flag_length;
-    };
-    let row_room = check_row_room(kinds, rows);
-    let Checked::Fine = row_room else {
-        return row_room;
-    };
-    let record_room = check_record_room(kinds, records);
-    let Checked::Fine = record_room else {
-        return record_room;
-    };
-    let all_flags = checks::check_flags(flags);
-    let Checked::Fine = all_flags else {
-        return all_flags;
-    };
-    let all_kinds = checks::check_kinds(kinds);
-    let Checked::Fine = all_kinds else {
-        return all_kinds;
-    };
+    checks::check_length(kinds)?;
+    checks::check_flag_length(kinds, flags)?;
+    check_room(kinds, rows, 6, Cause::RowRoom(0))?;
+    check_room(kinds, records, 2, Cause::RecordRoom(0))?;
+    checks::check_flags(flags)?;
+    checks::check_kinds(kinds)?;
     checks::check_nesting(kinds)
 }
 
 // How many places are noted: a note is 0 or 1, and 0 from the end of the list on.
+#[tactic(auto, using(crate::proofs::Last::notes_left, crate::proofs::Last::none_left))]
 fn noted(notes: &[u8; 2048], tokens: usize) -> usize
     requires fine { Fine notes.now }
     requires within { Within tokens notes.now }
@@ -73,16 +45,15 @@ fn noted(notes: &[u8; 2048], tokens: usize) -> usize
     ensures { result ≡ noted_places notes.now }
 {
     let mut count: u16 = 0;
-    let mut at = 0;
-    while at < tokens {
-        count += notes[at] as u16;
-        at += 1;
+    for &note in &notes[..tokens] {
+        count += u16::from(note);
     }
-    count as usize
+    usize::from(count)
 }
 
 // Record 8 of a row: a ShorthandInit that was never converted, at its mark. The answer is how many records there are then.
 // Follows a part of `check_unfinished_errors`.
+#[tactic(auto, using(rows::proofs::Records::grown_record, rows::proofs::Records::grown_records_none), unfolding(crate::specs::Post::unconverted_row))]
 fn unconverted_row(rows: &[u32], records: &mut [u32], n: usize, used: usize) -> usize
     requires { LastRowRoom rows.now (length records.old) n used }
     ensures { GrownRecords records.old used records.new result (unconverted_row rows.now n) }
@@ -102,10 +73,8 @@ fn unconverted(rows: &[u32], records: &mut [u32], n: usize, used: usize) -> usiz
     ensures { GrownRecords records.old used records.new result (unconverted_rows rows.now 0 n) }
 {
     let mut here = used;
-    let mut at = 0;
-    while at < n {
+    for at in 0..n {
         here = unconverted_row(rows, records, at, here);
-        at += 1;
     }
     here
 }
@@ -126,15 +95,15 @@ pub fn finish(
     rows: &mut [u32],
     records: &mut [u32],
     notes: &[u8; 2048],
-    got: Step,
+    got: Result<Cursor, Cause>,
 ) -> Answer
     requires ready { Ready kinds.now rows.old records.old }
     requires came_out { CameOut kinds.now rows.old records.old notes.now got }
     ensures { Finished kinds.now rows.old records.old notes.now got rows.new records.new result }
 {
     match got {
-        Step::Fail(cause) => refuse(rows, records, cause),
-        Step::Done(d) => {
+        Err(cause) => refuse(rows, records, cause),
+        Ok(d) => {
             let end = d.at;
             if end != kinds.len() {
                 return refuse(rows, records, Cause::Unexpected(end));

@@ -4,87 +4,61 @@
 // tests/reader.py makes `stdin` and `stdout`; it was written from the rules and shares nothing with the reader.
 #![tactic(auto)]
 
-ghost use Rattle.std.specs.Prelude.{◌≤◌, ◌<◌, IfOk, length};
+ghost use Rattle.std.specs.Prelude.{◌≤◌};
 
 use std::io;
 use std::io::Read;
-use tokens::cause::{Answer, Cause, Counts};
-use tokens::causes;
+use tokens::cause::{Answer, Counts};
+
+// What to print of a reading, a bit each.
+const KINDS: u8 = 1;
+
+const RECORDS: u8 = 2;
+
+const ABANDONED: u8 = 4;
+
+const ROWS: u8 = 8;
+
+const SUM: u8 = 16;
 
 // Two bytes of a sheet's head as a number, or the limit where that is less.
-fn number(head: &[u8], at: usize, limit: usize) -> usize
-    requires { at ≤ 12 }
+fn number(head: &[u8; 12], at: usize, limit: usize) -> usize
+    requires { at ≤ 10 }
     ensures { result ≤ limit }
 {
-    let low = tokens::kind_at(head, at) as usize;
-    let high = tokens::kind_at(head, at + 1) as usize;
-    let n = low + 256 * high;
-    if limit < n { limit } else { n }
+    usize::from(u16::from_le_bytes([head[at], head[at + 1]])).min(limit)
 }
 
-// A word of a list of words, counted in groups of six.
-fn word(words: &[u32], group: usize, at: usize) -> usize
-    ensures { result < 4294967296 }
-{
-    rows::row_word(words, group, at) as usize
-}
-
-// All words from a place on have this value.
+// Whether all words from a place on have this value.
 fn all(words: &[u32], from: usize, value: u32) -> bool {
-    let mut at = from;
-    while at < words.len() {
-        if words[at] != value {
-            return false;
-        }
-        at += 1;
-    }
-    true
+    words.iter().skip(from).all(|word| *word == value)
 }
 
 // The kinds of the first n rows.
 fn print_kinds(rt: &impl Print, rows: &[u32], n: usize) -> io::Result<()> {
     rt.print(" K")?;
-    let mut at: usize = 0;
-    while at < n {
-        let kind = word(rows, at, 0);
-        print!(rt; " {kind}")?;
-        at += 1;
+    for row in rows.chunks_exact(6).take(n) {
+        print!(rt; " {}", row[0])?;
     }
     Ok(())
 }
 
 // The first n records, as number@place.
-fn print_records(rt: &impl Print, records: &[u32], n: usize) -> io::Result<()>
-    requires { n ≤ 4096 }
-{
+fn print_records(rt: &impl Print, records: &[u32], n: usize) -> io::Result<()> {
     rt.print(" R")?;
-    let mut at: usize = 0;
-    while at < n {
-        let number = word(records, 0, 2 * at);
-        let place = word(records, 0, 2 * at + 1);
-        print!(rt; " {number}@{place}")?;
-        at += 1;
+    for record in records.chunks_exact(2).take(n) {
+        print!(rt; " {}@{}", record[0], record[1])?;
     }
     Ok(())
 }
 
-// A row as the sheet program prints it.
-fn print_row(rt: &impl Print, rows: &[u32], at: usize) -> io::Result<()> {
-    let kind = word(rows, at, 0);
-    let mark = word(rows, at, 1);
-    let first = word(rows, at, 2);
-    let end = word(rows, at, 3);
-    let kids = word(rows, at, 4);
-    let size = word(rows, at, 5);
-    print!(rt; "\n{kind} {mark} {first} {end} {kids} {size}")
-}
-
-// The first n rows, a line each.
+// The first n rows, a line each, as the sheet program prints them.
 fn print_rows(rt: &impl Print, rows: &[u32], n: usize) -> io::Result<()> {
-    let mut at: usize = 0;
-    while at < n {
-        print_row(rt, rows, at)?;
-        at += 1;
+    for row in rows.chunks_exact(6).take(n) {
+        print!(rt;
+            "\n{} {} {} {} {} {}",
+            row[0], row[1], row[2], row[3], row[4], row[5]
+        )?;
     }
     Ok(())
 }
@@ -92,17 +66,10 @@ fn print_rows(rt: &impl Print, rows: &[u32], n: usize) -> io::Result<()> {
 // A sum over all words in which each place counts.
 fn print_sum(rt: &impl Print, words: &[u32]) -> io::Result<()> {
     let mut sum: usize = 7;
-    let mut at: usize = 0;
-    while at < words.len() {
-        sum = (sum * 31 + word(words, 0, at)) % 4294967291;
-        at += 1;
+    for &word in words {
+        sum = (sum * 31 + word as usize) % 4294967291;
     }
     print!(rt; " sum {sum}")
-}
-
-// A bit of what is to be printed.
-fn asks(what: u8, bit: u8) -> bool {
-    what & bit != 0
 }
 
 // What was read, as much of it as is asked for.
@@ -114,54 +81,40 @@ fn print_read(
     records: &[u32],
 ) -> io::Result<()> {
     rt.print("read")?;
-    if asks(what, 24) {
+    if what & (ROWS | SUM) != 0 {
         print!(rt; " {}", counts.rows)?;
     }
-    if asks(what, 4) {
+    if what & ABANDONED != 0 {
         print!(rt; " A {}", counts.abandoned)?;
     }
-    if asks(what, 1) {
+    if what & KINDS != 0 {
         print_kinds(rt, rows, counts.rows)?;
     }
-    if asks(what, 2) {
-        if counts.records <= 4096 {
-            print_records(rt, records, counts.records)?;
-        }
+    if what & RECORDS != 0 {
+        print_records(rt, records, counts.records)?;
     }
-    if asks(what, 16) {
+    if what & SUM != 0 {
         print_sum(rt, rows)?;
     }
-    if asks(what, 8) {
+    if what & ROWS != 0 {
         print_rows(rt, rows, counts.rows)?;
     }
     Ok(())
 }
 
-// After a reading the words past the used ones are 0.
-fn print_rest(rt: &impl Print, counts: Counts, rows: &[u32], records: &[u32]) -> io::Result<()> {
-    if counts.rows <= 2048 {
-        if !all(rows, 6 * counts.rows, 0) {
-            rt.print(" rows left")?;
-        }
-    }
-    if counts.records <= 2048 {
-        if !all(records, 2 * counts.records, 0) {
-            rt.print(" records left")?;
-        }
-    }
-    Ok(())
-}
-
-// After a refusal both buffers hold what they held, or nothing.
-fn print_refused(rt: &impl Print, cause: Cause, rows: &[u32], records: &[u32]) -> io::Result<()> {
-    let number = causes::number_of(cause);
-    let place = causes::place_of(cause);
-    print!(rt; "refused {number} {place}")?;
-    let value: u32 = if number < 8 { 9 } else { 0 };
-    if !all(rows, 0, value) {
+// Says of a buffer that it does not hold this value in every word from a place on.
+fn print_left(
+    rt: &impl Print,
+    rows: &[u32],
+    from_row: usize,
+    records: &[u32],
+    from_record: usize,
+    value: u32,
+) -> io::Result<()> {
+    if !all(rows, from_row.saturating_mul(6), value) {
         rt.print(" rows left")?;
     }
-    if !all(records, 0, value) {
+    if !all(records, from_record.saturating_mul(2), value) {
         rt.print(" records left")?;
     }
     Ok(())
@@ -177,121 +130,47 @@ fn print_answer(
     match answer {
         Answer::Read(counts) => {
             print_read(rt, what, counts, rows, records)?;
-            print_rest(rt, counts, rows, records)?;
+            // the words past the used ones are 0
+            print_left(rt, rows, counts.rows, records, counts.records, 0)?;
         }
         Answer::Refused(cause) => {
-            print_refused(rt, cause, rows, records)?;
+            print!(rt; "refused {cause}")?;
+            // both buffers hold what they held, or nothing
+            let value = if cause.number() < 8 { 9 } else { 0 };
+            print_left(rt, rows, 0, records, 0, value)?;
         }
     }
     rt.println("")
 }
 
-// Reads until the buffer is full or the input ends, and tells how many bytes came.
-fn read_full(input: &mut impl Read, bytes: &mut [u8]) -> io::Result<usize>
-    ensures { IfOk result (λ n. n ≤ length bytes.new) }
-{
-    let mut at = 0;
-    while at < bytes.len() {
-        let n = input.read(&mut bytes[at..])?;
-        if n == 0 {
-            break;
-        }
-        at += n;
-    }
-    Ok(at)
-}
-
-// The next n bytes of the input.
-fn fill(input: &mut impl Read, bytes: &mut [u8], n: usize) -> io::Result<()> {
-    if n <= bytes.len() {
-        read_full(input, &mut bytes[..n])?;
-    }
-    Ok(())
-}
-
-// The first n of a list, or all of it.
-fn part(list: &[u8], n: usize) -> &[u8] {
-    if list.len() < n {
-        return list;
-    }
-    &list[..n]
-}
-
-// Reads kinds and flags in buffers of exactly so many words, and prints what comes of it.
-fn print_reading(
-    rt: &impl Print,
-    head: &[u8],
-    kinds: &[u8],
-    flags: &[u8],
-    rows: &mut [u32],
-    records: &mut [u32],
-) -> io::Result<()> {
-    let what = tokens::kind_at(head, 1);
-    if tokens::kind_at(head, 0) == 1 {
-        let answer = reader::pattern(kinds, flags, rows, records);
-        return print_answer(rt, what, answer, rows, records);
-    }
-    let answer = reader::read(kinds, flags, rows, records);
-    print_answer(rt, what, answer, rows, records)
-}
-
-// The same, of longer buffers.
-fn print_lent(
-    rt: &impl Print,
-    head: &[u8],
-    kinds: &[u8],
-    flags: &[u8],
-    rows: &mut [u32],
-    records: &mut [u32],
-) -> io::Result<()> {
-    let r = number(head, 6, 12300);
-    let s = number(head, 8, 4100);
-    if r <= rows.len() {
-        if s <= records.len() {
-            print_reading(rt, head, kinds, flags, &mut rows[..r], &mut records[..s])?;
-        }
-    }
-    Ok(())
-}
-
-// Reads the next sheet, in buffers that hold 9 in every word, and prints what comes of it.
-fn print_sheet(rt: &impl Print, input: &mut impl Read, head: &[u8]) -> io::Result<()> {
+// Reads the next sheet, in buffers of exactly so many words that hold 9 each, and prints what comes of it.
+fn print_sheet(rt: &impl Print, input: &mut impl Read, head: &[u8; 12]) -> io::Result<()> {
     let mut kinds = [0u8; 4096];
     let mut flags = [0u8; 4096];
     let mut rows = [9u32; 12300];
     let mut records = [9u32; 4100];
-    let n = number(head, 2, 4096);
-    let m = number(head, 4, 4096);
-    fill(input, &mut kinds, n)?;
-    fill(input, &mut flags, m)?;
-    print_lent(
-        rt,
-        head,
-        part(&kinds, n),
-        part(&flags, m),
-        &mut rows,
-        &mut records,
-    )
-}
-
-// The next sheet of the input, if there is one.
-fn next_sheet(rt: &impl Print, input: &mut impl Read) -> io::Result<bool> {
-    let mut head = [0u8; 12];
-    if read_full(input, &mut head)? < 12 {
-        return Ok(false);
-    }
-    print_sheet(rt, input, &head)?;
-    Ok(true)
+    let kinds = &mut kinds[..number(head, 2, 4096)];
+    let flags = &mut flags[..number(head, 4, 4096)];
+    let rows = &mut rows[..number(head, 6, 12300)];
+    let records = &mut records[..number(head, 8, 4100)];
+    input::read_full(input, kinds)?;
+    input::read_full(input, flags)?;
+    let answer = if head[0] == 1 {
+        reader::pattern(kinds, flags, rows, records)
+    } else {
+        reader::read(kinds, flags, rows, records)
+    };
+    print_answer(rt, head[1], answer, rows, records)
 }
 
 fn main(rt: HostRuntime) -> io::Result<()> {
     let mut input = rt.stdin();
-    let mut left: usize = 4096;
-    while 0 < left {
-        if !next_sheet(&rt, &mut input)? {
-            return Ok(());
+    let mut head = [0u8; 12];
+    for _ in 0..4096 {
+        if input::read_full(&mut input, &mut head)? < head.len() {
+            break;
         }
-        left -= 1;
+        print_sheet(&rt, &mut input, &head)?;
     }
     Ok(())
 }

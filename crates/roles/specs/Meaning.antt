@@ -1,83 +1,71 @@
--- What the code's numbers say: a plan is a number, and says what a row becomes and the roles of its kids. By its remainder by 16 it is of a
--- kind (specs/Plan.antt), by its quotient it holds a kind, a place, or one more than the place of a literal with a comma after its rest.
-use Rattle.std.specs.Prelude.{◌-◌, ◌/◌, ◌%◌, ◌≡◌, ◌∷◌, if◌then◌else◌}
-use Rattle.rows.specs.Base.{ℕ, Bool, true, false, List, [], leb, ◌is◌, Record, rest_argument, rest_comma, compound_default}
-use Rattle.tokens.specs.declared.cause.Cause.TheVariants.{Target as NoTarget, Spread as SpreadNotLast}
+-- What a plan says: what a row becomes, and the roles of its kids.
+use Rattle.std.specs.Prelude.{◌∷◌, if◌then◌else◌, Option, Some, None}
+use Rattle.rows.specs.Base.{ℕ, Bool, true, false, List, [], ◌is◌, Record, rest_argument, rest_comma, compound_default}
+use Rattle.tokens.specs.declared.cause.Cause.TheVariants.{Target as NoTargetAt, Spread as NotLastAt}
 use Rattle.roles.specs.declared.Seen.{Seen}
+use Rattle.roles.specs.declared.plan.Plan.{Plan}
+use Rattle.roles.specs.declared.plan.Plan.TheVariants.{Array, Object, Property, Shorthand, ShorthandInit, Paren, RestInArray, RestInObject, WrongRest, Keep, Compound, NoTarget, NotLast}
 use Rattle.rows.specs.Row as row
 use Rattle.conversion.specs.Conversion as def
-use Rattle.roles.specs.Plan as code
 
-abbrev pub word : ℕ → ℕ  -- a number as a word of a row or of a record
-word n = n % 4294967296
+abbrev pub commas : Option ℕ → List Record  -- the record of a comma after a literal's rest, or none
+commas None = []
+commas (Some first) = rest_comma first ∷ []
 
-abbrev pub commas : ℕ → List Record  -- the record of a comma after a literal's rest, or none
-commas held = if held is 0 then [] else rest_comma (word (held - 1)) ∷ []
+unfoldable pub kid : Plan → Bool → def.Role  -- the role of a kid, the last one or not, of a row of that plan
+kid (Array comma) last = if last then def.last_element (commas comma) else def.element
+kid (Object comma) last = if last then def.last_property (commas comma) else def.property
+kid Property last = if last then def.value else def.same
+kid Shorthand last = def.name
+kid ShorthandInit last = if last then def.same else def.name
+kid Paren last = def.simple
+kid _ last = def.any
 
-abbrev pub kid_as : ℕ → ℕ → Bool → def.Role  -- the role of a kid, the last one or not, of a row of that plan
-kid_as kind held last =
-    if kind is code.Array then (if last then def.last_element (commas held) else def.element)
-    else if kind is code.Object then (if last then def.last_property (commas held) else def.property)
-    else if kind is code.Property then (if last then def.value else def.same)
-    else if kind is code.Shorthand then def.name
-    else if kind is code.ShorthandInit then (if last then def.same else def.name)
-    else if kind is code.Paren then def.simple
-    else def.any
-
-abbrev pub kind_as : ℕ → ℕ → ℕ  -- the kind that the row gets
-kind_as kind held =
-    if kind is code.Array then row.TargetArray
-    else if kind is code.Object then row.TargetObject
-    else if kind is code.Property then row.TargetProperty
-    else if kind is code.Shorthand then row.TargetShorthand
-    else if kind is code.ShorthandInit then row.TargetShorthandInit
-    else if kind is code.Paren then row.TargetParen
-    else if kind is code.Keep then word held
-    else if kind is code.Compound then row.TargetDefault
-    else row.TargetRest
-
-abbrev pub before_as : ℕ → ℕ → ℕ → List Record  -- the records before those of its kids, whose last one begins there, and those after them
-before_as begins kind held =
-    if kind is code.RestInObject then commas held
-    else if kind is code.WrongRest then rest_argument begins ∷ commas held
-    else if kind is code.Compound then compound_default (word held) ∷ []
-    else []
-
-abbrev pub after_as : ℕ → ℕ → List Record
-after_as kind held = if kind is code.RestInArray then commas held else []
-
-abbrev pub plan_as : ℕ → ℕ → ℕ → def.Change  -- what it becomes
-plan_as begins kind held =
-    if leb code.Keep kind then
-    (if leb code.NoTarget kind then (if kind is code.NoTarget then def.refuse (NoTarget held) else def.refuse (SpreadNotLast held))
-    else def.keep (kind_as kind held) (before_as begins kind held))
-    else def.turn (kind_as kind held) (before_as begins kind held) (λ after. kid_as kind held (after is 0)) (after_as kind held)
-
-unfoldable pub kid : ℕ → Bool → def.Role  -- the same of a number
-kid of last = kid_as (of % 16) (of / 16) last
-
-abbrev pub kids : ℕ → ℕ → def.Role  -- of a kid with so many kids after it
+abbrev pub kids : Plan → ℕ → def.Role  -- of a kid with so many kids after it
 kids of after = kid of (after is 0)
 
-unfoldable pub kind : ℕ → ℕ
-kind of = kind_as (of % 16) (of / 16)
+unfoldable pub kind : Plan → ℕ  -- the kind that the row gets
+kind (Array comma) = row.TargetArray
+kind (Object comma) = row.TargetObject
+kind Property = row.TargetProperty
+kind Shorthand = row.TargetShorthand
+kind ShorthandInit = row.TargetShorthandInit
+kind Paren = row.TargetParen
+kind (Keep same) = same
+kind (Compound mark) = row.TargetDefault
+kind _ = row.TargetRest
 
-unfoldable pub before : ℕ → ℕ → List Record
-before begins of = before_as begins (of % 16) (of / 16)
+unfoldable pub before : ℕ → Plan → List Record  -- the records before those of its kids, whose last one begins there, and those after them
+before begins (RestInObject comma) = commas comma
+before begins (WrongRest comma) = rest_argument begins ∷ commas comma
+before begins (Compound mark) = compound_default mark ∷ []
+before begins _ = []
 
-unfoldable pub after : ℕ → List Record
-after of = after_as (of % 16) (of / 16)
+unfoldable pub after : Plan → List Record
+after (RestInArray comma) = commas comma
+after _ = []
 
-unfoldable pub plan : ℕ → ℕ → def.Change
-plan begins of = plan_as begins (of % 16) (of / 16)
+abbrev pub alone : Plan → Bool  -- no kid of the row is converted with it
+alone (Keep kind) = true
+alone (Compound mark) = true
+alone (NoTarget place) = true
+alone (NotLast place) = true
+alone _ = false
+
+unfoldable pub plan : ℕ → Plan → def.Change  -- what it becomes
+plan begins (NoTarget place) = def.refuse (NoTargetAt place)
+plan begins (NotLast place) = def.refuse (NotLastAt place)
+plan begins (Keep same) = def.keep same []
+plan begins (Compound mark) = def.keep row.TargetDefault (before begins (Compound mark))
+plan begins of = def.turn (kind of) (before begins of) (kids of) (after of)
 
 abbrev pub aim : Bool → def.Role  -- any target, or a simple one
 aim true = def.simple
 aim false = def.any
 
-abbrev pub aimed : Bool → ℕ  -- a plan whose only kid is to be that
-aimed true = code.Paren
-aimed false = code.RestInArray
+abbrev pub aimed : Bool → Plan  -- a plan whose only kid is to be that
+aimed true = Paren
+aimed false = RestInArray None
 
 -- A rest's argument that can be converted is of a wrong kind only in an object, and only if it is an Array or Object itself
 -- (proofs/Near.antt): so the code looks at the argument alone, and not through Parens.
@@ -92,7 +80,3 @@ seen r =
       in_array = [];
       in_object = if def.is_array_or_object r.last then rest_argument r.begins ∷ [] else [];
     }
-
-pub record Coded (kind held of : ℕ) : Type 0 where  -- the number is of a kind and holds that
-  pub kind_is : of % 16 ≡ kind
-  pub held_is : of / 16 ≡ held

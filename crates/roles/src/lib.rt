@@ -6,13 +6,14 @@ ghost use Rattle.conversion.specs.Conversion as def;
 ghost use Rattle.roles.specs.Meaning as means;
 ghost use Rattle.roles.specs.ShortCut as short;
 
+use plan::Plan;
 use rows::row;
 
 pub mod plan;
 pub mod plans;
 
 // What conversion looks at in a row: three of its words, how many kids it has, and the last kid's kind and first token (0 where
-// there is none).
+// there is none, as in the definition of the same name).
 #[derive(Clone, Copy)]
 pub struct Seen {
     pub kind: u32,
@@ -23,43 +24,25 @@ pub struct Seen {
     pub begins: u32,
 }
 
-// A word as a place or a number of rows.
-pub fn wide(x: u32) -> usize
-    ensures { result ≡ x }
-{
-    x as usize
-}
-
 // A name, a Member or an Index: a simple target by itself. Follows a part of `SimpleAssignmentTarget::cover`.
 pub fn is_reference(kind: u32) -> bool
     ensures { result ≡ def.is_reference kind }
 {
-    match kind {
-        row::IDENTIFIER => true,
-        row::MEMBER => true,
-        row::INDEX => true,
-        _ => false,
-    }
+    matches!(kind, row::IDENTIFIER | row::MEMBER | row::INDEX)
 }
 
 // What becomes the value of a property by itself, with no record.
 pub fn is_value(kind: u32) -> bool
     ensures { result ≡ short.is_value kind }
 {
-    match kind {
-        row::ASSIGN => true,
-        _ => is_reference(kind),
-    }
+    kind == row::ASSIGN || is_reference(kind)
 }
 
 // What becomes an element of an array by itself, with no record.
 pub fn is_element(kind: u32) -> bool
     ensures { result ≡ short.is_element kind }
 {
-    match kind {
-        row::HOLE => true,
-        _ => is_value(kind),
-    }
+    kind == row::HOLE || is_value(kind)
 }
 
 // A shorthand with an initializer: the name stands first.
@@ -73,16 +56,11 @@ pub fn is_initialized(kind: u32, kids: u32) -> bool
 pub fn ends_in_target(kind: u32, kids: u32, last: u32) -> bool
     ensures { result ≡ short.ends_in_target kind kids last }
 {
-    if kind == row::PROPERTY {
-        if kids == 2 {
-            return is_value(last);
-        }
-        return false;
+    match kind {
+        row::PROPERTY => kids == 2 && is_value(last),
+        row::SHORTHAND => kids == 1 && last == row::IDENTIFIER,
+        _ => false,
     }
-    if kind == row::SHORTHAND {
-        return kids == 1 && last == row::IDENTIFIER;
-    }
-    false
 }
 
 // The kind that a row gets by itself or with the one row below that turns.
@@ -102,30 +80,30 @@ pub fn named_kind(kind: u32) -> u32
 }
 
 // The plan of a row whose only kid is to be any target, or a simple one.
-pub fn aim_at(simple: bool) -> usize
+pub fn aim_at(simple: bool) -> Plan
     ensures { result ≡ means.aimed simple }
 {
     if simple {
-        plan::PAREN
+        Plan::Paren
     } else {
-        plan::REST_IN_ARRAY
+        Plan::RestInArray(None)
     }
 }
 
 // The kind that a row of this plan gets.
-pub fn kind_of(of: usize) -> u32
+#[tactic(auto, unfolding(crate::specs::Meaning::kind))]
+pub fn kind_of(of: Plan) -> u32
     ensures { result ≡ means.kind of }
 {
-    let code = of % 16;
-    match code {
-        plan::ARRAY => row::TARGET_ARRAY,
-        plan::OBJECT => row::TARGET_OBJECT,
-        plan::PROPERTY => row::TARGET_PROPERTY,
-        plan::SHORTHAND => row::TARGET_SHORTHAND,
-        plan::SHORTHAND_INIT => row::TARGET_SHORTHAND_INIT,
-        plan::PAREN => row::TARGET_PAREN,
-        plan::KEEP => (of / 16 % 4294967296) as u32,
-        plan::COMPOUND => row::TARGET_DEFAULT,
+    match of {
+        Plan::Array(_) => row::TARGET_ARRAY,
+        Plan::Object(_) => row::TARGET_OBJECT,
+        Plan::Property => row::TARGET_PROPERTY,
+        Plan::Shorthand => row::TARGET_SHORTHAND,
+        Plan::ShorthandInit => row::TARGET_SHORTHAND_INIT,
+        Plan::Paren => row::TARGET_PAREN,
+        Plan::Keep(kind) => kind,
+        Plan::Compound(_) => row::TARGET_DEFAULT,
         _ => row::TARGET_REST,
     }
 }

@@ -4,22 +4,10 @@ use Prim.Native.Nat.{ℕ, ◌+◌, ◌*◌, ◌≤◌}
 use mathlib.Core.Path.{◌≡◌, refl, sym, ap, ◌∙◌}
 use mathlib.Core.List.{List, [], ◌∷◌, ◌++◌, append-nil, append_assoc}
 use native.Mathlib.Omega.{arith}
-use lib.ListN.{length, take, set, length-set, length-append}
-use lib.Seq.{drop-set-lt}
+use lib.ListN.{length, take, length-append}
 use Rattle.rows.specs.Record.{Record, says, record_words}
 use Rattle.rows.specs.Post.{PushedRecord, GrownRecords, KeptRecords}
-use Rattle.rows.proofs.Rows.{put, first_kept}
-
-pub pushed_record : (l : List ℕ) (n number place : ℕ) → 2 * n + 2 ≤ length l
-    → PushedRecord l n number place (set (set l (2 * n) number) (2 * n + 1) place)
-pushed_record l n number place h =
-    record {
-      text =
-          put _ (2 * n + 1) (2 * (n + 1)) place (omega arith) (simp length-set (omega arith))
-          ∙ ap (λ (x : List ℕ). x ++ (place ∷ [])) (put l (2 * n) (2 * n + 1) number (omega arith) (omega arith))
-          ∙ append_assoc (take (2 * n) l) (number ∷ []) (place ∷ []);
-      rest = drop-set-lt (2 * (n + 1)) _ (2 * n + 1) place (omega arith) ∙ drop-set-lt (2 * (n + 1)) l (2 * n) number (omega arith);
-    }
+use Rattle.rows.proofs.Rows.{first_kept}
 
 pub record_words_append : (xs ys : List Record) → record_words (xs ++ ys) ≡ record_words xs ++ record_words ys
 unfolding record_words

@@ -1,44 +1,14 @@
 -- Laws of rows: of `Grown`, that the rows of a forest were added, and `Kept`, that the first rows are as they were.
 -- Assumes nothing.
-use Prim.Native.Nat.{ℕ, suc, ◌+◌, ◌-◌, ◌*◌, ◌≤◌, ◌<◌}
+use Prim.Native.Nat.{ℕ, ◌+◌, ◌-◌, ◌*◌, ◌≤◌, ◌<◌}
 use mathlib.Core.Path.{◌≡◌, refl, sym, ap, ◌∙◌}
-use mathlib.Core.List.{List, [], ◌∷◌, ◌++◌, append-nil, append_assoc}
+use mathlib.Core.List.{List, ◌++◌, append-nil, append_assoc}
 use native.Mathlib.Omega.{arith}
 use native.Mathlib.Nat.{add_assoc}
-use lib.ListN.{length, take, drop, set, length-set}
-use lib.Seq.{take-suc-set, drop-set-lt, take-take, take-append-le, length-take-le}
+use lib.ListN.{length, take}
+use lib.Seq.{take-take, take-append-le, length-take-le}
 use Rattle.rows.specs.Tree.{Tree, Forest, node, nil, cons, one, join, count, size, sizes, row, flat, flats}
 use Rattle.rows.specs.Post.{Pushed, Grown, Kept}
-
--- six stores in a row
-pub put : (l : List ℕ) (i j a : ℕ) → j ≡ suc i → i < length l → take j (set l i a) ≡ take i l ++ (a ∷ [])
-put l i j a e h = rw e (take-suc-set l i a h)
-
-six : (l : List ℕ) (n k m a e j s : ℕ) → 6 * n + 6 ≤ length l
-    → take (6 * (n + 1)) (set (set (set (set (set (set l (6 * n) k) (6 * n + 1) m) (6 * n + 2) a) (6 * n + 3) e) (6 * n + 4) j) (6 * n + 5) s)
-    ≡ take (6 * n) l ++ row k m a e j s
-six l n k m a e j s h =
-    put _ (6 * n + 5) (6 * (n + 1)) s (omega arith) (simp length-set (omega arith))
-    ∙ ap (λ (x : List ℕ). x ++ (s ∷ [])) (put _ (6 * n + 4) (6 * n + 5) j (omega arith) (simp length-set (omega arith))
-    ∙ ap (λ (x : List ℕ). x ++ (j ∷ [])) (put _ (6 * n + 3) (6 * n + 4) e (omega arith) (simp length-set (omega arith))
-    ∙ ap (λ (x : List ℕ). x ++ (e ∷ [])) (put _ (6 * n + 2) (6 * n + 3) a (omega arith) (simp length-set (omega arith))
-    ∙ ap (λ (x : List ℕ). x ++ (a ∷ [])) (put _ (6 * n + 1) (6 * n + 2) m (omega arith) (simp length-set (omega arith))
-    ∙ ap (λ (x : List ℕ). x ++ (m ∷ [])) (put l (6 * n) (6 * n + 1) k (omega arith) (omega arith))))))
-    ∙ simp append_assoc
-
-beyond : (l : List ℕ) (n k m a e j s : ℕ)
-    → drop (6 * (n + 1)) (set (set (set (set (set (set l (6 * n) k) (6 * n + 1) m) (6 * n + 2) a) (6 * n + 3) e) (6 * n + 4) j) (6 * n + 5) s) ≡ drop (6 * (n + 1)) l
-beyond l n k m a e j s =
-    drop-set-lt (6 * (n + 1)) _ (6 * n + 5) s (omega arith)
-    ∙ drop-set-lt (6 * (n + 1)) _ (6 * n + 4) j (omega arith)
-    ∙ drop-set-lt (6 * (n + 1)) _ (6 * n + 3) e (omega arith)
-    ∙ drop-set-lt (6 * (n + 1)) _ (6 * n + 2) a (omega arith)
-    ∙ drop-set-lt (6 * (n + 1)) _ (6 * n + 1) m (omega arith)
-    ∙ drop-set-lt (6 * (n + 1)) l (6 * n) k (omega arith)
-
-pub pushed : (l : List ℕ) (n k m a e j s : ℕ) → 6 * n + 6 ≤ length l
-    → Pushed l n k m a e j s (set (set (set (set (set (set l (6 * n) k) (6 * n + 1) m) (6 * n + 2) a) (6 * n + 3) e) (6 * n + 4) j) (6 * n + 5) s)
-pushed l n k m a e j s h = record { text = six l n k m a e j s h; rest = beyond l n k m a e j s }
 
 pub sizes_join : (ts us : Forest) → sizes (join ts us) ≡ sizes ts + sizes us
 unfolding sizes join

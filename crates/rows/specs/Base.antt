@@ -7,4 +7,4 @@ pub use Rattle.tokens.specs.declared.cause.Cause.{Cause}
 pub use Rattle.tokens.specs.Token.{is_name, is_word, is_literal, Sheet, kind_at, flag_at, sheet_of, token, break_before}
 pub use Rattle.tokens.specs.declared.cause.Answer.{Answer}
 pub use Rattle.tokens.specs.Cause.{number, place}
-pub use Rattle.tokens.specs.declared.check.Checked.{Checked}
+pub use Rattle.tokens.specs.Check.{Checked}

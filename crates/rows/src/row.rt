@@ -1,4 +1,4 @@
-// The kinds of rows by name, as RULES R5 numbers them.
+// The kinds of rows by name, as RULES R5 numbers them. Words and no enum: rows are lent words (the C interface), and any word may stand there (`trees::well_formed`).
 // a name that is read
 pub const IDENTIFIER: u32 = 1;
 

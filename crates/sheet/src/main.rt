@@ -2,60 +2,37 @@
 // standard input where there is none. What it prints is `printout::print_file`'s; here files are opened, read and written.
 #![tactic(auto)]
 
-ghost use Rattle.std.specs.Prelude.{length};
-ghost use Rattle.sheet.specs.Post.{Within};
+ghost use Rattle.std.specs.Prelude.{◌≤◌, length, IfOk};
 
 use std::env::FillError;
 use std::fs::File;
 use std::io;
 use std::io::Read;
 use std::rt::Env;
-use text::Printed;
 
 // The system's number for a name that is too long.
 const ENAMETOOLONG: i32 = 36;
 
-// How many bytes came, or why the file cannot be read.
-#[derive(Clone, Copy)]
-enum Got {
-    Bytes(usize),
-    Failed(io::Error),
-}
-
-// One read.
-fn read_some(input: &mut impl Read, part: &mut [u8]) -> Got
-    ensures { Within (length part.old) result }
-{
-    match input.read(part) {
-        Ok(n) => Got::Bytes(n),
-        Err(error) => Got::Failed(error),
-    }
-}
-
-// Reads up to the end of the input, and no further than the buffer goes.
-fn read_file(input: &mut impl Read, file: &mut [u8]) -> Got
-    ensures { Within (length file.old) result }
+// Reads up to the end of the input, and no further than the buffer goes, and tells how many bytes came. As `input::read_full` of the tests does; it stays,
+// for the wrong program `read_file_whole` is one of this function.
+fn read_file(input: &mut impl Read, file: &mut [u8]) -> io::Result<usize>
+    ensures { IfOk result (λ n. n ≤ length file.new) }
 {
     let mut at = 0;
     while at < file.len() {
-        let got = read_some(input, &mut file[at..]);
-        let Got::Bytes(n) = got else {
-            return got;
-        };
+        let n = input.read(&mut file[at..])?;
         if n == 0 {
-            return Got::Bytes(at);
+            return Ok(at);
         }
         at += n;
     }
-    Got::Bytes(at)
+    Ok(at)
 }
 
 // The system's words for an error, without the number that stands after them.
 fn words_of(text: &str) -> &str {
-    match text.split_once(" (os error ") {
-        Some((words, _)) => words,
-        None => text,
-    }
+    text.split_once(" (os error ")
+        .map_or(text, |(words, _)| words)
 }
 
 // Says on standard error why something failed.
@@ -66,10 +43,8 @@ fn fail(rt: &(impl Eprint + Alloc), what: &str, error: io::Error) -> io::Result<
 }
 
 fn write(rt: &(impl Print + Eprint + Alloc), text: &[u8]) -> io::Result<()> {
-    match rt.write_all(text) {
-        Ok(()) => Ok(()),
-        Err(error) => fail(rt, "standard output", error),
-    }
+    rt.write_all(text)
+        .or_else(|error| fail(rt, "standard output", error))
 }
 
 // Prints what the box shows for the bytes of a file. `print_file` promises that no text is longer than the buffer.
@@ -77,10 +52,9 @@ fn print_bytes(rt: &(impl Print + Eprint + Alloc), bytes: &[u8]) -> io::Result<(
     let mut rows = [0u32; 12288];
     let mut records = [0u32; 4096];
     let mut out = [0u8; 180244];
-    let printed = printout::print_file(bytes, &mut rows, &mut records, &mut out);
-    match printed {
-        Printed::Whole(n) => write(rt, &out[..n]),
-        Printed::Short => rt.eprintln("sheet: the text is too long"),
+    match printout::print_file(bytes, &mut rows, &mut records, &mut out) {
+        Some(n) => write(rt, &out[..n]),
+        None => rt.eprintln("sheet: the text is too long"),
     }
 }
 
@@ -92,10 +66,9 @@ fn print_input(
     name: &str,
 ) -> io::Result<()> {
     let mut file = [0u8; 8205];
-    let got = read_file(input, &mut file);
-    match got {
-        Got::Bytes(n) => print_bytes(rt, &file[..n]),
-        Got::Failed(error) => fail(rt, name, error),
+    match read_file(input, &mut file) {
+        Ok(n) => print_bytes(rt, &file[..n]),
+        Err(error) => fail(rt, name, error),
     }
 }
 
@@ -110,10 +83,7 @@ fn print_named(rt: &HostRuntime, name: &str) -> io::Result<()> {
 // Whether the program was started with an argument of this place; the place 0 has its own name.
 fn is_given(rt: &impl Env, place: usize) -> bool {
     let mut start = [0u8; 1];
-    match rt.arg(place, &mut start) {
-        Err(FillError::NotPresent) => false,
-        _ => true,
-    }
+    !matches!(rt.arg(place, &mut start), Err(FillError::NotPresent))
 }
 
 fn main(rt: HostRuntime) -> io::Result<()> {

@@ -1,41 +1,33 @@
--- What the contracts say: which part of a file is handed back, and what a block's head says.
-use Rattle.std.specs.Prelude.{◌+◌, ◌*◌, ◌≤◌, ◌≡◌, ◌++◌}
+-- What the contracts say: which parts of a file are handed back, and where they stand.
+use Rattle.std.specs.Prelude.{◌+◌, ◌≤◌, ◌≡◌, ◌++◌, Option, MatchOption}
 use Rattle.std.specs.Borrow.{Bor}
-use Rattle.rows.specs.Base.{ℕ, List, [], length, get_or, take, drop}
+use Rattle.rows.specs.Base.{ℕ, List, length}
 use Rattle.rows.specs.Handed.{OwnFrom}
-use Rattle.sheet_file.specs.{Layout.block, Layout.Sheet, declared.Found.Found}
-
--- the part of a sheet's file that is wanted; of any other file an empty part
-pub data Handed (bytes : List ℕ) (wanted : Sheet bytes → List ℕ) (part : List ℕ) : Type 0 where
-  own : (s : Sheet bytes) → part ≡ wanted s → Handed bytes wanted part
-  empty : (Sheet bytes → ⊥) → part ≡ [] → Handed bytes wanted part
-
--- the bytes of the part, and that they are the caller's own from a place on. Where the file is no sheet's, the empty part stands at the start.
-pub record HandedBack (bytes : Bor (List ℕ)) (wanted : Sheet bytes.now → List ℕ) (from : Sheet bytes.now → ℕ) (part : Bor (List ℕ)) : Type 0 where
-  pub text : Handed bytes.now wanted part.now
-  pub own_from : (s : Sheet bytes.now) → OwnFrom 1 bytes (from s) part
-  pub none_from : (Sheet bytes.now → ⊥) → OwnFrom 1 bytes 0 part
-
--- the kinds stand after the head of the first block, and the flags after the head of the second
-abbrev pub KindsHanded : Bor (List ℕ) → Bor (List ℕ) → Type 0
-KindsHanded bytes part = HandedBack bytes (λ s. s.kinds) (λ s. 6) part
-
-abbrev pub FlagsHanded : Bor (List ℕ) → Bor (List ℕ) → Type 0
-FlagsHanded bytes part = HandedBack bytes (λ s. s.flags) (λ s. 6 + length s.kinds + 6) part
-
-abbrev pub first_u32 : List ℕ → ℕ  -- the number that the first four bytes are, the lowest first
-first_u32 bytes = get_or bytes 0 0 + 256 * (get_or bytes 1 0 + 256 * (get_or bytes 2 0 + 256 * get_or bytes 3 0))
-
-pub record Begins (bytes : List ℕ) (kind n : ℕ) : Type 0 where  -- the bytes begin with a block of this kind, whose payload has n bytes
-  pub few : n ≤ 4096
-  pub inside : 6 + n ≤ length bytes
-  pub text : bytes ≡ block kind (take n (drop 6 bytes)) ++ drop (6 + n) bytes
+use Rattle.sheet_file.specs.{Layout.block, Layout.Sheet}
+use Rattle.tokens.specs.declared.Sheet as Lists
 
 pub record Block (bytes : List ℕ) (kind : ℕ) (payload rest : List ℕ) : Type 0 where  -- the bytes begin with the block of this payload
   pub few : length payload ≤ 4096
   pub text : bytes ≡ block kind payload ++ rest
 
--- the answer says whether the bytes begin with a block of this kind, and how long its payload is
-pub record Opens (bytes : List ℕ) (kind : ℕ) (answer : Found) : Type 0 where
-  pub found : (n : ℕ) → answer ≡ Found.Bytes n → Begins bytes kind n
-  pub nothing : answer ≡ Found.Nothing → (payload rest : List ℕ) → Block bytes kind payload rest → ⊥
+-- the bytes begin with a block of this kind, and its payload and the bytes after it are parts of the caller's own bytes
+pub record Begins (bytes : Bor (List ℕ)) (kind : ℕ) (payload rest : Bor (List ℕ)) : Type 0 where
+  pub is : Block bytes.now kind payload.now rest.now
+  pub payload_from : OwnFrom 1 bytes 6 payload
+  pub rest_from : OwnFrom 1 bytes (6 + length payload.now) rest
+
+-- the answer says whether the bytes begin with a block of this kind, and what its payload is
+abbrev pub Opens : Bor (List ℕ) → ℕ → Option (Bor (List ℕ) × Bor (List ℕ)) → Type 0
+Opens bytes kind answer = MatchOption answer ((payload rest : List ℕ) → Block bytes.now kind payload rest → ⊥) (λ p. Begins bytes kind p.0 p.1)
+
+-- the bytes are a sheet's file, and the lists are its kinds and flags: the caller's own bytes, after the head of the first block and after that of the second
+pub record Parts (bytes : Bor (List ℕ)) (lists : Lists.Sheet) : Type 0 where
+  pub sheet : Sheet bytes.now
+  pub kinds_are : lists.kinds.now ≡ sheet.kinds
+  pub flags_are : lists.flags.now ≡ sheet.flags
+  pub kinds_from : OwnFrom 1 bytes 6 lists.kinds
+  pub flags_from : OwnFrom 1 bytes (6 + length sheet.kinds + 6) lists.flags
+
+-- both lists of a sheet's file, and none exactly of a file that is no sheet's
+abbrev pub HandedBack : Bor (List ℕ) → Option Lists.Sheet → Type 0
+HandedBack bytes answer = MatchOption answer (Sheet bytes.now → ⊥) (λ lists. Parts bytes lists)

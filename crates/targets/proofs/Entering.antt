@@ -1,17 +1,17 @@
 -- The entry, check by check.
 -- Assumes nothing.
+use Rattle.std.specs.Prelude.{Err, Ok}
 use Prim.Native.Nat.{ℕ, ◌+◌, ◌-◌, ◌*◌, ◌/◌, ◌≤◌, ◌<◌}
 use mathlib.Core.Path.{◌≡◌, refl, sym, ap, ◌∙◌}
 use mathlib.Core.Bool.{Bool, true, false}
-use mathlib.Core.List.{List, ◌++◌, append-nil}
+use mathlib.Core.List.{List, ◌++◌}
 use native.Mathlib.Omega.{arith}
+use borrow.Author.Rules.{rules}
 use lib.ListN.{length, take, drop, replicate, take-append-drop}
 use lib.Seq.{length-take-le, drop-drop, take_at}
 use Rattle.tokens.specs.declared.cause.Cause.{Cause}
-use Rattle.tokens.specs.declared.cause.Cause.TheVariants.{Length, RecordRoom, Tree as NoTree, Outside}
+use Rattle.tokens.specs.declared.cause.Cause.TheVariants.{RecordRoom, Tree as NoTree, Outside}
 use Rattle.tokens.specs.declared.cause.Answer.{Answer}
-use Rattle.tokens.specs.declared.cause.Answer.TheVariants.{Read}
-use Rattle.tokens.specs.declared.cause.Answer.TheVariants as answer
 use Rattle.rows.specs.Tree.{Tree, one, size, sizes, flat, flats}
 use Rattle.rows.specs.Record.{Record, record_words}
 use Rattle.rows.specs.Part.{WellFormed}
@@ -25,8 +25,7 @@ use Rattle.conversion.specs.Conversion as def
 use Rattle.conversion.specs.Conversion.{Outcome, turned, refused, convert}
 use Rattle.targets.specs.Post.{Subtree, Filled, Room, RowConverted}
 use Rattle.conversion.specs.Entry.{Result, holds, fails, Sized, unchanged, done, Entry, Answered}
-use Rattle.targets.specs.declared.Conversion.{Conversion}
-use Rattle.targets.specs.declared.Conversion.TheVariants.{Turned, Refused}
+use Rattle.targets.specs.Outcome.{Conversion}
 use Rattle.conversion.proofs.Potentials.{potential_size, pays}
 use Rattle.targets.specs.Outcome as outcome
 use Rattle.targets.proofs.Looking.{reads_size}
@@ -34,11 +33,11 @@ use Rattle.targets.proofs.Judging.{found_turned, found_refused}
 
 size_one : (t : Tree) → sizes (one t) ≡ size t
 unfolding sizes
-size_one t = let e : size t + 0 ≡ size t = omega arith in e
+size_one t = search rules
 
 flat_one : (t : Tree) → flats (one t) ≡ flat t
 unfolding flats
-flat_one t = append-nil (flat t)
+flat_one t = search rules
 
 -- the words of a part, between those before it and those after it
 part_text : (w : List ℕ) (a c b : ℕ) (x : List ℕ) → a + c ≡ b → a ≤ length w → take c (drop a w) ≡ x → w ≡ take a w ++ (x ++ drop b w)
@@ -69,21 +68,15 @@ at_root {w} {n} t r =
       place = let q = root_text t r in let e = length-take-le (6 * (n + 1 - size t)) w (omega arith) in omega arith;
     }
 
-pub enter_none : {words r : List ℕ} {row : ℕ} → length words ≡ 0 → Answered words r row (answer.Refused (Length 0)) words r
-enter_none e = record { is = fails (λ s. let z = s.some in omega arith) refl }
-
-pub enter_long : {words r : List ℕ} {row : ℕ} → 12288 < length words → Answered words r row (answer.Refused (Length 0)) words r
-enter_long h = record { is = fails (λ s. let z = s.few in omega arith) refl }
-
 sized : (words : List ℕ) → (length words ≡ 0 → ⊥) → length words ≤ 12288 → Sized words
 sized words some few = record { some = omega (arith, some); few = few }
 
 pub enter_tree : {words r : List ℕ} {row : ℕ} {b : Bool} → (length words ≡ 0 → ⊥) → length words ≤ 12288 → Decides (WellFormed words) b → b ≡ false
-    → Answered words r row (answer.Refused (NoTree 0)) words r
+    → Answered words r row (Answer.Refused (NoTree 0)) words r
 enter_tree {words} some few d no_tree = record { is = holds (sized words some few) (fails (d.fails no_tree) refl) }
 
 pub enter_outside : {words r : List ℕ} {row : ℕ} {b : Bool} → (length words ≡ 0 → ⊥) → length words ≤ 12288 → Decides (WellFormed words) b → b ≡ true
-    → length words / 6 ≤ row → Answered words r row (answer.Refused (Outside 0)) words r
+    → length words / 6 ≤ row → Answered words r row (Answer.Refused (Outside 0)) words r
 enter_outside {words} some few d tree h =
     let w = d.holds tree in
     let n = long w in
@@ -94,22 +87,22 @@ same_result : {a b : Answer} {w v r s : List ℕ} → a ≡ b → w ≡ v → r 
 same_result p q e = rw (p, q, e)
 
 same_counts : {n m k l : ℕ} → n ≡ m → k ≡ l
-    → ◌≡◌ {A = Answer} (Read (record { rows = n; records = k; abandoned = 0 })) (Read (record { rows = m; records = l; abandoned = 0 }))
+    → ◌≡◌ {A = Answer} (Answer.Read (record { rows = n; records = k; abandoned = 0 })) (Answer.Read (record { rows = m; records = l; abandoned = 0 }))
 same_counts p q = rw (p, q)
 
 done_refused : (words r : List ℕ) (row : ℕ) (t : Tree) (cause : Cause) → convert t ≡ refused cause → done words r row t (convert t) ≡ unchanged words r row cause
 unfolding done
-done_refused words r row t cause f = rw f
+done_refused words r row t cause f = search rules
 
 done_turned : (words r : List ℕ) (row : ℕ) (t t' : Tree) (rs : List Record) → convert t ≡ turned t' rs
     → done words r row t (convert t)
     ≡ record {
-      answer = Read (record { rows = size t; records = length rs; abandoned = 0 });
+      answer = Answer.Read (record { rows = size t; records = length rs; abandoned = 0 });
       words = take (6 * (row + 1 - size t)) words ++ (flat t' ++ drop (6 * (row + 1)) words);
       records = record_words rs ++ replicate (length r - 2 * length rs) 0;
     }
 unfolding done
-done_turned words r row t t' rs f = rw f
+done_turned words r row t t' rs f = search rules
 
 -- the words of the records, and 0 past them
 cleared : (r r' : List ℕ) (rs : List Record) (n : ℕ) → Filled r 0 rs r' → n ≡ length rs → length r' ≡ length r
@@ -139,7 +132,7 @@ module _ {words : List ℕ} {row : ℕ} (p : Passed words row) where
     sizes_are : size' ≡ size (subtree p.whole.tree row)
     sizes_are = e ∙ reads_size there s
 
-    pub enter_room : {r : List ℕ} → length r < 2 * size' → Answered words r row (answer.Refused (RecordRoom 0)) words r
+    pub enter_room : {r : List ℕ} → length r < 2 * size' → Answered words r row (Answer.Refused (RecordRoom 0)) words r
     enter_room h = let n = sizes_are in record { is = holds p.sizes (holds p.whole (holds p.has_row (fails (λ few. omega arith) refl))) }
 
     pub enter_ready : {room : ℕ} → 2 * size' ≤ room → Room words row room 0
@@ -162,20 +155,20 @@ module _ {words : List ℕ} {row : ℕ} (p : Passed words row) where
           go (turned t rs) f = (c.done there t rs f).0
           go (refused cause) f = (c.fail there cause f).0
 
-      pub enter_refused : {cause : Cause} → y ≡ Refused cause → Answered words r row (answer.Refused cause) words' r'
+      pub enter_refused : {cause : Cause} → y ≡ Err cause → Answered words r row (Answer.Refused cause) words' r'
       enter_refused {cause} q =
           let f = found_refused (convert (subtree p.whole.tree row)) cause (sym found_is ∙ q) in
           let m = c.fail there cause f in
           record { is = by_outcome h (same_result refl m.1 m.2 ∙ sym (done_refused words r row _ cause f)) }
 
       -- what was added, and that it is no more than there is room for
-      pub enter_few : {n : ℕ} → y ≡ Turned n → 2 * n ≤ length r
+      pub enter_few : {n : ℕ} → y ≡ Ok n → 2 * n ≤ length r
       enter_few {n} q =
           let a = found_turned (convert (subtree p.whole.tree row)) n (sym found_is ∙ q) in
           omega (arith, a.3, (pays (subtree p.whole.tree row) def.any a.0 a.1 a.2).is, potential_size (subtree p.whole.tree row), enough h)
 
-      pub enter_read : {n : ℕ} {r'' : List ℕ} → y ≡ Turned n → length r' ≡ length r → Cleared r' (2 * n) r''
-          → Answered words r row (Read (record { rows = size'; records = n; abandoned = 0 })) words' r''
+      pub enter_read : {n : ℕ} {r'' : List ℕ} → y ≡ Ok n → length r' ≡ length r → Cleared r' (2 * n) r''
+          → Answered words r row (Answer.Read (record { rows = size'; records = n; abandoned = 0 })) words' r''
       enter_read {n} q same k =
           let a = found_turned (convert (subtree p.whole.tree row)) n (sym found_is ∙ q) in
           let m = (c.done there a.0 a.1 a.2).1 in

@@ -4,6 +4,7 @@ use Prim.Native.Nat.{ℕ, ◌+◌, ◌-◌, ◌*◌, ◌≤◌, ◌<◌}
 use mathlib.Core.Path.{◌≡◌, refl, sym, ap, ◌∙◌}
 use mathlib.Core.List.{List, ◌++◌, append_assoc, append-nil}
 use native.Mathlib.Omega.{arith}
+use borrow.Author.Rules.{rules}
 use lib.ListN.{length, get_or, length-append, get_or-append}
 use lib.Seq.{get_or-append-add}
 use Rattle.rows.specs.Tree.{Tree, Forest, node, nil, cons, one, join, count, size, sizes, row, flat, flats, kids_of}
@@ -18,15 +19,15 @@ root_words (node k m f e kids) = row k m f e (count kids) (sizes kids + 1)
 
 pub flat_root : (t : Tree) → flat t ≡ flats (kids_of t) ++ root_words t
 unfolding flat root_words kids_of
-flat_root (node k m f e kids) = refl
+flat_root t = search rules
 
 pub size_root : (t : Tree) → size t ≡ sizes (kids_of t) + 1
 unfolding size kids_of
-size_root (node k m f e kids) = refl
+size_root t = search rules
 
 length_root : (t : Tree) → length (root_words t) ≡ 6
 unfolding root_words
-length_root (node k m f e kids) = refl
+length_root t = search rules
 
 at_seam : (a b c : List ℕ) (n i : ℕ) → n ≡ length a → i < length b → get_or (a ++ (b ++ c)) (n + i) 0 ≡ get_or b i 0
 at_seam a b c n i e h = rw (e, get_or-append-add a (b ++ c) i 0) (get_or-append b c 0 i h)

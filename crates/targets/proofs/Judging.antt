@@ -1,16 +1,17 @@
 -- What judging a row finds, step by step: the kids are judged from the last to the first.
 -- Assumes nothing.
-use Rattle.std.specs.Prelude.{if◌then◌else◌}
-use Prim.Native.Nat.{ℕ, zero, suc, ◌+◌, ◌-◌, ◌*◌, ◌≤◌, ◌<◌, ◌^◌, ◌/◌, ◌%◌}
+use Rattle.std.specs.Prelude.{Ok, Err, Option, IfSome, is_some}
+use Prim.Native.Nat.{ℕ, zero, suc, ◌+◌, ◌-◌, ◌*◌, ◌≤◌, ◌<◌, ◌^◌}
 use mathlib.Core.Path.{◌≡◌, refl, sym, ap, ◌∙◌}
 use mathlib.Core.Bool.{Bool, true, false}
-use mathlib.Core.List.{List, [], ◌∷◌, ◌++◌}
+use mathlib.Core.List.{List}
 use native.Mathlib.Omega.{arith}
+use borrow.Author.Rules.{rules}
 use lib.Dec.{eqb}
 use borrow.Author.Tests.{eq-eqb, ne_eqb}
 use lib.ListN.{length, get_or, length-append}
 use Rattle.tokens.specs.declared.cause.Cause.{Cause}
-use Rattle.rows.specs.Tree.{Tree, Forest, node, nil, cons, count, size, sizes, kids_of, mark_of, first_of, end_of}
+use Rattle.rows.specs.Tree.{Tree, Forest, nil, cons, count, size, sizes, kids_of}
 use Rattle.rows.specs.Record.{Record}
 use Rattle.rows.specs.Post.{Word}
 use Rattle.rows.proofs.Rows.{sizes_join, Next}
@@ -20,82 +21,94 @@ use Rattle.conversion.specs.Conversion as def
 use Rattle.conversion.specs.Conversion.{Outcome, turned, refused, roles, over, convert_as, convert_kids}
 use Rattle.roles.specs.Meaning as means
 use Rattle.targets.specs.Outcome as outcome
-use Rattle.targets.specs.Post.{Subtree, SizeInside, FirstRow, begins_of, PlanAt, Own, Judged, Sums}
-use Rattle.targets.specs.declared.Conversion.{Conversion}
-use Rattle.targets.specs.declared.Conversion.TheVariants.{Turned, Refused}
-use Rattle.roles.specs.Plan as code
+use Rattle.targets.specs.Post.{Subtree, SizeInside, FirstRow, begins_of, PlanAt, Own, Judged, Sums, Counted}
+use Rattle.targets.specs.Outcome.{Conversion}
+use Rattle.roles.specs.declared.plan.Plan.{Plan}
 use Rattle.targets.specs.Post.{NameUnder}
 use Rattle.targets.proofs.Near.{convert_near}
-use Rattle.conversion.proofs.Shapes.{cons_parts}
-use Rattle.conversion.proofs.Potentials.{comma_count, pays, potential_size, turned_records}
+use Rattle.conversion.proofs.Potentials.{pays, potential_size}
 use Rattle.targets.proofs.Flat.{no_kid, place_root, Walk, walk_start, walk_some, walk_next, walk_past, whole_next, root_inside, kid_tree, kid_size, kid_text, size_root}
 use Rattle.targets.proofs.Looking.{reads_size}
-use Rattle.targets.proofs.Plans.{turning, Alone, kept, refuses, alone, few_notes}
+use Rattle.targets.proofs.Plans.{turning, own_over, few_commas, own_few}
 
 -- what comes of a row, by its plan
-pub by_plan : {rows : List ℕ} {root : ℕ} {role : def.Role} {of : ℕ} → PlanAt rows root role of → (h : Subtree rows root)
+pub by_plan : {rows : List ℕ} {root : ℕ} {role : def.Role} {of : Plan} → PlanAt rows root role of → (h : Subtree rows root)
     → convert_as h.tree role ≡ over (means.plan (begins_of h.tree) of) h.tree (convert_kids (kids_of h.tree) (roles (means.plan (begins_of h.tree) of)))
 by_plan {role = role} p h =
     convert_near h.tree role ∙ ap (λ (ch : def.Change). over ch h.tree (convert_kids (kids_of h.tree) (roles ch))) (sym (p.is h))
 
 -- the same, where the plan is known to be a change
-pub by_change : {rows : List ℕ} {root : ℕ} {role : def.Role} {of : ℕ} {ch : def.Change} → PlanAt rows root role of → (h : Subtree rows root)
+pub by_change : {rows : List ℕ} {root : ℕ} {role : def.Role} {of : Plan} {ch : def.Change} → PlanAt rows root role of → (h : Subtree rows root)
     → means.plan (begins_of h.tree) of ≡ ch → convert_as h.tree role ≡ over ch h.tree (convert_kids (kids_of h.tree) (roles ch))
 by_change p h e = by_plan p h ∙ ap (λ (x : def.Change). over x h.tree (convert_kids (kids_of h.tree) (roles x))) e
 
-pub keeps_over : (kind : ℕ) (rs : List Record) (t : Tree) (out : Outcome Forest) → over (def.keep kind rs) t out ≡ turned (node kind (mark_of t) (first_of t) (end_of t) (kids_of t)) rs
-unfolding over kids_of mark_of first_of end_of
-keeps_over kind rs (node k m f e kids) out = refl
+-- of two that are found and what is found after them, it does not matter which are put together first
+both_all : (x y z : Conversion) → outcome.both x (outcome.both y z) ≡ outcome.both (outcome.both x y) z
+both_all x y z = search rules
 
-pub refuses_over : (c : Cause) (t : Tree) (out : Outcome Forest) → over (def.refuse c) t out ≡ refused c
-unfolding over
-refuses_over c t out = refl
+pub both_none : (x : Conversion) → outcome.both x (Ok 0) ≡ x
+both_none x = search rules
+
+none_both : (x : Conversion) → x ≡ outcome.both (Ok 0) x
+none_both x = search rules
+
+both_ok : (x y : Conversion) (n : ℕ) → outcome.both x y ≡ Ok n → (a : ℕ) × (b : ℕ) × (x ≡ Ok a) × (y ≡ Ok b) × (n ≡ a + b)
+both_ok x y n e = search rules
+
+-- what is found of it can be counted with what was found of the rows after it
+pub own_sums : (root : ℕ) {of : Plan} {own rest : Conversion} → Own of own → Counted (root + 1) rest → Sums own rest
+own_sums root {of = of} o k =
+    record { fits = λ n m p q. let f = own_few 0 of n (sym (o.is 0) ∙ p) in let c = k.fits m q in omega arith }
+
+-- nothing was found yet
+pub none_counted : {rows : List ℕ} {root : ℕ} → Subtree rows root → length rows < 2 ^ 64 → Counted (root + 1) (Ok 0)
+none_counted h small = record { fits = λ n e. let z : n ≡ 0 = cc in let i = root_inside h in omega arith }
 
 -- a row whose kids stay, or that is refused
-pub judge_alone : {rows : List ℕ} {root : ℕ} {role : def.Role} {of r : ℕ} → PlanAt rows root role of → Own of r → code.Keep ≤ of % 16 → Judged rows root role r
-judge_alone {rows} {root} {role} {of} {r} p o le = record { is = λ h. go h (alone (begins_of h.tree) of le) }
-  where
-    go : (h : Subtree rows root) → Alone (begins_of h.tree) of → outcome.told r ≡ outcome.found (convert_as h.tree role)
-    go h (kept q) = o.is _ ∙ ap outcome.own q ∙ sym (ap outcome.found (by_change p h q ∙ keeps_over _ _ h.tree _))
-    go h (refuses c q) = o.is _ ∙ ap outcome.own q ∙ sym (ap outcome.found (by_change p h q ∙ refuses_over c h.tree _))
+pub judge_alone : {rows : List ℕ} {root : ℕ} {role : def.Role} {of : Plan} {own rest found : Conversion} → PlanAt rows root role of → Own of own
+    → found ≡ outcome.both own rest → means.alone of ≡ true → Judged rows root role rest found
+judge_alone {of = of} {rest = rest} p o e a =
+    record {
+      is = λ h.
+          let b = begins_of h.tree in
+          e ∙ ap (λ (x : Conversion). outcome.both x rest) (o.is b ∙ own_over b of h.tree _ a ∙ sym (ap outcome.found (by_plan p h)));
+    }
 
 -- judging stands at a kid: those after it are judged
-pub record Here {rows : List ℕ} {root : ℕ} (h : Subtree rows root) (of base end found : ℕ) : Type 0 where
+pub record Here {rows : List ℕ} {root : ℕ} (h : Subtree rows root) (of : Plan) (start : Conversion) (end : ℕ) (found : Conversion) : Type 0 where
   pub after : ℕ
   pub tail : List ℕ
   pub walk : Walk h.before (kids_of h.tree) tail rows after end
-  pub is : outcome.told found ≡ outcome.both (outcome.found (convert_kids walk.passed (means.kids of))) (Turned base)
+  pub is : found ≡ outcome.both (outcome.found (convert_kids walk.passed (means.kids of))) start
 
-pub record Judging (rows : List ℕ) (root of found₀ end found : ℕ) : Type 0 where
-  pub base : ℕ
-  pub starts : outcome.told found₀ ≡ Turned base
-  pub small : base ≤ 3
-  pub here : (h : Subtree rows root) → Here h of base end found
+pub record Judging (rows : List ℕ) (root : ℕ) (of : Plan) (start : Conversion) (end : ℕ) (found : Conversion) : Type 0 where
+  pub counted : Counted end found
+  pub here : (h : Subtree rows root) → Here h of start end found
 
-nothing_yet : (each : ℕ → def.Role) (n : ℕ) → Turned n ≡ outcome.both (outcome.found (convert_kids nil each)) (Turned n)
+nothing_yet : (each : ℕ → def.Role) (x : Conversion) → x ≡ outcome.both (outcome.found (convert_kids nil each)) x
 unfolding convert_kids
-nothing_yet each n = ap Turned (let e : n ≡ 0 + n = omega arith in e)
+nothing_yet each x = search rules
 
-pub judge_starts : {rows : List ℕ} {root of found₀ : ℕ} → Own of found₀ → of % 16 < code.Keep → Judging rows root of found₀ root found₀
-judge_starts {of = of} o lt =
-    let base = length (means.before 0 of) + length (means.after of) in
-    let starts : outcome.told _ ≡ Turned base = o.is 0 ∙ ap outcome.own (turning 0 of lt) in
+pub judge_starts : {rows : List ℕ} {root : ℕ} {of : Plan} {own rest start : Conversion} → Own of own → Counted (root + 1) rest → start ≡ outcome.both own rest
+    → Judging rows root of start root start
+judge_starts {of = of} {own = own} {rest = rest} {start = start} o k e =
     record {
-      base = base;
-      starts = starts;
-      small = few_notes 0 of;
-      here = λ h. record { after = 0; tail = _; walk = walk_start h; is = starts ∙ nothing_yet (means.kids of) base };
+      counted = record {
+        fits = λ n q.
+            let b = both_ok own rest n (sym e ∙ q) in
+            let f = own_few 0 of b.0 (sym (o.is 0) ∙ b.2) in
+            let c = k.fits b.1 b.3 in
+            omega (arith, b.4);
+      };
+      here = λ h. record { after = 0; tail = _; walk = walk_start h; is = nothing_yet (means.kids of) start };
     }
 
-found_both : (x : Outcome Tree) (y : Outcome Forest) (b : ℕ)
-    → outcome.both (outcome.found x) (outcome.both (outcome.found y) (Turned b)) ≡ outcome.both (outcome.found (def.both x y)) (Turned b)
+found_both : (x : Outcome Tree) (y : Outcome Forest) (z : Conversion)
+    → outcome.both (outcome.found x) (outcome.both (outcome.found y) z) ≡ outcome.both (outcome.found (def.both x y)) z
 unfolding def.both
-found_both (refused c) y b = refl
-found_both (turned t rs) (refused c) b = refl
-found_both (turned t rs) (turned ts ss) b =
-    ap Turned (let e : length rs + (length ss + b) ≡ length (rs ++ ss) + b = simp length-append (omega arith) in e)
+found_both x y z = search (rules, length-append)
 
-module _ {rows : List ℕ} {root of found₀ end found first : ℕ} (j : Judging rows root of found₀ end found) (f : FirstRow rows root first) (lt : first < end)
+module _ {rows : List ℕ} {root : ℕ} {of : Plan} {start found : Conversion} {end first : ℕ} (j : Judging rows root of start end found) (f : FirstRow rows root first) (lt : first < end)
     (h : Subtree rows root) where
   abbrev pub the_next : Next (j.here h).walk.front
   the_next = walk_some (j.here h).walk (j.here h).walk.stop (f.is h) lt
@@ -150,141 +163,99 @@ last_kid root {before} {ts} {end = end} w place = go (count w.passed) refl
         let other : end ≡ root → ⊥ = λ q. omega arith in
         ne_eqb end root other ∙ sym (ne_eqb (suc n) 0 (λ z. omega arith))
 
--- a row hands down one comma at most
-one_comma : (b : Bool) (x y : def.Role) → comma_count x ≤ 1 → comma_count y ≤ 1 → comma_count (if b then x else y) ≤ 1
-one_comma true x y p q = p
-one_comma false x y p q = q
-
-commas_few : (b : Bool) (r : Record) → length (if b then [] else r ∷ []) ≤ 1
-commas_few true r = omega arith
-commas_few false r = omega arith
-
-mild_kid : (of : ℕ) (last : Bool) → comma_count (means.kid of last) ≤ 1
-unfolding means.kid
-mild_kid of last =
-    let k = of % 16 in
-    let c = commas_few (eqb (of / 16) 0) _ in
-    one_comma (eqb k code.Array) _ _ (one_comma last (def.last_element _) def.element c (omega arith))
-    (one_comma (eqb k code.Object) _ _ (one_comma last (def.last_property _) def.property c (omega arith))
-    (one_comma (eqb k code.Property) _ _ (one_comma last def.value def.same (omega arith) (omega arith))
-    (one_comma (eqb k code.Shorthand) def.name _ (omega arith)
-    (one_comma (eqb k code.ShorthandInit) _ _ (one_comma last def.same def.name (omega arith) (omega arith))
-    (one_comma (eqb k code.Paren) def.simple def.any (omega arith) (omega arith))))))
-
-few_records : (t : Tree) (of : ℕ) (last : Bool) (t' : Tree) (rs : List Record) → convert_as t (means.kid of last) ≡ turned t' rs → length rs ≤ 2 * size t
+few_records : (t : Tree) (of : Plan) (last : Bool) (t' : Tree) (rs : List Record) → convert_as t (means.kid of last) ≡ turned t' rs → length rs ≤ 2 * size t
 few_records t of last t' rs h =
     let p = pays t (means.kid of last) t' rs h in
-    omega (arith, p.is, mild_kid of last, potential_size t, some_row t)
+    omega (arith, p.is, few_commas of last, potential_size t, some_row t)
 
-few_kids : (ts : Forest) (of : ℕ) (ts' : Forest) (rs : List Record) → convert_kids ts (means.kids of) ≡ turned ts' rs → length rs ≤ 2 * sizes ts
-unfolding convert_kids sizes
-few_kids nil of ts' rs h = let e : length {A = Record} [] ≤ 0 = omega arith in rw (sym (turned_records h)) e
-few_kids (cons t ts) of ts' rs h =
-    let b = cons_parts t ts (means.kids of) ts' rs h in
-    let l = few_kids ts of b.rest b.later b.rest_is in
-    omega (arith, ap length b.records, length-append b.first b.later, few_records t of (eqb (count ts) 0) b.one b.first b.one_is)
+pub found_turned : {A : Type 0} (x : Outcome A) (n : ℕ) → outcome.found x ≡ Ok n → (a : A) × (rs : List Record) × (x ≡ turned a rs) × (length rs ≡ n)
+found_turned x n e = search rules
 
-pub found_turned : {A : Type 0} (x : Outcome A) (n : ℕ) → outcome.found x ≡ Turned n → (a : A) × (rs : List Record) × (x ≡ turned a rs) × (length rs ≡ n)
-found_turned (turned a rs) n e = (a, rs, refl, let f : length rs ≡ n = cc in f)
-found_turned (refused c) n e = let z : ◌≡◌ {A = ℕ} 0 1 = cc in absurd (omega arith)
+pub found_refused : {A : Type 0} (x : Outcome A) (c : Cause) → outcome.found x ≡ Err c → x ≡ refused c
+found_refused x c e = search rules
 
-pub found_refused : {A : Type 0} (x : Outcome A) (c : Cause) → outcome.found x ≡ Refused c → x ≡ refused c
-found_refused (turned a rs) c e = let z : ◌≡◌ {A = ℕ} 0 1 = cc in absurd (omega arith)
-found_refused (refused d) c e = ap refused (let f : d ≡ c = cc in f)
-
-both_turned : (y : Outcome Forest) (b m : ℕ) → outcome.both (outcome.found y) (Turned b) ≡ Turned m → (ts : Forest) × (rs : List Record) × (y ≡ turned ts rs) × (m ≡ length rs + b)
-both_turned (turned ts rs) b m e = (ts, rs, refl, let f : m ≡ length rs + b = cc in f)
-both_turned (refused c) b m e = let z : ◌≡◌ {A = ℕ} 0 1 = cc in absurd (omega arith)
-
-over_found : (k : ℕ) (before : List Record) (each : ℕ → def.Role) (after : List Record) (t : Tree) (out : Outcome Forest) (n : ℕ) → n ≡ length before + length after
-    → outcome.found (over (def.turn k before each after) t out) ≡ outcome.both (outcome.found out) (Turned n)
+over_found : (k : ℕ) (before : List Record) (each : ℕ → def.Role) (after : List Record) (t : Tree) (out : Outcome Forest)
+    → outcome.found (over (def.turn k before each after) t out) ≡ outcome.both (outcome.found out) (Ok (length before + length after))
 unfolding over
-over_found k before each after (node k' m f e kids) (turned ts rs) n h =
-    ap Turned (let g : length (before ++ rs ++ after) ≡ length rs + n = simp length-append (omega arith) in g)
-over_found k before each after (node k' m f e kids) (refused c) n h = refl
-
-nothing_more : (x : Conversion) → x ≡ outcome.both (Turned 0) x
-nothing_more (Turned n) = ap Turned (let e : n ≡ 0 + n = omega arith in e)
-nothing_more (Refused c) = refl
-
--- the records of both are not too many to count
-pub judge_sums : (last : Bool) {rows : List ℕ} {root of found₀ end found first one : ℕ} → Judging rows root of found₀ end found → FirstRow rows root first → first < end
-    → Subtree rows root → Judged rows (end - 1) (means.kid of last) one → length rows < 2 ^ 64 → Sums one found
-judge_sums last {of = of} j f lt h o small =
-    record {
-      fits = λ n m p q.
-          let k = the_next j f lt h in
-          let passed = (j.here h).walk.passed in
-          let a = found_turned (convert_as k.kid (means.kid of last)) n (sym (o.is (the_kid j f lt h)) ∙ p) in
-          let b = both_turned (convert_kids passed (means.kids of)) j.base m (sym (j.here h).is ∙ q) in
-          let fa = few_records k.kid of last a.0 a.1 a.2 in
-          let fb = few_kids passed of b.0 b.1 b.2 in
-          let s = kid_smaller j f lt h in
-          let i = root_inside h in
-          omega (arith, a.3, b.3, j.small, h.place);
-    }
+over_found k before each after t out = search (rules, length-append)
 
 -- a kid is judged, whatever of it is known
-module _ {rows : List ℕ} {root of found₀ end found first size' : ℕ} (j : Judging rows root of found₀ end found) (f : FirstRow rows root first) (lt : first < end)
-    (w : Word rows (end - 1) 5 size') where
-  next_here : {found' : ℕ}
-      → ((h : Subtree rows root) → outcome.told found' ≡ outcome.both (outcome.found (convert_as (the_next j f lt h).kid (means.kids of (count (j.here h).walk.passed)))) (outcome.told found))
-      → Judging rows root of found₀ (end - size') found'
-  unfolding convert_kids
-  next_here q =
-      record {
-        base = j.base;
-        starts = j.starts;
-        small = j.small;
-        here = λ h.
-            let k = the_next j f lt h in
-            let walk = (j.here h).walk in
-            record {
-              after = _;
-              tail = _;
-              walk = walk_next walk k k.kid rows size' (kid_text walk k) (reads_size (the_kid j f lt h) w);
-              is =
-                  q h
-                  ∙ ap (outcome.both (outcome.found (convert_as k.kid (means.kids of (count walk.passed))))) (j.here h).is
-                  ∙ found_both (convert_as k.kid (means.kids of (count walk.passed))) (convert_kids walk.passed (means.kids of)) j.base;
-            };
-      }
+module _ {rows : List ℕ} {root : ℕ} {of : Plan} {start found : Conversion} {end first : ℕ} (j : Judging rows root of start end found) (f : FirstRow rows root first) (lt : first < end) where
+  pub kid_counted : Counted (end - 1 + 1) found
+  kid_counted = record { fits = λ n e. let c = j.counted.fits n e in omega arith }
 
-  pub judge_again : (last : Bool) {one found' : ℕ} → last ≡ eqb end root → Judged rows (end - 1) (means.kid of last) one
-      → outcome.told found' ≡ outcome.both (outcome.told one) (outcome.told found) → Judging rows root of found₀ (end - size') found'
-  judge_again last l o q =
-      next_here
-      (λ h.
-      q
-      ∙ ap (λ (x : Conversion). outcome.both x (outcome.told found))
-      (o.is (the_kid j f lt h)
-      ∙ ap (λ (b : Bool). outcome.found (convert_as (the_next j f lt h).kid (means.kid of b))) (l ∙ last_kid root (j.here h).walk (place_root h))))
+  module _ {size' : ℕ} (w : Word rows (end - 1) 5 size') where
+    next_here : {found' : Conversion} → Counted (end - size') found'
+        → ((h : Subtree rows root) → found' ≡ outcome.both (outcome.found (convert_as (the_next j f lt h).kid (means.kids of (count (j.here h).walk.passed)))) found)
+        → Judging rows root of start (end - size') found'
+    unfolding convert_kids
+    next_here k q =
+        record {
+          counted = k;
+          here = λ h.
+              let n = the_next j f lt h in
+              let walk = (j.here h).walk in
+              record {
+                after = _;
+                tail = _;
+                walk = walk_next walk n n.kid rows size' (kid_text walk n) (reads_size (the_kid j f lt h) w);
+                is =
+                    q h
+                    ∙ ap (outcome.both (outcome.found (convert_as n.kid (means.kids of (count walk.passed))))) (j.here h).is
+                    ∙ found_both (convert_as n.kid (means.kids of (count walk.passed))) (convert_kids walk.passed (means.kids of)) start;
+              };
+        }
 
-  -- a kid that turns by itself has no record
-  pub judge_pass : {at : ℕ} → NameUnder rows (end - 1) of at → at < end → Judging rows root of found₀ (end - size') found
-  judge_pass n less =
-      next_here
-      (λ h.
-      let k = the_next j f lt h in
-      let e = ((n.is (eqb (count (j.here h).walk.passed) 0)).is (omega arith) (the_kid j f lt h)).is in
-      nothing_more (outcome.told found) ∙ ap (λ (x : Conversion). outcome.both x (outcome.told found)) (sym (ap outcome.found e)))
+    pub judge_again : (last : Bool) {found' : Conversion} → last ≡ eqb end root → Subtree rows root → Judged rows (end - 1) (means.kid of last) found found'
+        → Judging rows root of start (end - size') found'
+    judge_again last {found'} l h₀ o =
+        next_here
+        (record {
+          fits = λ n e.
+              let t = (the_next j f lt h₀).kid in
+              let b = both_ok (outcome.found (convert_as t (means.kid of last))) found n (sym (o.is (the_kid j f lt h₀)) ∙ e) in
+              let a = found_turned (convert_as t (means.kid of last)) b.0 b.2 in
+              let r = few_records t of last a.0 a.1 a.2 in
+              let c = j.counted.fits b.1 b.3 in
+              omega (arith, b.4, a.3, reads_size (the_kid j f lt h₀) w, fits_below j f lt h₀ w);
+        })
+        (λ h.
+        o.is (the_kid j f lt h)
+        ∙ ap (λ (b : Bool). outcome.both (outcome.found (convert_as (the_next j f lt h).kid (means.kid of b))) found) (l ∙ last_kid root (j.here h).walk (place_root h)))
 
-pub judge_ends : {rows : List ℕ} {root : ℕ} {role : def.Role} {of found₀ end found first : ℕ} → PlanAt rows root role of → of % 16 < code.Keep → Own of found₀
-    → Judging rows root of found₀ end found → FirstRow rows root first → end ≤ first → Judged rows root role found
+    -- a kid that turns by itself has no record
+    pub judge_pass : {at : ℕ} → NameUnder rows (end - 1) of at → Judging rows root of start (end - size') found
+    judge_pass n =
+        next_here
+        (record { fits = λ m e. let c = j.counted.fits m e in omega arith })
+        (λ h.
+        let e = ((n.is (eqb (count (j.here h).walk.passed) 0)).is (the_kid j f lt h)).is in
+        none_both found ∙ ap (λ (x : Conversion). outcome.both x found) (sym (ap outcome.found e)))
+
+pub judge_ends : {rows : List ℕ} {root : ℕ} {role : def.Role} {of : Plan} {own rest start found : Conversion} {end first : ℕ} → PlanAt rows root role of → means.alone of ≡ false
+    → Own of own → start ≡ outcome.both own rest → Judging rows root of start end found → FirstRow rows root first → end ≤ first → Judged rows root role rest found
 unfolding roles
-judge_ends {of = of} {found = found} p lt o j f ge =
+judge_ends {of = of} {own = own} {rest = rest} {start = start} p lt o s j f ge =
     record {
       is = λ h.
           let at = j.here h in
           let all = (walk_past at.walk (f.is h) ge).0 in
           let b = begins_of h.tree in
-          let q : Turned (length (means.before b of) + length (means.after of)) ≡ Turned j.base =
-          sym (o.is b ∙ ap outcome.own (turning b of lt)) ∙ j.starts in
-          let n : j.base ≡ length (means.before b of) + length (means.after of) = cc in
+          let n = length (means.before b of) + length (means.after of) in
+          let out = convert_kids (kids_of h.tree) (means.kids of) in
+          let q : own ≡ Ok n = o.is b ∙ ap outcome.own (turning b of lt) in
           at.is
-          ∙ ap (λ (ts : Forest). outcome.both (outcome.found (convert_kids ts (means.kids of))) (Turned j.base)) all
-          ∙ sym (ap outcome.found (by_change p h (turning b of lt)) ∙ over_found (means.kind of) (means.before b of) (means.kids of) (means.after of) h.tree _ j.base n);
+          ∙ ap (λ (ts : Forest). outcome.both (outcome.found (convert_kids ts (means.kids of))) start) all
+          ∙ ap (outcome.both (outcome.found out)) (s ∙ ap (λ (x : Conversion). outcome.both x rest) q)
+          ∙ both_all (outcome.found out) (Ok n) rest
+          ∙ ap (λ (x : Conversion). outcome.both x rest)
+          (sym (ap outcome.found (by_change p h (turning b of lt)) ∙ over_found (means.kind of) (means.before b of) (means.kids of) (means.after of) h.tree out));
     }
 
-pub same_found : {rows : List ℕ} {root of found₀ end found found' : ℕ} → found' ≡ found → Judging rows root of found₀ end found → Judging rows root of found₀ end found'
+pub same_found : {rows : List ℕ} {root : ℕ} {of : Plan} {start found found' : Conversion} {end : ℕ} → found' ≡ found → Judging rows root of start end found
+    → Judging rows root of start end found'
 same_found e j = rw e j
+
+-- what is known of something that is there
+pub some_of : {P : ℕ → Type 0} (x : Option ℕ) → is_some x ≡ true → IfSome x P → (n : ℕ) × P n
+some_of x e p = search rules

@@ -1,9 +1,10 @@
 -- What the code reads of a row and of its last kid is what the definition looks at.
 -- Assumes nothing.
-use Prim.Native.Nat.{ℕ, ◌+◌, ◌-◌, ◌*◌, ◌≤◌, ◌<◌}
+use Prim.Native.Nat.{ℕ, ◌+◌, ◌-◌, ◌≤◌, ◌<◌}
 use mathlib.Core.Path.{◌≡◌, refl, sym, ap, ◌∙◌}
 use mathlib.Core.List.{List}
 use native.Mathlib.Omega.{arith}
+use borrow.Author.Rules.{rules}
 use lib.ListN.{get_or}
 use Rattle.rows.specs.Tree.{Tree, Forest, node, nil, cons, one, join, count, size, row, kind_of, mark_of, first_of, end_of, kids_of}
 use Rattle.rows.specs.Post.{Word}
@@ -12,11 +13,12 @@ use Rattle.conversion.specs.Conversion.{Role, change, last_or, last_of}
 use Rattle.roles.specs.Meaning as means
 use Rattle.targets.specs.Post.{Subtree, near, begins_of, FirstRow, PlanAt}
 use Rattle.roles.specs.declared.Seen.{Seen}
+use Rattle.roles.specs.declared.plan.Plan.{Plan}
 use Rattle.targets.proofs.Flat.{no_kid, root_words, root_word, walk_start, walk_more, kid_tree, kid_size}
 
 words_are : (t : Tree) → root_words t ≡ row (kind_of t) (mark_of t) (first_of t) (end_of t) (count (kids_of t)) (size t)
 unfolding root_words kind_of mark_of first_of end_of kids_of size
-words_are (node k m f e kids) = refl
+words_are t = search rules
 
 module _ {rows : List ℕ} {root : ℕ} (h : Subtree rows root) where
   reads_word : {x : ℕ} (i : ℕ) → i < 6 → Word rows root i x
@@ -68,10 +70,6 @@ more_than h d some = let e = reads_kids h d in omega (arith, some)
 pub has_kid : {rows : List ℕ} {root kids : ℕ} → Subtree rows root → Word rows root 4 kids → (kids ≡ 0 → ⊥) → 1 ≤ root
 has_kid h d some = kid_before h (more_than h d some)
 
--- the last word before a row
-pub before_word : {rows : List ℕ} {end x : ℕ} → 1 ≤ end → x ≡ get_or rows (6 * end - 1) 0 → Word rows (end - 1) 5 x
-before_word {rows} {end} l e = let i : 6 * end - 1 ≡ 6 * (end - 1) + 5 = omega arith in record { is = e ∙ ap (λ (n : ℕ). get_or rows n 0) i }
-
 -- the first row of a tree, by its size
 pub first_fits : {rows : List ℕ} {root x size : ℕ} → Subtree rows root → Word rows root 5 x → size ≡ x → size ≤ root + 1
 first_fits h w e = let s = reads_size h w in let p = h.place in omega arith
@@ -79,54 +77,31 @@ first_fits h w e = let s = reads_size h w in let p = h.place in omega arith
 pub first_is : {rows : List ℕ} {root x size : ℕ} → Word rows root 5 x → size ≡ x → FirstRow rows root (root + 1 - size)
 first_is w e = record { is = λ h. let s = reads_size h w in let p = h.place in omega arith }
 
--- what the code reads of a row, with a kid or without
-abbrev pub reads : List ℕ → ℕ → ℕ → ℕ → Seen
-reads rows root below begins =
-    record {
-      kind = get_or rows (6 * root) 0;
-      mark = get_or rows (6 * root + 1) 0;
-      first = get_or rows (6 * root + 2) 0;
-      kids = get_or rows (6 * root + 4) 0;
-      last = below;
-      begins = begins;
-    }
-
 near_is : (t : Tree) (s : Seen) → s.kind ≡ kind_of t → s.mark ≡ mark_of t → s.first ≡ first_of t → s.kids ≡ count (kids_of t)
     → s.last ≡ kind_of (last_of (kids_of t)) → s.begins ≡ begins_of t → means.seen s ≡ near t
 unfolding near kind_of mark_of first_of kids_of
-near_is (node k m f e kids) s a b c d l g = rw (a, b, c, d, l, g)
+near_is t s a b c d l g = search rules
 
--- the plan of what it reads, if it knows the last kid
-module _ (rows : List ℕ) (root : ℕ) {role : Role} {of : ℕ} (below begins : ℕ) where
-  plan_seen : ((h : Subtree rows root) → (below ≡ kind_of (last_of (kids_of h.tree))) × (begins ≡ begins_of h.tree))
-      → means.plan begins of ≡ change role (means.seen (reads rows root below begins)) → PlanAt rows root role of
-  plan_seen l e =
-      let kind_there : Word rows root 0 (get_or rows (6 * root) 0) = record { is = ap (λ (n : ℕ). get_or rows n 0) (let e : 6 * root ≡ 6 * root + 0 = omega arith in e) } in
-      record {
-        is = λ h.
-            ap (λ (b : ℕ). means.plan b of) (sym (l h).1)
-            ∙ e
-            ∙ ap (change role)
-            (near_is h.tree (reads rows root below begins) (reads_kind h kind_there) (reads_mark h (record { is = refl })) (reads_first h (record { is = refl }))
-            (reads_kids h (record { is = refl })) (l h).0 (l h).1);
-      }
+-- the plan of what the code reads of a row and of its last kid, where it has one
+pub plan_seen : {rows : List ℕ} {root : ℕ} {role : Role} {of : Plan} {s : Seen} → Word rows root 0 s.kind → Word rows root 1 s.mark → Word rows root 2 s.first → Word rows root 4 s.kids
+    → ((h : Subtree rows root) → (s.last ≡ kind_of (last_of (kids_of h.tree))) × (s.begins ≡ begins_of h.tree))
+    → means.plan s.begins of ≡ change role (means.seen s) → PlanAt rows root role of
+plan_seen {role = role} {of = of} {s = s} wk wm wf wn l e =
+    record {
+      is = λ h.
+          ap (λ (b : ℕ). means.plan b of) (sym (l h).1)
+          ∙ e
+          ∙ ap (change role) (near_is h.tree s (reads_kind h wk) (reads_mark h wm) (reads_first h wf) (reads_kids h wn) (l h).0 (l h).1);
+    }
 
-  pub plan_none : get_or rows (6 * root + 4) 0 ≡ 0 → below ≡ 0 → begins ≡ 0 → means.plan begins of ≡ change role (means.seen (reads rows root below begins)) → PlanAt rows root role of
-  unfolding kind_of first_of
-  plan_none z b g e =
-      plan_seen
-      (λ h.
-      let none : last_of (kids_of h.tree) ≡ node 0 0 0 0 nil = ap last_of (no_kid (kids_of h.tree) (sym (reads_kids h (record { is = refl })) ∙ z)) in
-      (b ∙ sym (ap kind_of none), g ∙ sym (ap first_of none)))
-      e
+-- with no kid nothing is read of it
+pub sees_none : {rows : List ℕ} {root kids below begins : ℕ} → Word rows root 4 kids → kids ≡ 0 → below ≡ 0 → begins ≡ 0 → (h : Subtree rows root)
+    → (below ≡ kind_of (last_of (kids_of h.tree))) × (begins ≡ begins_of h.tree)
+unfolding kind_of first_of
+sees_none wn z b g h =
+    let none : last_of (kids_of h.tree) ≡ node 0 0 0 0 nil = ap last_of (no_kid (kids_of h.tree) (sym (reads_kids h wn) ∙ z)) in
+    (b ∙ sym (ap kind_of none), g ∙ sym (ap first_of none))
 
-  pub plan_last : (get_or rows (6 * root + 4) 0 ≡ 0 → ⊥) → 1 ≤ root → below ≡ get_or rows (6 * root - 6) 0 → begins ≡ get_or rows (6 * root - 4) 0
-      → means.plan begins of ≡ change role (means.seen (reads rows root below begins)) → PlanAt rows root role of
-  plan_last some low b g e =
-      let i : 6 * root - 6 ≡ 6 * (root - 1) + 0 = omega arith in
-      let j : 6 * root - 4 ≡ 6 * (root - 1) + 2 = omega arith in
-      plan_seen
-      (λ h.
-      let more = more_than h (record { is = refl }) some in
-      (last_kind h more (record { is = b ∙ ap (λ (n : ℕ). get_or rows n 0) i }), last_begins h more (record { is = g ∙ ap (λ (n : ℕ). get_or rows n 0) j })))
-      e
+pub sees_last : {rows : List ℕ} {root kids below begins x y : ℕ} → Word rows root 4 kids → (kids ≡ 0 → ⊥) → Word rows (root - 1) 0 x → Word rows (root - 1) 2 y → below ≡ x → begins ≡ y
+    → (h : Subtree rows root) → (below ≡ kind_of (last_of (kids_of h.tree))) × (begins ≡ begins_of h.tree)
+sees_last wn some wk wb b g h = let more = more_than h wn some in (b ∙ last_kind h more wk, g ∙ last_begins h more wb)

@@ -4,11 +4,11 @@
 use Rattle.std.specs.Prelude.{if◌then◌else◌}
 use Prim.Native.Nat.{ℕ}
 use mathlib.Core.Path.{◌≡◌, refl, ap}
-use mathlib.Core.Bool.{Bool, true, false, not}
+use mathlib.Core.Bool.{Bool, true, false}
 use mathlib.Core.List.{List, [], ◌∷◌, ◌++◌}
-use native.Mathlib.Omega.{arith}
-use lib.Dec.{eqb, leb}
-use borrow.Author.Tests.{eqb-true, ne_eqb, leb-true}
+use borrow.Author.Rules.{rules}
+use lib.Dec.{eqb}
+use borrow.Author.Tests.{eqb-true}
 use Rattle.tokens.specs.Bool.{◌and◌}
 use Rattle.tokens.specs.declared.cause.Cause.{Cause}
 use Rattle.rows.specs.Row as row
@@ -45,16 +45,7 @@ inner_simple : (k m f e : ℕ) (kids : Forest)
     → ((ts' : Forest) (rs : List Record) → convert_kids kids (only Role.simple) ≡ turned ts' rs → eqb (count kids) 1 ≡ true → is_reference (inner_kinds kids) ≡ true)
     → Carried kids (as_simple (seen (node k m f e kids))) → is_reference (inner_kind (node k m f e kids)) ≡ true
 unfolding as_simple seen inner_kind
-inner_simple k m f e kids ih s =
-    by_test (Carried kids) (eqb k row.Identifier) s (λ is _. rw (eqb-true k _ is))
-    (λ _ s. by_test (Carried kids) (eqb k row.Member) s (λ is _. rw (eqb-true k _ is))
-    (λ _ s. by_test (Carried kids) (eqb k row.Index) s (λ is _. rw (eqb-true k _ is))
-    (λ _ s. by_test (Carried kids) ((eqb k row.Paren and eqb (count kids) 1) and not (is_array_or_object (kind_of (last_of kids)))) s
-    (λ is s. let b = both_true (eqb k row.Paren) _ (both_true (eqb k row.Paren and eqb (count kids) 1) _ is).0 in rw b.0 (inside b.1 s))
-    (λ _ s. absurd (never s)))))
-  where
-    inside : eqb (count kids) 1 ≡ true → Carried kids (turn row.TargetParen [] (only Role.simple) []) → is_reference (inner_kinds kids) ≡ true
-    inside one (goes ts' rs q) = ih ts' rs q one
+inner_simple k m f e kids ih s = search rules
 
 mutual
   unfolding convert_as change inner_kinds count
@@ -76,13 +67,7 @@ data Argument (t : Tree) : Type 0 where
 
 no_literal : (k m f e : ℕ) (kids : Forest) → Carried kids (as_simple (seen (node k m f e kids))) → is_array_or_object k ≡ false
 unfolding as_simple seen
-no_literal k m f e kids s =
-    by_test (Carried kids) (eqb k row.Identifier) s (λ is _. rw (eqb-true k _ is))
-    (λ _ s. by_test (Carried kids) (eqb k row.Member) s (λ is _. rw (eqb-true k _ is))
-    (λ _ s. by_test (Carried kids) (eqb k row.Index) s (λ is _. rw (eqb-true k _ is))
-    (λ _ s. by_test (Carried kids) ((eqb k row.Paren and eqb (count kids) 1) and _) s
-    (λ is _. rw (eqb-true k _ (both_true (eqb k row.Paren) _ (both_true (eqb k row.Paren and eqb (count kids) 1) _ is).0).0))
-    (λ _ s. absurd (never s)))))
+no_literal k m f e kids s = search rules
 
 a_literal : (k m f e : ℕ) (kids : Forest) → is_array_or_object k ≡ true → eqb k row.Paren ≡ false → Argument (node k m f e kids)
 unfolding kind_of inner_kind
@@ -100,20 +85,11 @@ argument (node k m f e kids) t' rs h =
     (λ is _. rw (eqb-true k _ (both_true (eqb k row.ObjectRestComma) _ is).0) (a_literal _ m f e kids refl refl))
     (λ _ s. reference (no_literal k m f e kids s) (inner_simple k m f e kids (λ ts' rs' q one. simple_references kids ts' rs' q one) s)))))
 
-literal_no_reference : (k : ℕ) → is_array_or_object k ≡ true → is_reference k ≡ false
-literal_no_reference k is =
-    let b = both_true (leb row.Array k) _ is in
-    let low = leb-true row.Array k b.0 in
-    let high = leb-true k row.ObjectRestComma b.1 in
-    rw (ne_eqb k row.Identifier (λ e. omega arith), ne_eqb k row.Member (λ e. omega arith), ne_eqb k row.Index (λ e. omega arith))
-
 array_right : {t : Tree} → Argument t → array_argument t ≡ []
-array_right {t} (literal is same) = rw (same, literal_no_reference (kind_of t) is, is)
-array_right (reference other is) = rw is
+array_right a = search rules
 
 object_right : {t : Tree} → Argument t → object_argument t ≡ (if is_array_or_object (kind_of t) then rest_argument (first_of t) ∷ [] else [])
-object_right {t} (literal is same) = rw (same, literal_no_reference (kind_of t) is, is)
-object_right (reference other is) = rw (is, other)
+object_right a = search rules
 
 -- the argument of a rest that is converted
 only_argument : (kids : Forest) (ts' : Forest) (rs : List Record) → convert_kids kids (only Role.any) ≡ turned ts' rs → eqb (count kids) 1 ≡ true
@@ -130,16 +106,10 @@ same_before : (k m f e : ℕ) (kids : Forest) (kind : ℕ) (before before' : Lis
     → ((ts' : Forest) (rs : List Record) → convert_kids kids each ≡ turned ts' rs → before ≡ before')
     → over (turn kind before each after) (node k m f e kids) (convert_kids kids each) ≡ over (turn kind before' each after) (node k m f e kids) (convert_kids kids each)
 unfolding over
-same_before k m f e kids kind before before' each after h = go (convert_kids kids each) refl
-  where
-    go : (out : Outcome Forest) → convert_kids kids each ≡ out
-        → over (turn kind before each after) (node k m f e kids) out ≡ over (turn kind before' each after) (node k m f e kids) out
-    go (refused c) q = refl
-    go (turned ts' rs) q = rw (h ts' rs q)
+same_before k m f e kids kind before before' each after h = search rules
 
 alike_if : (b : Bool) (F : Change → Outcome Tree) {x x' y y' : Change} → (b ≡ true → F x ≡ F x') → F y ≡ F y' → F (if b then x else y) ≡ F (if b then x' else y')
-alike_if true F p q = p refl
-alike_if false F p q = q
+alike_if b F p q = search rules
 
 -- a row is converted by what the code looks at in it
 pub convert_near : (t : Tree) (role : Role) → convert_as t role ≡ over (change role (near t)) t (convert_kids (kids_of t) (roles (change role (near t))))

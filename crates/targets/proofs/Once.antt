@@ -7,7 +7,7 @@ use Rattle.rows.specs.Tree.{Tree}
 use Rattle.rows.specs.Record.{Record}
 use Rattle.conversion.specs.Conversion.{Outcome, turned, refused, Role, convert_as}
 use Rattle.targets.specs.Post.{Subtree, Made, RowConverted}
-use Rattle.targets.specs.declared.Conversion.{Conversion}
+use Rattle.targets.specs.Outcome.{Conversion}
 
 made_once : {before after r₀ : List ℕ} {t : Tree} {start : ℕ} {records : List Record} {rows₁ rows₂ r₁ r₂ : List ℕ} → Made before after r₀ t start records rows₁ r₁
     → Made before after r₀ t start records rows₂ r₂ → (rows₁ ≡ rows₂) × (r₁ ≡ r₂)

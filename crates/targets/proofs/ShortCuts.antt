@@ -1,7 +1,8 @@
 -- Where all there is to convert in a row is one name: what the code finds and writes there is what the definition gives.
 -- Assumes nothing.
-use Rattle.std.specs.Prelude.{if◌then◌else◌}
-use Prim.Native.Nat.{ℕ, ◌+◌, ◌-◌, ◌*◌, ◌≤◌, ◌<◌, ◌/◌, ◌%◌}
+use Rattle.std.specs.Prelude.{if◌then◌else◌, Option, Some, None, IfSome}
+use Rattle.std.specs.Bool.{then_some}
+use Prim.Native.Nat.{ℕ, ◌+◌, ◌-◌, ◌*◌, ◌≤◌, ◌<◌}
 use mathlib.Core.Path.{◌≡◌, refl, sym, ap, ◌∙◌}
 use mathlib.Core.Bool.{Bool, true, false}
 use mathlib.Core.List.{List, [], ◌++◌, append_assoc}
@@ -9,17 +10,17 @@ use native.Mathlib.Omega.{arith}
 use lib.Dec.{eqb}
 use lib.ListN.{length, get_or, set, length-set}
 use lib.Seq.{set-set}
-use borrow.Author.Tests.{eqb-true, ne_eqb}
-use Rattle.tokens.specs.Bool.{◌or◌}
+use borrow.Author.Rules.{rules}
 use Rattle.rows.specs.Row as row
 use Rattle.rows.specs.Tree.{Tree, Forest, node, nil, cons, one, join, count, size, sizes, flat, flats, kind_of, mark_of, first_of, end_of, kids_of}
-use Rattle.rows.specs.Post.{Word, KindSet, RowInside}
+use Rattle.rows.specs.Post.{Word, KindSet}
 use Rattle.rows.specs.Record.{Record}
 use Rattle.rows.proofs.Rows.{sizes_join, flats_join, count_join, Next}
 use Rattle.conversion.specs.Conversion.{turned, is_reference, Role, any, simple, element, last_element, property, last_property, value, name, same, each, only, as_simple, as_any, as_value, as_element, as_last_element, as_property, as_last_property, as_name, change, roles, over, seen, both, convert_as, convert_kids}
 use Rattle.targets.specs.Post.{Subtree, WordInside, TurnedRow}
-use Rattle.conversion.proofs.RuleHolds.{by_test, both_true, one_kid}
-use Rattle.roles.specs.Plan as code
+use Rattle.conversion.proofs.RuleHolds.{one_kid}
+use Rattle.roles.specs.declared.plan.Plan.{Plan}
+use Rattle.roles.specs.declared.plan.Plan.TheVariants.{Array, Object, Paren}
 use Rattle.roles.specs.Meaning.{commas, kid, aim}
 use Rattle.roles.specs.ShortCut.{is_value, is_element, is_initialized, ends_in_target, named_kind}
 use Rattle.targets.specs.Post.{Named, NameAt, NameBelow, NameUnder, NameInside, NameSet, named_at}
@@ -37,48 +38,25 @@ with_kind kind t = node kind (mark_of t) (first_of t) (end_of t) (kids_of t)
 abbrev with_kids : Tree → Forest → Tree
 with_kids t kids = node (kind_of t) (mark_of t) (first_of t) (end_of t) kids
 
--- what holds of each kind that a test names holds of a kind that passes it
-abbrev Yes : Bool → Type 0
-Yes b = b ≡ true
-
-either : {R : Type 0} (a b : Bool) → Yes (a or b) → (Yes a → R) → (Yes b → R) → R
-either true b h f g = f refl
-either false b h f g = g h
-
-module _ (P : ℕ → Type 0) (k : ℕ) where
-  this : (a : ℕ) → P a → Yes (eqb k a) → P k
-  this a p e = rw (eqb-true k a e) p
-
-  by_reference : Yes (is_reference k) → P row.Identifier → P row.Member → P row.Index → P k
-  by_reference h a b c = either (eqb k row.Identifier) _ h (this _ a) (λ h. either (eqb k row.Member) _ h (this _ b) (this _ c))
-
-  by_value : Yes (is_value k) → P row.Assign → P row.Identifier → P row.Member → P row.Index → P k
-  by_value h d a b c = by_test Yes (eqb k row.Assign) h (λ e _. this _ d e) (λ _ h. by_reference h a b c)
-
-  by_element : Yes (is_element k) → P row.Hole → P row.Assign → P row.Identifier → P row.Member → P row.Index → P k
-  by_element h i d a b c = by_test Yes (eqb k row.Hole) h (λ e _. this _ i e) (λ _ h. by_value h d a b c)
-
 -- in this role the row gets another kind and no record
 abbrev Kept : Tree → Role → Type 0
 Kept t role = convert_as t role ≡ turned (with_kind (named_kind (kind_of t)) t) []
 
 name_kept : (t : Tree) → kind_of t ≡ row.Identifier → Kept t name
-unfolding convert_as change as_any as_simple as_value as_element as_last_element as_name seen over kind_of mark_of first_of end_of kids_of
-name_kept (node k m f e kids) i = rw i
+unfolding convert_as change as_name seen over kind_of mark_of first_of end_of kids_of
+name_kept t i = search rules
 
-reference_kept : (t : Tree) (simply : Bool) → Yes (is_reference (kind_of t)) → Kept t (if simply then simple else any)
-unfolding convert_as change as_any as_simple as_value as_element as_last_element as_name seen over kind_of mark_of first_of end_of kids_of
-reference_kept (node k m f e kids) true h = by_reference (λ k. Kept (node k m f e kids) simple) k h refl refl refl
-reference_kept (node k m f e kids) false h = by_reference (λ k. Kept (node k m f e kids) any) k h refl refl refl
+reference_kept : (t : Tree) (simply : Bool) → is_reference (kind_of t) ≡ true → Kept t (if simply then simple else any)
+unfolding convert_as change as_any as_simple seen over kind_of mark_of first_of end_of kids_of
+reference_kept t simply h = search rules
 
-value_kept : (t : Tree) → Yes (is_value (kind_of t)) → Kept t value
-unfolding convert_as change as_any as_simple as_value as_element as_last_element as_name seen over kind_of mark_of first_of end_of kids_of
-value_kept (node k m f e kids) h = by_value (λ k. Kept (node k m f e kids) value) k h refl refl refl refl
+value_kept : (t : Tree) → is_value (kind_of t) ≡ true → Kept t value
+unfolding convert_as change as_any as_simple as_value seen over kind_of mark_of first_of end_of kids_of
+value_kept t h = search rules
 
-element_kept : (t : Tree) (last : Bool) (comma : List Record) → Yes (is_element (kind_of t)) → Kept t (if last then last_element comma else element)
-unfolding convert_as change as_any as_simple as_value as_element as_last_element as_name seen over kind_of mark_of first_of end_of kids_of
-element_kept (node k m f e kids) true comma h = by_element (λ k. Kept (node k m f e kids) (last_element comma)) k h refl refl refl refl refl
-element_kept (node k m f e kids) false comma h = by_element (λ k. Kept (node k m f e kids) element) k h refl refl refl refl refl
+element_kept : (t : Tree) (last : Bool) (comma : List Record) → is_element (kind_of t) ≡ true → Kept t (if last then last_element comma else element)
+unfolding convert_as change as_any as_simple as_value as_element as_last_element seen over kind_of mark_of first_of end_of kids_of
+element_kept t last comma h = search rules
 
 -- a key or an initializer stays
 same_turned : (t : Tree) → convert_as t same ≡ turned t []
@@ -88,15 +66,15 @@ same_turned (node k m f e kids) = refl
 -- the kids of a property over a value that turns by itself, or over a name
 kids_property : (a b b' : Tree) → convert_as b value ≡ turned b' [] → convert_kids (cons a (one b)) (each same value) ≡ turned (cons a (one b')) []
 unfolding convert_kids both count
-kids_property a b b' v = rw (same_turned a, v)
+kids_property a b b' v = search (rules, same_turned)
 
 kids_shorthand : (b : Tree) → kind_of b ≡ row.Identifier → convert_kids (one b) (only name) ≡ turned (one (with_kind row.TargetName b)) []
 unfolding convert_kids both count
-kids_shorthand b i = rw (name_kept b i, i)
+kids_shorthand b i = search (rules, name_kept)
 
 kids_initialized : (b a : Tree) → kind_of b ≡ row.Identifier → convert_kids (cons b (one a)) (each name same) ≡ turned (cons (with_kind row.TargetName b) (one a)) []
 unfolding convert_kids both count
-kids_initialized b a i = rw (same_turned a, name_kept b i, i)
+kids_initialized b a i = search (rules, same_turned, name_kept)
 
 -- a property, the last one or not, over such kids
 abbrev as_one : Bool → List Record → Role
@@ -105,20 +83,17 @@ as_one last comma = if last then last_property comma else property
 property_turned : (t : Tree) (last : Bool) (comma : List Record) (a b b' : Tree) → kind_of t ≡ row.Property → kids_of t ≡ cons a (one b) → convert_as b value ≡ turned b' []
     → convert_as t (as_one last comma) ≡ turned (with_kind row.TargetProperty (with_kids t (cons a (one b')))) []
 unfolding convert_as change as_property as_last_property seen over roles count kind_of mark_of first_of end_of kids_of
-property_turned (node k m f e kids) true comma a b b' i q v = rw (i, q) (rw (kids_property a b b' v))
-property_turned (node k m f e kids) false comma a b b' i q v = rw (i, q) (rw (kids_property a b b' v))
+property_turned t last comma a b b' i q v = search (rules, kids_property)
 
 shorthand_turned : (t : Tree) (last : Bool) (comma : List Record) (b : Tree) → kind_of t ≡ row.Shorthand → kids_of t ≡ one b → kind_of b ≡ row.Identifier
     → convert_as t (as_one last comma) ≡ turned (with_kind row.TargetShorthand (with_kids t (one (with_kind row.TargetName b)))) []
 unfolding convert_as change as_property as_last_property seen over roles count kind_of mark_of first_of end_of kids_of
-shorthand_turned (node k m f e kids) true comma b i q n = rw (i, q) (rw (kids_shorthand b n))
-shorthand_turned (node k m f e kids) false comma b i q n = rw (i, q) (rw (kids_shorthand b n))
+shorthand_turned t last comma b i q n = search (rules, kids_shorthand)
 
 initialized_turned : (t : Tree) (last : Bool) (comma : List Record) (b a : Tree) → kind_of t ≡ row.ShorthandInit → kids_of t ≡ cons b (one a) → kind_of b ≡ row.Identifier
     → convert_as t (as_one last comma) ≡ turned (with_kind row.TargetShorthandInit (with_kids t (cons (with_kind row.TargetName b) (one a)))) []
 unfolding convert_as change as_property as_last_property seen over roles count kind_of mark_of first_of end_of kids_of
-initialized_turned (node k m f e kids) true comma b a i q n = rw (i, q) (rw (kids_initialized b a n))
-initialized_turned (node k m f e kids) false comma b a i q n = rw (i, q) (rw (kids_initialized b a n))
+initialized_turned t last comma b a i q n = search (rules, kids_initialized)
 
 -- the words with another kind at the root of a subtree
 kind_set : {rows : List ℕ} {root : ℕ} (h : Subtree rows root) (kind : ℕ) → set rows (6 * root) kind ≡ h.before ++ (flat (with_kind kind h.tree) ++ h.after)
@@ -128,15 +103,15 @@ kind_set {rows} {root} h kind =
 
 same_root : (t : Tree) (kids : Forest) → SameShape (kids_of t) kids → flat (with_kids t kids) ≡ flats kids ++ root_words t
 unfolding flat root_words kind_of mark_of first_of end_of kids_of
-same_root (node k m f e ts) kids s = rw (s.many, s.rows)
+same_root t kids s = search rules
 
 same_size : (t : Tree) (kids : Forest) → SameShape (kids_of t) kids → size (with_kids t kids) ≡ size t
 unfolding size kind_of mark_of first_of end_of kids_of
-same_size (node k m f e ts) kids s = rw s.rows
+same_size t kids s = search rules
 
 kind_size : (t : Tree) (kind : ℕ) → size (with_kind kind t) ≡ size t
 unfolding size kind_of mark_of first_of end_of kids_of
-kind_size (node k m f e ts) kind = refl
+kind_size t kind = search rules
 
 -- one kid for another of its size
 swap_shape : (front back : Forest) (n n' : Tree) → size n' ≡ size n → SameShape (join front (cons n back)) (join front (cons n' back))
@@ -162,16 +137,6 @@ two_set {rows} {root} h front back n at below kind q e =
     let place : 6 * (root + 1) ≡ length h.before + 6 * size (with_kids h.tree kids) = rw (same_size h.tree kids s) h.place in
     kind_set (record { before = h.before; tree = with_kids h.tree kids; after = h.after; text = text; place = place }) kind
 
--- where it is no name
-pub no_name : {rows : List ℕ} {root : ℕ} {role : Role} → NameAt rows root role (root + 1)
-no_name = record { is = λ le h. absurd (omega arith) }
-
-pub none_below : {rows : List ℕ} {root : ℕ} → NameBelow rows root (root + 1)
-none_below = record { is = λ held last. no_name }
-
-pub none_under : {rows : List ℕ} {root of : ℕ} → NameUnder rows root of (root + 1)
-none_under = record { is = λ last. no_name }
-
 -- the kind that it gets, by its word
 kept_at : {rows : List ℕ} {root kind : ℕ} (role : Role) (h : Subtree rows root) → Word rows root 0 kind → Kept h.tree role
     → convert_as h.tree role ≡ turned (with_kind (named_at rows root) h.tree) []
@@ -182,7 +147,7 @@ kept_here : {rows : List ℕ} {root kind : ℕ} (role : Role) → Word rows root
 unfolding mark_of first_of end_of kids_of
 kept_here {rows} {root} {kind} role w kept =
     record {
-      is = λ le h.
+      is = λ h.
           let n = named_at rows root in
           let t₁ = with_kind n h.tree in
           let place : 6 * (root + 1) ≡ length h.before + 6 * size t₁ = rw (kind_size h.tree n) h.place in
@@ -194,7 +159,7 @@ kept_here {rows} {root} {kind} role w kept =
     }
 
 -- so of an element
-pub element_turned : (t : Tree) (last : Bool) → is_element (kind_of t) ≡ true → convert_as t (kid code.Array last) ≡ turned (with_kind (named_kind (kind_of t)) t) []
+pub element_turned : (t : Tree) (last : Bool) → is_element (kind_of t) ≡ true → convert_as t (kid (Array None) last) ≡ turned (with_kind (named_kind (kind_of t)) t) []
 unfolding kid
 element_turned t last e = element_kept t last [] e
 
@@ -207,38 +172,47 @@ reference_turned false h w e = kept_at any h w (reference_kept h.tree false (ap 
 pub one_set : {rows : List ℕ} {root : ℕ} (h : Subtree rows root) → set rows (6 * root) (named_at rows root) ≡ h.before ++ (flat (with_kind (named_at rows root) h.tree) ++ h.after)
 one_set {rows} {root} h = kind_set h (named_at rows root)
 
--- an element of an array; a simple target, or any
-pub element_here : {rows : List ℕ} {root of kind : ℕ} → of % 16 ≡ code.Array → Word rows root 0 kind → is_element kind ≡ true → NameUnder rows root of root
-unfolding kid
-element_here {of = of} k w e = record { is = λ last. rw k (kept_here _ w (λ t i. element_kept t last (commas (of / 16)) (ap is_element i ∙ e))) }
+-- a place that is there where a test passes
+pub if_found : (P : ℕ → Type 0) (b : Bool) (at : ℕ) (r : Option ℕ) → r ≡ then_some b at → (b ≡ true → P at) → IfSome r P
+if_found P true at r e p = rw e (p refl)
+if_found P false at r e p = rw e tt
 
-pub reference_here : {rows : List ℕ} {root of kind : ℕ} → code.Paren ≤ of % 16 → Word rows root 0 kind → is_reference kind ≡ true → NameUnder rows root of root
+-- an element of an array
+pub element_here : {rows : List ℕ} {root : ℕ} {of : Plan} {comma : Option ℕ} {kind : ℕ} → of ≡ Array comma → Word rows root 0 kind → is_element kind ≡ true → NameUnder rows root of root
 unfolding kid
-reference_here {of = of} le w e =
-    record {
-      is = λ last.
-          rw (ne_eqb (of % 16) code.Array (λ z. omega arith), ne_eqb (of % 16) code.Object (λ z. omega arith), ne_eqb (of % 16) code.Property (λ z. omega arith), ne_eqb (of % 16) code.Shorthand (λ z. omega arith), ne_eqb (of % 16) code.ShorthandInit (λ z. omega arith))
-          (kept_here _ w (λ t i. reference_kept t (eqb (of % 16) code.Paren) (ap is_reference i ∙ e)));
-    }
+element_here {comma = comma} k w e =
+    record { order = omega arith; is = λ last. rw k (kept_here _ w (λ t i. element_kept t last (commas comma) (ap is_element i ∙ e))) }
 
-pub property_here : {rows : List ℕ} {root of at : ℕ} → of % 16 ≡ code.Object → NameBelow rows root at → NameUnder rows root of at
+-- a simple target, or any
+abbrev pub is_paren : Plan → Bool
+is_paren Paren = true
+is_paren _ = false
+
+pub reference_here : {rows : List ℕ} {root : ℕ} {of : Plan} {kind : ℕ} → ((last : Bool) → kid of last ≡ (if is_paren of then simple else any)) → Word rows root 0 kind
+    → is_reference kind ≡ true → NameUnder rows root of root
+reference_here {of = of} aims w e =
+    record { order = omega arith; is = λ last. rw (aims last) (kept_here _ w (λ t i. reference_kept t (is_paren of) (ap is_reference i ∙ e))) }
+
+pub property_here : (rows : List ℕ) (root : ℕ) {of : Plan} {comma : Option ℕ} → of ≡ Object comma → (name : Option ℕ) → IfSome name (λ at. NameBelow rows root at)
+    → IfSome name (λ at. NameUnder rows root of at)
 unfolding kid
-property_here {of = of} k b = record { is = λ last. rw k (b.is (of / 16) last) }
+property_here rows root k None b = tt
+property_here rows root {comma = comma} k (Some at) b = record { order = b.order; is = λ last. rw k (b.is comma last) }
 
 -- all of the conversion is that of the name, with no record
-pub turn_named : {rows r : List ℕ} {root end : ℕ} {rows' : List ℕ} {role : Role} {at : ℕ} → NameAt rows root role at → at ≤ root → NameSet rows root at rows'
+pub turn_named : {rows r : List ℕ} {root end : ℕ} {rows' : List ℕ} {role : Role} {at : ℕ} → NameAt rows root role at → NameSet rows root at rows'
     → TurnedRow rows r root role end rows' r end
-turn_named {rows} {r} {end = end} n le k =
+turn_named {rows} {r} {end = end} n k =
     record {
       is = λ h t rs a.
-          let b = sym a ∙ (n.is le h).is in
-          rw (turned_is b, turned_records b) (omega arith, record { text = k.text ∙ (n.is le h).text; filled = filled_none r end });
+          let b = sym a ∙ (n.is h).is in
+          rw (turned_is b, turned_records b) (omega arith, record { text = k.text ∙ (n.is h).text; filled = filled_none r end });
     }
 
-pub step_plain : {rows r : List ℕ} {root of start stop at : ℕ} {rows₁ rows' r' : List ℕ} {start' : ℕ} → NameUnder rows (stop - 1) of at → at < stop
+pub step_plain : {rows r : List ℕ} {root : ℕ} {of : Plan} {start stop at : ℕ} {rows₁ rows' r' : List ℕ} {start' : ℕ} → NameUnder rows (stop - 1) of at
     → NameSet rows (stop - 1) at rows₁ → rows' ≡ rows₁ → r' ≡ r → start' ≡ start → Step rows r root of start stop rows' r' start'
-step_plain {root = root} {stop = stop} n lt k e f g =
-    step_turned (turn_named (n.is (eqb stop root)) (omega arith) k) (ap length k.text ∙ simp length-set) refl e f g
+step_plain {root = root} {stop = stop} n k e f g =
+    step_turned (turn_named (n.is (eqb stop root)) k) (ap length k.text ∙ simp length-set) refl e f g
 
 -- one row is set
 pub one_name_set : {rows rows' : List ℕ} {at kind kind' : ℕ} → Word rows at 0 kind → kind' ≡ named_kind kind → KindSet rows at kind' rows' → NameSet rows at at rows'
@@ -248,38 +222,16 @@ one_name_set {rows} {at = at} w e k =
 pub inside_name : {rows : List ℕ} {root at : ℕ} → Subtree rows root → at ≤ root → NameInside (length rows) root at
 inside_name h le = record { order = le; room = root_inside h }
 
-pub name_is_inside : {words root at : ℕ} → NameInside words root at → RowInside words at
-name_is_inside i = let o = i.order in let r = i.room in record { room = omega arith }
-
-pub root_is_inside : {words words' root at : ℕ} → NameInside words root at → words' ≡ words → RowInside words' root
-root_is_inside i e = let r = i.room in record { room = omega arith }
-
-pub name_word : {words root at : ℕ} → NameInside words root at → WordInside words at 0
-name_word i = let o = i.order in let r = i.room in record { room = omega arith }
-
-pub root_word_inside : {words root at : ℕ} → NameInside words root at → WordInside words root 0
-root_word_inside i = let r = i.room in record { room = omega arith }
-
-pub name_is_set : {rows rows₁ rows₂ : List ℕ} {root at kind kind' below below' : ℕ} → Word rows root 0 kind → kind' ≡ named_kind kind → Word rows at 0 below
-    → below' ≡ named_kind below → KindSet rows at below' rows₁ → KindSet rows₁ root kind' rows₂ → NameSet rows root at rows₂
-name_is_set w e v f k l = record { text = l.text ∙ rw (k.text, e, w.is, f, v.is) }
-
 -- what the kind and the number of kids of a property can be, and what stands last in it
 data Ends (kind kids last : ℕ) : Type 0 where
   key_value : kind ≡ row.Property → kids ≡ 2 → is_value last ≡ true → Ends kind kids last
   shorthand : kind ≡ row.Shorthand → kids ≡ 1 → last ≡ row.Identifier → Ends kind kids last
 
 ends : (kind kids last : ℕ) → ends_in_target kind kids last ≡ true → Ends kind kids last
-ends kind kids last t =
-    by_test (λ (x : Bool). x ≡ true) (eqb kind row.Property) t
-    (λ k n. let b = both_true (eqb kids 2) _ n in key_value (eqb-true kind _ k) (eqb-true kids _ b.0) b.1)
-    (λ _ n.
-    let b = both_true (eqb kind row.Shorthand) _ n in
-    let c = both_true (eqb kids 1) _ b.1 in
-    shorthand (eqb-true kind _ b.0) (eqb-true kids _ c.0) (eqb-true last _ c.1))
+ends kind kids last t = search rules
 
 begins : (kind kids : ℕ) → is_initialized kind kids ≡ true → (kind ≡ row.ShorthandInit) × (kids ≡ 2)
-begins kind kids t = let b = both_true (eqb kind row.ShorthandInit) _ t in (eqb-true kind _ b.0, eqb-true kids _ b.1)
+begins kind kids t = search rules
 
 of_one : {kids : ℕ} → kids ≡ 1 → 0 < kids
 of_one e = omega arith
@@ -335,9 +287,10 @@ unfolding join flats
 named_first {rows} {root} {kind} {kids} {s' = s'} wk wn e t ws es wx i =
     let b = begins kind kids (sym e ∙ t) in
     record {
+      order = omega arith;
       is = λ held last.
           record {
-            is = λ le h.
+            is = λ h.
                 let init = (last_kid h wn (of_two b.1)).kid in
                 let name = (first_kid h wn b.1 ws es).kid in
                 let tree = first_tree h wn b.1 ws es in
@@ -406,7 +359,7 @@ module _ {rows : List ℕ} {root kind kids x : ℕ} (wk : Word rows root 0 kind)
 pub named_last : {rows : List ℕ} {root kind kids x : ℕ} {r : Bool} → Word rows root 0 kind → Word rows root 4 kids → Word rows (root - 1) 0 x → r ≡ ends_in_target kind kids x
     → r ≡ true → NameBelow rows root (root - 1)
 named_last {kind = kind} {kids = kids} {x = x} wk wn wx e t =
-    record { is = λ held last. record { is = λ le h. last_here wk wn wx last (commas held) h (ends kind kids x (sym e ∙ t)) } }
+    record { order = omega arith; is = λ held last. record { is = λ h. last_here wk wn wx last (commas held) h (ends kind kids x (sym e ∙ t)) } }
 
 -- the places that are looked at are there
 pub last_low : {rows : List ℕ} {root kids : ℕ} → Subtree rows root → Word rows root 4 kids → (kids ≡ 0 → ⊥) → 1 ≤ root
@@ -425,7 +378,3 @@ first_low {kind = kind} {kids = kids} h wk wn e t = low h wn (of_two (begins kin
 pub first_room : {rows : List ℕ} {root kind kids s s' : ℕ} {r : Bool} → Subtree rows root → Word rows root 0 kind → Word rows root 4 kids → r ≡ is_initialized kind kids → r ≡ true
     → Word rows (root - 1) 5 s → s' ≡ s → (s' ≤ root) × (1 ≤ root - s')
 first_room {kind = kind} {kids = kids} h wk wn e t ws es = room h wn (begins kind kids (sym e ∙ t)).1 ws es
-
--- the place after the row can be counted
-pub next_fits : {rows : List ℕ} {root : ℕ} → Subtree rows root → root + 1 ≤ length rows
-next_fits h = let i = root_inside h in omega arith

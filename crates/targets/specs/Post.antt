@@ -1,14 +1,15 @@
 -- What the contracts of the conversion say: the row is the root of a tree, what is found of it, and what is in both buffers after.
-use Rattle.std.specs.Prelude.{◌+◌, ◌-◌, ◌*◌, ◌≤◌, ◌<◌, ◌^◌, ◌%◌, ◌≡◌, ◌∷◌, ◌++◌, if◌then◌else◌}
+use Rattle.std.specs.Prelude.{◌+◌, ◌-◌, ◌*◌, ◌≤◌, ◌<◌, ◌^◌, ◌≡◌, ◌∷◌, ◌++◌, if◌then◌else◌, Ok, Err, Option}
 use Rattle.rows.specs.Base.{ℕ, List, [], length, get_or, take, drop, set, Cause, Tree, node, size, flat, count, kind_of, first_of, kids_of, Forest, nil, cons, Record, rest_argument, record_words, Bool, true, false}
 use Rattle.conversion.specs.Conversion.{turned, refused, convert_as, potential, Role, any, property, last_property}
-use Rattle.targets.specs.{declared.Conversion.Conversion, declared.Conversion.TheVariants.Turned, declared.Conversion.TheVariants.Refused}
+use Rattle.targets.specs.Outcome.{Conversion}
 use Rattle.rows.specs.Post.{KindSet}
 use Rattle.roles.specs.{Meaning.commas, Meaning.kid, ShortCut.named_kind, ShortCut.is_element}
 use Rattle.conversion.specs.Conversion as def
 use Rattle.roles.specs.Meaning as means
 use Rattle.targets.specs.Outcome as outcome
-use Rattle.roles.specs.Plan as plan
+use Rattle.roles.specs.declared.plan.Plan.{Plan}
+use Rattle.roles.specs.declared.plan.Plan.TheVariants.{WrongRest}
 use Rattle.rows.specs.Row as row
 
 -- a row of the words is the root of a tree: the words before its rows, the tree, and the words after
@@ -44,17 +45,21 @@ pub record FirstRow (rows : List ℕ) (root first : ℕ) : Type 0 where  -- the 
 abbrev pub begins_of : Tree → ℕ  -- where the last kid of a row begins
 begins_of t = first_of (def.last_of (kids_of t))
 
-pub record PlanAt (rows : List ℕ) (root : ℕ) (role : def.Role) (of : ℕ) : Type 0 where  -- the plan is what the row becomes in a role
+pub record PlanAt (rows : List ℕ) (root : ℕ) (role : def.Role) (of : Plan) : Type 0 where  -- the plan is what the row becomes in a role
   pub is : (h : Subtree rows root) → means.plan (begins_of h.tree) of ≡ def.change role (near h.tree)
 
-pub record Own (of r : ℕ) : Type 0 where  -- what a row of that plan gives by itself
-  pub is : (begins : ℕ) → outcome.told r ≡ outcome.own (means.plan begins of)
+pub record Own (of : Plan) (own : Conversion) : Type 0 where  -- what a row of that plan gives by itself
+  pub is : (begins : ℕ) → own ≡ outcome.own (means.plan begins of)
 
-pub record Judged (rows : List ℕ) (root : ℕ) (role : def.Role) (r : ℕ) : Type 0 where  -- what the conversion of a row will give
-  pub is : (h : Subtree rows root) → outcome.told r ≡ outcome.found (convert_as h.tree role)
+-- what the conversion of a row will give stands before what was found of the rows after it
+pub record Judged (rows : List ℕ) (root : ℕ) (role : def.Role) (rest found : Conversion) : Type 0 where
+  pub is : (h : Subtree rows root) → found ≡ outcome.both (outcome.found (convert_as h.tree role)) rest
 
-pub record Sums (one rest : ℕ) : Type 0 where  -- the records of both are not too many to count
-  pub fits : (n m : ℕ) → outcome.told one ≡ Turned n → outcome.told rest ≡ Turned m → 2 * (n + m) < 2 ^ 64
+pub record Sums (one rest : Conversion) : Type 0 where  -- the records of both are not too many to count
+  pub fits : (n m : ℕ) → one ≡ Ok n → rest ≡ Ok m → n + m < 2 ^ 64
+
+pub record Counted (left : ℕ) (found : Conversion) : Type 0 where  -- nor are those that were found, with any that so many rows can give
+  pub fits : (n : ℕ) → found ≡ Ok n → n + 4 * left < 2 ^ 64
 
 -- the records stand from `start` on, and no other word is changed
 pub record Filled (r₀ : List ℕ) (start : ℕ) (records : List Record) (r : List ℕ) : Type 0 where
@@ -72,13 +77,13 @@ abbrev pub begins_before : List ℕ → ℕ → ℕ  -- where the row before a r
 begins_before rows root = get_or rows (6 * (root - 1) + 2) 0
 
 -- a row is there, and the one before it where that is looked at; the records before those of its kids have room
-pub record FinishFits (rows : List ℕ) (root of words start : ℕ) : Type 0 where
+pub record FinishFits (rows : List ℕ) (root : ℕ) (of : Plan) (words start : ℕ) : Type 0 where
   pub row : 6 * root + 6 ≤ length rows
-  pub low : of % 16 ≡ plan.WrongRest → 1 ≤ root
+  pub low : (comma : Option ℕ) → of ≡ WrongRest comma → 1 ≤ root
   pub notes : NoteFits words start (means.before (begins_before rows root) of)
 
 -- it has its kind, and those records are written
-pub record Finished (rows₀ r₀ : List ℕ) (root of start : ℕ) (rows r : List ℕ) (result : ℕ) : Type 0 where
+pub record Finished (rows₀ r₀ : List ℕ) (root : ℕ) (of : Plan) (start : ℕ) (rows r : List ℕ) (result : ℕ) : Type 0 where
   pub kind : KindSet rows₀ root (means.kind of) rows
   pub notes : Written r₀ start (means.before (begins_before rows₀ root) of) r result
 
@@ -109,8 +114,8 @@ pub record Room (rows : List ℕ) (root words used : ℕ) : Type 0 where
 -- the row was converted and its records added, or nothing was changed
 pub record RowConverted (rows₀ r₀ : List ℕ) (root : ℕ) (role : def.Role) (used : ℕ) (rows r : List ℕ) (x : Conversion) : Type 0 where
   pub done : (h : Subtree rows₀ root) (t : Tree) (records : List Record) → convert_as h.tree role ≡ turned t records
-      → (x ≡ Turned (length records)) × Made h.before h.after r₀ t used records rows r
-  pub fail : (h : Subtree rows₀ root) (cause : Cause) → convert_as h.tree role ≡ refused cause → (x ≡ Refused cause) × (rows ≡ rows₀) × (r ≡ r₀)
+      → (x ≡ Ok (length records)) × Made h.before h.after r₀ t used records rows r
+  pub fail : (h : Subtree rows₀ root) (cause : Cause) → convert_as h.tree role ≡ refused cause → (x ≡ Err cause) × (rows ≡ rows₀) × (r ≡ r₀)
 
 -- What the short cuts promise: where all there is to convert is one row, or one row and the row over it, what comes of it.
 abbrev pub named_at : List ℕ → ℕ → ℕ  -- the kind that a row gets by itself
@@ -125,13 +130,15 @@ pub record Named (rows : List ℕ) (root : ℕ) (role : Role) (at : ℕ) (h : Su
   pub is : convert_as h.tree role ≡ turned made []
   pub text : name_set rows root at ≡ h.before ++ (flat made ++ h.after)
 
-pub record NameAt (rows : List ℕ) (root : ℕ) (role : Role) (at : ℕ) : Type 0 where  -- so it is in this role, or the name is after the row
-  pub is : at ≤ root → (h : Subtree rows root) → Named rows root role at h
+pub record NameAt (rows : List ℕ) (root : ℕ) (role : Role) (at : ℕ) : Type 0 where  -- so it is in this role
+  pub is : (h : Subtree rows root) → Named rows root role at h
 
 pub record NameBelow (rows : List ℕ) (root at : ℕ) : Type 0 where  -- so it is as a property, the last one or not
-  pub is : (held : ℕ) (last : Bool) → NameAt rows root (if last then last_property (commas held) else property) at
+  pub order : at ≤ root
+  pub is : (comma : Option ℕ) (last : Bool) → NameAt rows root (if last then last_property (commas comma) else property) at
 
-pub record NameUnder (rows : List ℕ) (root of at : ℕ) : Type 0 where  -- so it is as a kid, the last one or not, of a row of that plan
+pub record NameUnder (rows : List ℕ) (root : ℕ) (of : Plan) (at : ℕ) : Type 0 where  -- so it is as a kid, the last one or not, of a row of that plan
+  pub order : at ≤ root
   pub is : (last : Bool) → NameAt rows root (kid of last) at
 
 pub record NameInside (words root at : ℕ) : Type 0 where  -- in so many words both rows have room

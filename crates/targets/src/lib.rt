@@ -1,26 +1,21 @@
 // Conversion of what was read as an expression to an assignment target (RULES C).
+// That a row roots a tree (`Subtree`) is asked of rows and a root, and is no field of a struct of both: each step asks it of another root, and the functions that write ask it of rows that change.
 #![tactic(auto)]
 
-ghost use Rattle.std.specs.Prelude.{◌-◌, ◌*◌, ◌≡◌, [], ◌∷◌, length};
+ghost use Rattle.std.specs.Prelude.{◌+◌, ◌-◌, ◌≡◌, [], ◌∷◌, length, IfSome};
 ghost use Rattle.rows.specs.Record.{says};
 ghost use Rattle.rows.specs.Post.{Word};
 ghost use Rattle.roles.specs.Meaning as means;
 ghost use Rattle.targets.specs.Outcome as outcome;
 ghost use Rattle.conversion.specs.Entry.{Answered};
-ghost use Rattle.targets.specs.Post.{Subtree, WordInside, SizeInside, FirstRow, PlanAt, Judged, Sums, Own, NoteFits, Written, FinishFits, Finished, Ready, TurnedRow, Room, RowConverted};
+ghost use Rattle.targets.specs.Post.{Subtree, WordInside, SizeInside, FirstRow, PlanAt, Judged, Sums, Counted, Own, NoteFits, Written, FinishFits, Finished, Ready, TurnedRow, Room, RowConverted};
 ghost use Rattle.targets.specs.Post.{NameUnder, NameBelow, NameInside, NameSet, PlainArray, PlainReady, PlainTurned};
 
-use roles::{Seen, plan, plans};
+use roles::plan::Plan;
+use roles::{Seen, plans};
 use rows::{clear_from, row, row_word, set_kind};
 use tokens::cause::{Answer, Cause, Counts};
 use trees::well_formed;
-
-// What comes of a conversion: the number of records added, or why it is refused.
-#[derive(Clone, Copy)]
-pub enum Conversion {
-    Turned(usize),
-    Refused(Cause),
-}
 
 // A word of a row.
 fn word_at(rows: &[u32], n: usize, word: usize) -> u32
@@ -35,7 +30,7 @@ fn size_before(rows: &[u32], end: usize) -> usize
     requires { SizeInside (length rows.now) end }
     ensures { Word rows.now (end - 1) 5 result }
 {
-    roles::wide(rows[6 * end - 1])
+    rows[6 * end - 1] as usize
 }
 
 // The first row of the tree with this root.
@@ -43,24 +38,23 @@ fn first_row(rows: &[u32], root: usize) -> usize
     requires { Subtree rows.now root }
     ensures { FirstRow rows.now root result }
 {
-    root + 1 - roles::wide(word_at(rows, root, 5))
+    root + 1 - word_at(rows, root, 5) as usize
 }
 
 // What a row becomes as a kid, the last one or not, of a row of the plan `under`.
-fn plan_at(rows: &[u32], root: usize, under: usize, last: bool) -> usize
+fn plan_at(rows: &[u32], root: usize, under: Plan, last: bool) -> Plan
     requires { Subtree rows.now root }
     ensures { PlanAt rows.now root (means.kid under «last») result }
 {
-    let at = 6 * root;
-    let kind = rows[at];
-    let mark = rows[at + 1];
-    let first = rows[at + 2];
-    let kids = rows[at + 4];
+    let kind = word_at(rows, root, 0);
+    let mark = word_at(rows, root, 1);
+    let first = word_at(rows, root, 2);
+    let kids = word_at(rows, root, 4);
     let mut below = 0;
     let mut begins = 0;
     if kids != 0 {
-        below = rows[at - 6];
-        begins = rows[at - 4];
+        below = word_at(rows, root - 1, 0);
+        begins = word_at(rows, root - 1, 2);
     }
     plans::plan_of(
         under,
@@ -77,93 +71,70 @@ fn plan_at(rows: &[u32], root: usize, under: usize, last: bool) -> usize
 }
 
 // What comes of a row and of the rows after it: the first refusal, or all records.
-fn both(one: usize, rest: usize) -> usize
+fn both(one: Result<usize, Cause>, rest: Result<usize, Cause>) -> Result<usize, Cause>
     requires { Sums one rest }
-    ensures { outcome.told result ≡ outcome.both (outcome.told one) (outcome.told rest) }
+    ensures { result ≡ outcome.both one rest }
 {
-    if one % 2 != 0 {
-        return one;
-    }
-    if rest % 2 != 0 {
-        return rest;
-    }
-    one + rest
+    Ok(one? + rest?)
 }
 
-// How many records the comma after a rest gives, twice.
-fn comma_count(comma: usize) -> usize
-    ensures { result ≡ 2 * length (means.commas comma) }
+// How many records the comma after a rest gives.
+fn comma_count(comma: Option<u32>) -> usize
+    ensures { result ≡ length (means.commas comma) }
 {
-    if comma == 0 { 0 } else { 2 }
+    match comma {
+        None => 0,
+        Some(_) => 1,
+    }
 }
 
 // What comes of a row by itself: its refusal, or how many records it gives beside its kids'.
-fn own(of: usize) -> usize
+#[tactic(auto, unfolding(roles::specs::Meaning::plan, roles::specs::Meaning::before, roles::specs::Meaning::after))]
+fn own(of: Plan) -> Result<usize, Cause>
     ensures { Own of result }
 {
-    let kind = of % 16;
-    let held = of / 16;
-    match kind {
-        plan::REST_IN_ARRAY => comma_count(held),
-        plan::REST_IN_OBJECT => comma_count(held),
-        plan::WRONG_REST => comma_count(held) + 2,
-        plan::COMPOUND => 2,
-        plan::NO_TARGET => 4 * held + 1,
-        _ => if kind < plan::NOT_LAST {
-            0
-        } else {
-            4 * held + 3
-        },
+    match of {
+        Plan::RestInArray(comma) => Ok(comma_count(comma)),
+        Plan::RestInObject(comma) => Ok(comma_count(comma)),
+        Plan::WrongRest(comma) => Ok(comma_count(comma) + 1),
+        Plan::Compound(_) => Ok(1),
+        Plan::NoTarget(place) => Err(Cause::Target(place as usize)),
+        Plan::NotLast(place) => Err(Cause::Spread(place as usize)),
+        _ => Ok(0),
     }
 }
 
-// The row below a property that is all there is to convert beside it, with no record; otherwise the row after the property's.
-fn name_below(rows: &[u32], root: usize) -> usize
+// The row below a property that is all there is to convert beside it, with no record.
+fn name_below(rows: &[u32], root: usize) -> Option<usize>
     requires { Subtree rows.now root }
-    ensures { NameBelow rows.now root result }
+    ensures { IfSome result (λ at. NameBelow rows.now root at) }
 {
     let kind = word_at(rows, root, 0);
     let kids = word_at(rows, root, 4);
     if roles::is_initialized(kind, kids) {
-        let size = roles::wide(word_at(rows, root - 1, 5));
+        let size = word_at(rows, root - 1, 5) as usize;
         let name = root - size - 1;
-        if word_at(rows, name, 0) == row::IDENTIFIER {
-            return name;
-        }
-        return root + 1;
+        return (word_at(rows, name, 0) == row::IDENTIFIER).then_some(name);
     }
     if kids == 0 {
-        return root + 1;
+        return None;
     }
-    if roles::ends_in_target(kind, kids, word_at(rows, root - 1, 0)) {
-        return root - 1;
-    }
-    root + 1
+    roles::ends_in_target(kind, kids, word_at(rows, root - 1, 0)).then_some(root - 1)
 }
 
 // The row that is all there is to convert in a kid of a row of the plan `of`, with no record: the kid itself, or what stands below a
-// property. The row after it where it is not so.
-fn name_at(rows: &[u32], root: usize, of: usize) -> usize
+// property.
+fn name_at(rows: &[u32], root: usize, of: Plan) -> Option<usize>
     requires { Subtree rows.now root }
-    ensures { NameUnder rows.now root of result }
+    ensures { IfSome result (λ at. NameUnder rows.now root of at) }
 {
-    let code = of % 16;
-    if code == plan::OBJECT {
-        return name_below(rows, root);
-    }
     let kind = word_at(rows, root, 0);
-    if code == plan::ARRAY {
-        if roles::is_element(kind) {
-            return root;
-        }
-        return root + 1;
+    match of {
+        Plan::Object(_) => name_below(rows, root),
+        Plan::Array(_) => roles::is_element(kind).then_some(root),
+        Plan::Property | Plan::Shorthand | Plan::ShorthandInit => None,
+        _ => roles::is_reference(kind).then_some(root),
     }
-    if plan::PAREN <= code {
-        if roles::is_reference(kind) {
-            return root;
-        }
-    }
-    root + 1
 }
 
 // Gives a row the kind that it gets by itself, and the row over it the kind that it gets with it; they may be one row.
@@ -177,25 +148,25 @@ fn turn_name(rows: &mut [u32], root: usize, name: usize)
     set_kind(rows, root, kind);
 }
 
-// Whether the row can become what the row over it asks, and with how many records. It changes nothing. Follows `CoverGrammar::cover`.
-fn judge(rows: &[u32], root: usize, under: usize, last: bool) -> usize
-    requires { Subtree rows.now root }
-    ensures { Judged rows.now root (means.kid under «last») result }
+// Whether the row can become what the row over it asks, and with how many records, before what was found of the rows after it. It changes
+// no row. Follows `CoverGrammar::cover`.
+fn judge(rows: &[u32], root: usize, under: Plan, last: bool, found: &mut Result<usize, Cause>)
+    requires rooted { Subtree rows.now root }
+    requires counted { Counted (root + 1) found.old }
+    ensures { Judged rows.now root (means.kid under «last») found.old found.new }
 {
     let of = plan_at(rows, root, under, last);
-    let mut found = own(of);
-    if plan::KEEP <= of % 16 {
-        return found;
+    *found = both(own(of), *found);
+    if of.is_alone() {
+        return;
     }
     let mut end = root;
     while first_row(rows, root) < end {
-        if end <= name_at(rows, end - 1, of) {
-            let one = judge(rows, end - 1, of, end == root);
-            found = both(one, found);
+        if name_at(rows, end - 1, of).is_none() {
+            judge(rows, end - 1, of, end == root, found);
         }
         end -= size_before(rows, end);
     }
-    found
 }
 
 // Writes a record before the record `end`, and returns where it stands. Stands for `error`.
@@ -211,44 +182,42 @@ fn write_record(records: &mut [u32], end: usize, number: u32, place: u32) -> usi
 
 // Writes the record of the comma after a rest, if there is one.
 // Follows a part of `ArrayAssignmentTarget::cover` and of `ObjectAssignmentTarget::cover`.
-fn write_comma(records: &mut [u32], end: usize, comma: usize) -> usize
+fn write_comma(records: &mut [u32], end: usize, comma: Option<u32>) -> usize
     requires { NoteFits (length records.old) end (means.commas comma) }
     ensures { Written records.old end (means.commas comma) records.new result }
 {
-    if comma == 0 {
-        return end;
+    match comma {
+        None => end,
+        Some(first) => write_record(records, end, 4, first),
     }
-    write_record(records, end, 4, ((comma - 1) % 4294967296) as u32)
 }
 
 // Writes the record after those of the kids, if there is one. Follows a part of `ArrayAssignmentTarget::cover`.
-fn note_after(records: &mut [u32], end: usize, of: usize) -> usize
+fn note_after(records: &mut [u32], end: usize, of: Plan) -> usize
     requires { NoteFits (length records.old) end (means.after of) }
     ensures { Written records.old end (means.after of) records.new result }
 {
-    if of % 16 == plan::REST_IN_ARRAY {
-        return write_comma(records, end, of / 16);
+    match of {
+        Plan::RestInArray(comma) => write_comma(records, end, comma),
+        _ => end,
     }
-    end
 }
 
 // Gives the row its kind, and writes the records before those of its kids.
 // Follows a part of `ObjectAssignmentTarget::cover` and of `AssignmentTargetMaybeDefault::cover`.
-fn finish(rows: &mut [u32], root: usize, of: usize, records: &mut [u32], start: usize) -> usize
+fn finish(rows: &mut [u32], root: usize, of: Plan, records: &mut [u32], start: usize) -> usize
     requires { FinishFits rows.old root of (length records.old) start }
     ensures { Finished rows.old records.old root of start rows.new records.new result }
 {
     set_kind(rows, root, roles::kind_of(of));
-    let kind = of % 16;
-    let held = of / 16;
-    match kind {
-        plan::REST_IN_OBJECT => write_comma(records, start, held),
-        plan::WRONG_REST => {
+    match of {
+        Plan::RestInObject(comma) => write_comma(records, start, comma),
+        Plan::WrongRest(comma) => {
             let begins = word_at(rows, root - 1, 2);
-            let middle = write_comma(records, start, held);
+            let middle = write_comma(records, start, comma);
             write_record(records, middle, 3, begins)
         }
-        plan::COMPOUND => write_record(records, start, 5, (held % 4294967296) as u32),
+        Plan::Compound(mark) => write_record(records, start, 5, mark),
         _ => start,
     }
 }
@@ -258,7 +227,7 @@ fn finish(rows: &mut [u32], root: usize, of: usize, records: &mut [u32], start: 
 fn turn(
     rows: &mut [u32],
     root: usize,
-    under: usize,
+    under: Plan,
     last: bool,
     records: &mut [u32],
     end: usize,
@@ -267,14 +236,13 @@ fn turn(
     ensures { TurnedRow rows.old records.old root (means.kid under «last») end rows.new records.new result }
 {
     let of = plan_at(rows, root, under, last);
-    if plan::KEEP <= of % 16 {
+    if of.is_alone() {
         return finish(rows, root, of, records, end);
     }
     let mut start = note_after(records, end, of);
     let mut stop = root;
     while first_row(rows, root) < stop {
-        let name = name_at(rows, stop - 1, of);
-        if name < stop {
+        if let Some(name) = name_at(rows, stop - 1, of) {
             turn_name(rows, stop - 1, name);
         } else {
             start = turn(rows, stop - 1, of, stop == root, records, start);
@@ -282,19 +250,6 @@ fn turn(
         stop -= size_before(rows, stop);
     }
     finish(rows, root, of, records, start)
-}
-
-// The conversion that a number stands for.
-fn conversion_of(found: usize) -> Conversion
-    ensures { result ≡ outcome.told found }
-{
-    if found % 2 == 0 {
-        return Conversion::Turned(found / 2);
-    }
-    if found % 4 == 1 {
-        return Conversion::Refused(Cause::Target(found / 4));
-    }
-    Conversion::Refused(Cause::Spread(found / 4))
 }
 
 // Whether all kids of a row become elements of an array by themselves, with no record.
@@ -335,32 +290,29 @@ pub fn convert_row(
     simple: bool,
     records: &mut [u32],
     used: usize,
-) -> Conversion
+) -> Result<usize, Cause>
     requires { Room rows.old root (length records.old) used }
     ensures { RowConverted rows.old records.old root (means.aim simple) used rows.new records.new result }
 {
     let kind = word_at(rows, root, 0);
     if roles::is_reference(kind) {
         set_kind(rows, root, roles::named_kind(kind));
-        return Conversion::Turned(0);
+        return Ok(0);
     }
     if !simple {
         if kind == row::ARRAY {
             if is_plain_array(rows, root) {
                 turn_plain_array(rows, root);
-                return Conversion::Turned(0);
+                return Ok(0);
             }
         }
     }
     let under = roles::aim_at(simple);
-    let found = conversion_of(judge(rows, root, under, true));
-    match found {
-        Conversion::Refused(cause) => Conversion::Refused(cause),
-        Conversion::Turned(count) => {
-            turn(rows, root, under, true, records, used + count);
-            Conversion::Turned(count)
-        }
-    }
+    let mut found = Ok(0);
+    judge(rows, root, under, true, &mut found);
+    let count = found?;
+    turn(rows, root, under, true, records, used + count);
+    Ok(count)
 }
 
 // Conversion as its own entry: the row of a tree becomes any target, with its records, or nothing changes.
@@ -380,14 +332,13 @@ pub fn convert(tree: &mut [u32], row: usize, records: &mut [u32]) -> Answer
     if length / 6 <= row {
         return Answer::Refused(Cause::Outside(0));
     }
-    let size = roles::wide(row_word(tree, row, 5));
+    let size = row_word(tree, row, 5) as usize;
     if records.len() < 2 * size {
         return Answer::Refused(Cause::RecordRoom(0));
     }
-    let found = convert_row(tree, row, false, records, 0);
-    match found {
-        Conversion::Refused(cause) => Answer::Refused(cause),
-        Conversion::Turned(count) => {
+    match convert_row(tree, row, false, records, 0) {
+        Err(cause) => Answer::Refused(cause),
+        Ok(count) => {
             clear_from(records, 2 * count);
             Answer::Read(Counts {
                 rows: size,

@@ -1,19 +1,11 @@
--- Laws of printing into a buffer: of `laid_over`, a text over a buffer; of `Holds`, the buffer and the pen after some text; of `Adds`.
+-- Laws of printing into a buffer: of `laid_over`, a text over a buffer; of `Prints`, the buffer and the answer after some text; of `Adds`.
 -- Assumes nothing.
-use Rattle.std.specs.Prelude.{if◌then◌else◌}
-use Prim.Native.Nat.{ℕ, suc, ◌+◌, ◌≤◌, ◌<◌, min}
-use mathlib.Core.Path.{◌≡◌, refl, sym, ap, ◌∙◌}
-use mathlib.Core.Bool.{Bool, true, false}
-use mathlib.Core.List.{List, [], ◌∷◌, ◌++◌, append-nil, append_assoc}
-use native.Mathlib.Omega.{arith}
-use lib.Dec.{ltb}
-use native.Mathlib.Numerals.{add-one}
-use lib.ListN.{length, get_or, take, set, length-append}
-use lib.Seq.{take-suc, take_all}
-use borrow.Author.Tests.{lt-ltb, le-ltb, ltb-true, ltb-false}
-use Rattle.text.specs.Post.{laid_over, Prints, Holds, Adds, Told}
-use Rattle.text.specs.declared.Printed.{Printed}
-use Rattle.text.specs.declared.Pen.{Pen}
+use Rattle.std.specs.Prelude.{if◌then◌else◌, Option, Some, None}
+use Rattle.std.proofs.Common.{◌≡◌, ℕ, suc, ◌+◌, ◌≤◌, ◌<◌, Bool, true, false, List, [], ◌∷◌, ◌++◌, length, refl, sym, ap, ◌∙◌, arith, append-nil, append_assoc, length-append}
+use Rattle.std.proofs.Math.ListN.{set}
+use Rattle.tokens.specs.Bool.{ltb}
+use Rattle.std.proofs.lemmas.Bool.{lt-ltb, le-ltb, ltb-true, ltb-false}
+use Rattle.text.specs.Post.{laid_over, printed, Prints, Adds}
 
 pub length_laid : (out text : List ℕ) → length (laid_over out text) ≡ length out
 unfolding laid_over
@@ -40,100 +32,100 @@ laid_past [] text more l = refl
 laid_past (b ∷ out) [] more l = absurd (omega arith)
 laid_past (b ∷ out) (t ∷ text) more l = ap (λ (x : List ℕ). t ∷ x) (laid_past out text more (omega arith))
 
--- a pen by its two fields
-abbrev pub pen_at : ℕ → Bool → Pen
-pen_at at full = record { at = at; full = full }
+-- a text that fits, and one that does not
+fits : (text : List ℕ) (room : ℕ) → length text ≤ room → printed text room ≡ Some (length text)
+fits text room l = rw (le-ltb room (length text) l)
 
-pub held : {out₀ text out : List ℕ} {pen : Pen} → Holds out₀ text out pen → length out ≡ length out₀
-held {out₀} {text} h = ap length h.bytes ∙ length_laid out₀ text
+lost : (text : List ℕ) (room : ℕ) → room < length text → printed text room ≡ None
+lost text room l = rw (lt-ltb room (length text) l)
+
+-- what an answer says of the text so far
+record Whole (out₀ text out : List ℕ) (at : ℕ) : Type 0 where
+  pub place : at ≡ length text
+  pub inside : length text ≤ length out₀
+  pub long : length out ≡ length out₀
+
+whole : {out₀ text out : List ℕ} {at : ℕ} → Prints out₀ text out (Some at) → Whole out₀ text out at
+whole {out₀} {text} {out} {at} h = by (ltb (length out₀) (length text)) refl h.says
+  where
+    by : (t : Bool) → ltb (length out₀) (length text) ≡ t → Some at ≡ (if t then None else Some (length text)) → Whole out₀ text out at
+    by true e p = absurd (cc)
+    by false e p = record { place = cc; inside = ltb-false (length out₀) (length text) e; long = ap length h.bytes ∙ length_laid out₀ text }
+
+pub whole_inside : {out₀ text out : List ℕ} {n : ℕ} → Prints out₀ text out (Some n) → n ≤ length out₀
+whole_inside h = let w = whole h in omega (arith, w.place, w.inside)
+
+shorter : {out₀ text out : List ℕ} → Prints out₀ text out None → length out₀ < length text
+shorter {out₀} {text} {out} h = by (ltb (length out₀) (length text)) refl h.says
+  where
+    by : (t : Bool) → ltb (length out₀) (length text) ≡ t → ◌≡◌ {A = Option ℕ} None (if t then None else Some (length text)) → length out₀ < length text
+    by true e p = ltb-true (length out₀) (length text) e
+    by false e p = absurd (cc)
 
 -- a byte is added, or lost
-pub put_more : {out : List ℕ} {pen : Pen} {byte : ℕ} → pen.at < length out → Adds (byte ∷ []) out pen (set out pen.at byte) (pen_at (pen.at + 1) pen.full)
-put_more {out} {pen} {byte} l =
+pub put_more : {out : List ℕ} {at byte : ℕ} → at < length out → Adds (byte ∷ []) out at (set out at byte) (Some (at + 1))
+put_more {out} {at} {byte} l =
     record {
       after = λ out₀ before h.
-          let e : pen.at ≡ length before = omega (arith, h.place, held h) in
-          let n : length (before ++ (byte ∷ [])) ≡ length before + 1 = length-append before (byte ∷ []) in
+          let w = whole h in
+          let n : at + 1 ≡ length (before ++ (byte ∷ [])) = omega (arith, w.place, length-append before (byte ∷ [])) in
           record {
-            bytes = rw (e, h.bytes) (laid_more out₀ before byte (omega (arith, held h)));
-            place = omega (arith, h.place, held h);
-            lost = h.lost ∙ le-ltb (length out₀) (length before) (omega (arith, held h)) ∙ sym (le-ltb (length out₀) (length (before ++ (byte ∷ []))) (omega (arith, held h)));
+            bytes = rw (w.place, h.bytes) (laid_more out₀ before byte (omega (arith, w.place, w.long)));
+            says = ap Some n ∙ sym (fits (before ++ (byte ∷ [])) (length out₀) (omega (arith, w.long)));
           };
     }
 
-pub put_lost : {out : List ℕ} {pen : Pen} {byte : ℕ} → length out ≤ pen.at → Adds (byte ∷ []) out pen out (pen_at pen.at true)
-put_lost {out} {pen} {byte} l =
+pub put_lost : {out : List ℕ} {at byte : ℕ} → length out ≤ at → Adds (byte ∷ []) out at out None
+put_lost {out} {at} {byte} l =
     record {
       after = λ out₀ before h.
-          let n : length (before ++ (byte ∷ [])) ≡ length before + 1 = length-append before (byte ∷ []) in
+          let w = whole h in
           record {
-            bytes = h.bytes ∙ laid_past out₀ before (byte ∷ []) (omega (arith, h.place, held h));
-            place = omega (arith, h.place, held h);
-            lost = sym (lt-ltb (length out₀) (length (before ++ (byte ∷ []))) (omega (arith, h.place, held h)));
+            bytes = h.bytes ∙ laid_past out₀ before (byte ∷ []) (omega (arith, w.place, w.long));
+            says = sym (lost (before ++ (byte ∷ [])) (length out₀) (omega (arith, w.place, w.long, length-append before (byte ∷ []))));
           };
     }
-
-pub adds_none : {out : List ℕ} {pen : Pen} → Adds [] out pen out pen
-adds_none {out} {pen} =
-    record { after = λ out₀ before h. rw (append-nil before) h }
 
 -- one text after another
-pub adds_then : {a b out₁ out₂ out₃ : List ℕ} {p₁ p₂ p₃ : Pen} → Adds a out₁ p₁ out₂ p₂ → Adds b out₂ p₂ out₃ p₃ → Adds (a ++ b) out₁ p₁ out₃ p₃
+pub adds_then : {a b out₁ out₂ out₃ : List ℕ} {p q : ℕ} {answer : Option ℕ} → Adds a out₁ p out₂ (Some q) → Adds b out₂ q out₃ answer → Adds (a ++ b) out₁ p out₃ answer
 adds_then {a} {b} f g = record { after = λ out₀ before h. rw (sym (append_assoc before a b)) (g.after out₀ (before ++ a) (f.after out₀ before h)) }
 
 -- where a byte was lost, what would follow is lost
-pub adds_past : {a out₁ out₂ : List ℕ} {p₁ p₂ : Pen} (b : List ℕ) → Adds a out₁ p₁ out₂ p₂ → p₂.full ≡ true → Adds (a ++ b) out₁ p₁ out₂ p₂
-adds_past {a} {out₁} {out₂} {p₁} {p₂} b f full =
-    record {
+pub adds_past : {a out₁ out₂ : List ℕ} {p : ℕ} {answer : Option ℕ} (b : List ℕ) → answer ≡ None → Adds a out₁ p out₂ None → Adds (a ++ b) out₁ p out₂ answer
+adds_past {a} {out₁} {out₂} b e f =
+    rw e
+    (record {
       after = λ out₀ before h.
           let g = f.after out₀ before h in
-          let past : length out₀ < length (before ++ a) = ltb-true (length out₀) (length (before ++ a)) (sym g.lost ∙ full) in
-          let n : length ((before ++ a) ++ b) ≡ length (before ++ a) + length b = length-append (before ++ a) b in
+          let past = shorter g in
+          let n = length-append (before ++ a) b in
           rw (sym (append_assoc before a b))
-          (record {
-            bytes = g.bytes ∙ laid_past out₀ (before ++ a) b (omega arith);
-            place = omega (arith, g.place);
-            lost = full ∙ sym (lt-ltb (length out₀) (length ((before ++ a) ++ b)) (omega arith));
-          });
-    }
+          (record { bytes = g.bytes ∙ laid_past out₀ (before ++ a) b (omega arith); says = sym (lost ((before ++ a) ++ b) (length out₀) (omega arith)) });
+    })
 
 -- the same text by another name
-pub adds_as : {a b out₁ out₂ : List ℕ} {p₁ p₂ : Pen} → a ≡ b → Adds a out₁ p₁ out₂ p₂ → Adds b out₁ p₁ out₂ p₂
-adds_as {a} {b} e f = rw (sym e) f
-
--- what a pen tells is how long the text is, or that the buffer is shorter
-tells : (full : Bool) (at n room : ℕ) → full ≡ ltb room n → at ≡ min n room
-    → (if full then Printed.Short else Printed.Whole at) ≡ (if ltb room n then Printed.Short else Printed.Whole n)
-tells true at n room e p = rw (sym e)
-tells false at n room e p = let l : n ≤ room = ltb-false room n (sym e) in let q : at ≡ n = omega arith in rw (sym e, q)
+pub adds_as : {a b out₁ out₂ : List ℕ} {p : ℕ} {answer : Option ℕ} → a ≡ b → Adds a out₁ p out₂ answer → Adds b out₁ p out₂ answer
+adds_as e f = rw (sym e) f
 
 -- a text that is printed from the buffer's start on
-pub prints : {text out₀ out : List ℕ} {pen : Pen} {answer : Printed} → Adds text out₀ (pen_at 0 false) out pen → Told pen answer → Prints out₀ text out answer
-prints {text} {out₀} {out} {pen} {answer} f t =
-    let h : Holds out₀ text out pen = f.after out₀ [] (record { bytes = laid_none out₀; place = omega arith; lost = sym (le-ltb (length out₀) 0 (omega arith)) }) in
-    record { bytes = h.bytes; says = t.says ∙ tells pen.full pen.at (length text) (length out₀) h.lost h.place }
+pub prints : {text out₀ out : List ℕ} {answer : Option ℕ} → Adds text out₀ 0 out answer → Prints out₀ text out answer
+prints {out₀ = out₀} f = f.after out₀ [] (record { bytes = laid_none out₀; says = sym (fits [] (length out₀) (omega arith)) })
 
--- a text that is whole is inside its buffer
-whole : (t : Bool) (room size n : ℕ) → ltb room size ≡ t → (if t then Printed.Short else Printed.Whole size) ≡ Printed.Whole n → n ≤ room
-whole true room size n e p = let z : ◌≡◌ {A = ℕ} 0 1 = cc in absurd (omega arith)
-whole false room size n e p = let z : n ≡ size = cc in omega (arith, ltb-false room size e)
+-- a text that is added part by part: what was added of it so far, and what is left
+pub record Parts (text rest out₀ : List ℕ) (at₀ : ℕ) (out : List ℕ) (answer : Option ℕ) : Type 0 where
+  pub done : List ℕ
+  pub adds : Adds done out₀ at₀ out answer
+  pub is : text ≡ done ++ rest
 
-pub whole_inside : {out₀ text out : List ℕ} {answer : Printed} {n : ℕ} → Prints out₀ text out answer → answer ≡ Printed.Whole n → n ≤ length out₀
-whole_inside {out₀} {text} {n = n} p e = whole (ltb (length out₀) (length text)) (length out₀) (length text) n refl (sym p.says ∙ e)
+pub parts_none : {text rest out : List ℕ} {at : ℕ} → text ≡ rest → Parts text rest out at out (Some at)
+parts_none e = record { done = []; adds = record { after = λ out₀ before h. rw (append-nil before) h }; is = e }
 
--- the first bytes of a list were added
-pub record Copying (bytes out₀ : List ℕ) (pen₀ : Pen) (i : ℕ) (out : List ℕ) (pen : Pen) : Type 0 where
-  pub inside : i ≤ length bytes
-  pub long : length out ≡ length out₀
-  pub adds : Adds (take i bytes) out₀ pen₀ out pen
+pub parts_more : {text rest part rest' out₀ out out' : List ℕ} {at₀ at : ℕ} {answer : Option ℕ} → Parts text rest out₀ at₀ out (Some at) → rest ≡ part ++ rest'
+    → Adds part out at out' answer → Parts text rest' out₀ at₀ out' answer
+parts_more {part = part} {rest'} h e a = record { done = h.done ++ part; adds = adds_then h.adds a; is = h.is ∙ ap (λ (l : List ℕ). h.done ++ l) e ∙ sym (append_assoc h.done part rest') }
 
-pub copying_none : {bytes out : List ℕ} {pen : Pen} → Copying bytes out pen 0 out pen
-copying_none = record { inside = omega arith; long = refl; adds = adds_none }
+pub parts_all : {text rest out₀ out : List ℕ} {at₀ : ℕ} {answer : Option ℕ} → Parts text rest out₀ at₀ out answer → rest ≡ [] → Adds text out₀ at₀ out answer
+parts_all h e = adds_as (sym (h.is ∙ ap (λ (l : List ℕ). h.done ++ l) e ∙ append-nil h.done)) h.adds
 
-pub copying_more : {bytes out₀ out out' : List ℕ} {i : ℕ} {pen₀ pen pen' : Pen} → Copying bytes out₀ pen₀ i out pen → i < length bytes
-    → Adds (get_or bytes i 0 ∷ []) out pen out' pen' → length out' ≡ length out → Copying bytes out₀ pen₀ (i + 1) out' pen'
-copying_more {bytes} {i = i} h l a k =
-    record { inside = omega arith; long = k ∙ h.long; adds = adds_as (sym (ap (λ (n : ℕ). take n bytes) (add-one i) ∙ take-suc bytes i 0 l)) (adds_then h.adds a) }
-
-pub copying_all : {bytes out₀ out : List ℕ} {i : ℕ} {pen₀ pen : Pen} → Copying bytes out₀ pen₀ i out pen → length bytes ≤ i → Adds bytes out₀ pen₀ out pen
-copying_all {bytes} {i = i} h l = adds_as (take_all i bytes l) h.adds
+pub parts_lost : {text rest out₀ out : List ℕ} {at₀ : ℕ} {answer : Option ℕ} → answer ≡ None → Parts text rest out₀ at₀ out None → Adds text out₀ at₀ out answer
+parts_lost {rest = rest} e h = adds_as (sym h.is) (adds_past rest e h.adds)

@@ -3,7 +3,7 @@ use Rattle.std.specs.Prelude.{◌+◌, ◌*◌, ◌/◌, ◌%◌, ◌∷◌, ◌
 use Prim.Native.Char.{code}
 use Prim.Native.String.{String}
 use Rattle.tokens.specs.Bool.{ℕ, zero, suc, List, [], ltb, get_or}
-use Rattle.tokens.specs.{Cause.number, Cause.place, declared.cause.Answer.Answer, declared.cause.Answer.TheVariants.Read, declared.cause.Answer.TheVariants.Refused}
+use Rattle.tokens.specs.{Cause.number, Cause.place, declared.cause.Answer.Answer}
 use Prim.Native.String as Text
 
 abbrev pub ascii : String → List ℕ  -- the bytes of a text in ASCII
@@ -41,11 +41,11 @@ lines_from words width n (suc count) = line_of words width n ++ lines_from words
 
 -- read: the three counts, a line a row of six words, a line a record of two; refused: number and place of the cause
 unfoldable pub text : Answer → List ℕ → List ℕ → List ℕ
-text (Read counts) rows records =
+text (Answer.Read counts) rows records =
     ascii "read "
     ++ (line (counts.rows ∷ counts.records ∷ counts.abandoned ∷ [])
     ++ (lines_from rows 6 0 counts.rows ++ lines_from records 2 0 counts.records))
-text (Refused cause) rows records = ascii "refused " ++ line (number cause ∷ place cause ∷ [])
+text (Answer.Refused cause) rows records = ascii "refused " ++ line (number cause ∷ place cause ∷ [])
 
 abbrev pub bad_file : List ℕ  -- a file that is no sheet
 bad_file = ascii "bad file\n"

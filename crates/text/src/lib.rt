@@ -1,186 +1,138 @@
-// What the box prints (RULES F3), written into a lent buffer.
+// What the box prints (RULES F3), written into a lent buffer. A function answers how many bytes of the buffer are written then, and None
+// where a byte was lost because the buffer is shorter than the text: it then holds the beginning of the text.
 #![tactic(auto)]
 
 ghost use Rattle.std.specs.Prelude.{◌+◌, ◌*◌, ◌≤◌, ◌<◌, ◌≡◌, get_or, [], ◌∷◌, ◌++◌};
-ghost use Rattle.text.specs.Text.{ascii, decimal, line, line_of, lines_from, text, bad_file};
-ghost use Rattle.tokens.specs.Cause.{number, place};
-ghost use Rattle.text.specs.Post.{Prints, Adds, Told};
+ghost use Rattle.text.specs.Text.{decimal, line, line_of, lines_from, text, bad_file};
+ghost use Rattle.text.specs.Post.{Prints, Adds};
 
 use tokens::cause::{Answer, Cause, Counts};
-use tokens::causes;
 
-// How long a printed text is, or that the buffer is shorter; it then holds the beginning of the text.
-#[derive(Clone, Copy)]
-pub enum Printed {
-    Whole(usize),
-    Short,
-}
+const SPACE: u8 = b' ';
 
-// Where the next byte goes, and whether one was lost because the buffer is full.
-#[derive(Clone, Copy)]
-struct Pen {
-    at: usize,
-    full: bool,
-}
-
-const SPACE: u8 = 32;
-
-const NEWLINE: u8 = 10;
+const NEWLINE: u8 = b'\n';
 
 // Adds a byte.
-fn put(out: &mut [u8], pen: Pen, byte: u8) -> Pen
-    ensures { Adds (byte ∷ []) out.old pen out.new result }
+fn put(out: &mut [u8], at: usize, byte: u8) -> Option<usize>
+    ensures { Adds (byte ∷ []) out.old at out.new result }
 {
-    let at = pen.at;
-    if at < out.len() {
-        out[at] = byte;
-        return Pen {
-            at: at + 1,
-            full: pen.full,
-        };
+    if out.len() <= at {
+        return None;
     }
-    Pen { at: at, full: true }
+    out[at] = byte;
+    Some(at + 1)
 }
 
 // Adds the bytes of a list.
-fn put_all(out: &mut [u8], pen: Pen, bytes: &[u8]) -> Pen
-    ensures { Adds bytes.now out.old pen out.new result }
+fn put_all(out: &mut [u8], mut at: usize, bytes: &[u8]) -> Option<usize>
+    ensures { Adds bytes.now out.old at out.new result }
 {
-    let mut here = pen;
-    let mut i = 0;
-    while i < bytes.len() {
-        here = put(out, here, bytes[i]);
-        i += 1;
+    for &byte in bytes {
+        at = put(out, at, byte)?;
     }
-    here
+    Some(at)
 }
 
-// Adds a decimal number.
-fn put_number(out: &mut [u8], pen: Pen, n: usize) -> Pen
-    ensures { Adds (decimal n) out.old pen out.new result }
+// Adds a decimal number. std's own printing promises nothing of a text that does not fit, and here each byte of the buffer is promised.
+fn put_number(out: &mut [u8], at: usize, n: usize) -> Option<usize>
+    ensures { Adds (decimal n) out.old at out.new result }
 {
-    let digit = 48 + (n % 10) as u8;
+    let digit = b'0' + (n % 10) as u8;
     if n < 10 {
-        return put(out, pen, digit);
+        return put(out, at, digit);
     }
-    let before = put_number(out, pen, n / 10);
-    put(out, before, digit)
+    let last = put_number(out, at, n / 10)?;
+    put(out, last, digit)
 }
 
 // Adds a number and a byte after it.
-fn put_ended(out: &mut [u8], pen: Pen, n: usize, end: u8) -> Pen
-    ensures { Adds (decimal n ++ (end ∷ [])) out.old pen out.new result }
+fn put_ended(out: &mut [u8], at: usize, n: usize, end: u8) -> Option<usize>
+    ensures { Adds (decimal n ++ (end ∷ [])) out.old at out.new result }
 {
-    let before = put_number(out, pen, n);
-    put(out, before, end)
+    let after = put_number(out, at, n)?;
+    put(out, after, end)
 }
 
 // A word of a group of words, in groups of so many; past the end it reads as 0.
 fn word(words: &[u32], width: usize, n: usize, i: usize) -> usize
-    requires { (1 ≤ width) × (width ≤ 7) }
     ensures { result ≡ get_or words.now (width * n + i) 0 }
 {
-    if words.len() <= n {
-        return 0;
-    }
-    if words.len() <= i {
-        return 0;
-    }
-    let at = width * n + i;
-    if at < words.len() {
-        words[at] as usize
-    } else {
-        0
+    let at = width.saturating_mul(n).saturating_add(i);
+    match words.get(at) {
+        Some(&word) => word as usize,
+        None => 0,
     }
 }
 
 // Adds the line of a group of words.
-fn put_line(out: &mut [u8], pen: Pen, words: &[u32], width: usize, n: usize) -> Pen
-    requires { (1 ≤ width) × (width ≤ 7) }
-    ensures { Adds (line_of words.now width n) out.old pen out.new result }
+fn put_line(out: &mut [u8], mut at: usize, words: &[u32], width: usize, n: usize) -> Option<usize>
+    requires { 1 ≤ width }
+    ensures { Adds (line_of words.now width n) out.old at out.new result }
 {
-    let mut here = pen;
-    let mut i = 0;
-    while i < width - 1 {
-        let x = word(words, width, n, i);
-        here = put_ended(out, here, x, SPACE);
-        i += 1;
+    for i in 0..width - 1 {
+        at = put_ended(out, at, word(words, width, n, i), SPACE)?;
     }
-    let last = word(words, width, n, i);
-    put_ended(out, here, last, NEWLINE)
+    put_ended(out, at, word(words, width, n, width - 1), NEWLINE)
 }
 
 // Adds the lines of the first groups of words, and stops where the buffer is full.
-fn put_lines(out: &mut [u8], pen: Pen, words: &[u32], width: usize, count: usize) -> Pen
-    requires { (1 ≤ width) × (width ≤ 7) }
-    ensures { Adds (lines_from words.now width 0 count) out.old pen out.new result }
+fn put_lines(
+    out: &mut [u8],
+    mut at: usize,
+    words: &[u32],
+    width: usize,
+    count: usize,
+) -> Option<usize>
+    requires { 1 ≤ width }
+    ensures { Adds (lines_from words.now width 0 count) out.old at out.new result }
 {
-    let mut here = pen;
-    let mut n = 0;
-    while n < count {
-        if here.full {
-            return here;
-        }
-        here = put_line(out, here, words, width, n);
-        n += 1;
+    for n in 0..count {
+        at = put_line(out, at, words, width, n)?;
     }
-    here
+    Some(at)
 }
 
 // Adds the line of the three counts.
-fn put_counts(out: &mut [u8], pen: Pen, counts: Counts) -> Pen
-    ensures { Adds (line (counts.rows ∷ counts.records ∷ counts.abandoned ∷ [])) out.old pen out.new result }
+fn put_counts(out: &mut [u8], at: usize, counts: Counts) -> Option<usize>
+    ensures { Adds (line (counts.rows ∷ counts.records ∷ counts.abandoned ∷ [])) out.old at out.new result }
 {
-    let first = put_ended(out, pen, counts.rows, SPACE);
-    let second = put_ended(out, first, counts.records, SPACE);
+    let first = put_ended(out, at, counts.rows, SPACE)?;
+    let second = put_ended(out, first, counts.records, SPACE)?;
     put_ended(out, second, counts.abandoned, NEWLINE)
 }
 
-// Adds the text of a reading.
-fn put_read(out: &mut [u8], pen: Pen, counts: Counts, rows: &[u32], records: &[u32]) -> Pen
-    ensures { Adds (text (Answer.Read counts) rows.now records.now) out.old pen out.new result }
+// Prints a reading.
+fn print_read(out: &mut [u8], counts: Counts, rows: &[u32], records: &[u32]) -> Option<usize>
+    ensures { Prints out.old (text (Answer.Read counts) rows.now records.now) out.new result }
 {
-    let word = put_all(out, pen, b"read ");
-    let first = put_counts(out, word, counts);
-    let tree = put_lines(out, first, rows, 6, counts.rows);
+    let word = put_all(out, 0, b"read ")?;
+    let head = put_counts(out, word, counts)?;
+    let tree = put_lines(out, head, rows, 6, counts.rows)?;
     put_lines(out, tree, records, 2, counts.records)
 }
 
-// Adds the text of a refusal.
-fn put_refused(out: &mut [u8], pen: Pen, cause: Cause) -> Pen
-    ensures { Adds (ascii "refused " ++ line (number cause ∷ place cause ∷ [])) out.old pen out.new result }
+// Prints a refusal.
+fn print_refused(out: &mut [u8], cause: Cause) -> Option<usize>
+    ensures { Prints out.old (text (Answer.Refused cause) [] []) out.new result }
 {
-    let word = put_all(out, pen, b"refused ");
-    let number = causes::number_of(cause) as usize;
-    let first = put_ended(out, word, number, SPACE);
-    put_ended(out, first, causes::place_of(cause), NEWLINE)
-}
-
-// What is told of a text that was printed from the buffer's start on.
-fn told(pen: Pen) -> Printed
-    ensures { Told pen result }
-{
-    if pen.full {
-        return Printed::Short;
-    }
-    Printed::Whole(pen.at)
+    let word = put_all(out, 0, b"refused ")?;
+    let first = put_ended(out, word, cause.number() as usize, SPACE)?;
+    put_ended(out, first, cause.place(), NEWLINE)
 }
 
 // Prints an answer with the rows and records that it counts.
-pub fn print_answer(out: &mut [u8], answer: Answer, rows: &[u32], records: &[u32]) -> Printed
+pub fn print_answer(out: &mut [u8], answer: Answer, rows: &[u32], records: &[u32]) -> Option<usize>
     ensures { Prints out.old (text answer rows.now records.now) out.new result }
 {
-    let start = Pen { at: 0, full: false };
     match answer {
-        Answer::Read(counts) => told(put_read(out, start, counts, rows, records)),
-        Answer::Refused(cause) => told(put_refused(out, start, cause)),
+        Answer::Read(counts) => print_read(out, counts, rows, records),
+        Answer::Refused(cause) => print_refused(out, cause),
     }
 }
 
 // Prints that a file is no sheet.
-pub fn print_bad_file(out: &mut [u8]) -> Printed
+pub fn print_bad_file(out: &mut [u8]) -> Option<usize>
     ensures { Prints out.old bad_file out.new result }
 {
-    let start = Pen { at: 0, full: false };
-    told(put_all(out, start, b"bad file\n"))
+    put_all(out, 0, b"bad file\n")
 }

@@ -1,4 +1,4 @@
 pub mod Table
 pub mod Stands
-mod Passed
-mod Quick
+mod Outside
+mod Nesting

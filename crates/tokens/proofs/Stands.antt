@@ -14,4 +14,4 @@ stands_not kinds at h = go (native.Mathlib.Decide.dec_lt at (length kinds))
     go (no l) = absurd (h (get_or-eq_default kinds 0 (omega arith)))
 
 pub stands : (kinds : List ℕ) {at k : ℕ} → get_or kinds at 0 ≡ suc k → at < length kinds
-stands kinds {at} {k} e = stands_not kinds at (λ z. let y : ◌≡◌ {A = ℕ} (suc k) 0 = cc in omega arith)
+stands kinds {at} {k} e = stands_not kinds at (λ z. cc)

@@ -1,7 +1,11 @@
-// The answers that the box can show: Read with its counts, or Refused with a cause that carries its place.
+// The answers that the box can show: read, with its counts, or refused, with a cause that carries its place (RULES A1 to A14).
+ghost use Rattle.std.specs.Prelude.{◌≡◌};
+ghost use Rattle.tokens.specs.Cause.{number, place};
+
+use std::fmt;
 
 // Why a list or a tree is refused. Each case carries its place.
-#[derive(Clone, Copy)]
+#[derive(Clone, Copy, Debug, PartialEq, Eq)]
 pub enum Cause {
     // 1: no tokens, or over 2,048 (a tree: no words, or over 12,288)
     Length(usize),
@@ -34,16 +38,76 @@ pub enum Cause {
 }
 
 // What a reading counts.
-#[derive(Clone, Copy)]
+#[derive(Clone, Copy, Debug, PartialEq, Eq)]
 pub struct Counts {
     pub rows: usize,
     pub records: usize,
     pub abandoned: usize,
 }
 
-// The answer of an entry.
-#[derive(Clone, Copy)]
+// The answer of an entry: an enum of this project, with these two cases (RULES S2).
+#[derive(Clone, Copy, Debug, PartialEq, Eq)]
 pub enum Answer {
     Read(Counts),
     Refused(Cause),
+}
+
+impl Cause {
+    // The number of a cause in RULES A.
+    pub fn number(self) -> u32
+        ensures { result ≡ number self }
+    {
+        match self {
+            Cause::Length(_) => 1,
+            Cause::FlagLength(_) => 2,
+            Cause::RowRoom(_) => 3,
+            Cause::RecordRoom(_) => 4,
+            Cause::Flag(_) => 5,
+            Cause::Kind(_) => 6,
+            Cause::Nesting(_) => 7,
+            Cause::Unexpected(_) => 8,
+            Cause::Target(_) => 9,
+            Cause::Spread(_) => 10,
+            Cause::RestName(_) => 11,
+            Cause::RestLast(_) => 12,
+            Cause::Tree(_) => 13,
+            Cause::Outside(_) => 14,
+        }
+    }
+
+    // The place that a cause carries.
+    pub fn place(self) -> usize
+        ensures { result ≡ place self }
+    {
+        match self {
+            Cause::Length(place)
+            | Cause::FlagLength(place)
+            | Cause::RowRoom(place)
+            | Cause::RecordRoom(place)
+            | Cause::Flag(place)
+            | Cause::Kind(place)
+            | Cause::Nesting(place)
+            | Cause::Unexpected(place)
+            | Cause::Target(place)
+            | Cause::Spread(place)
+            | Cause::RestName(place)
+            | Cause::RestLast(place)
+            | Cause::Tree(place)
+            | Cause::Outside(place) => place,
+        }
+    }
+}
+
+// A cause as the box prints it: its number and its place.
+impl fmt::Display for Cause {
+    fn fmt<W: fmt::Write>(&self, f: &mut fmt::Formatter<W>) -> fmt::Result {
+        write!(f, "{} {}", self.number(), self.place())
+    }
+}
+
+// Counts as the box prints them: rows, records and abandoned heads.
+impl fmt::Display for Counts {
+    fn fmt<W: fmt::Write>(&self, f: &mut fmt::Formatter<W>) -> fmt::Result {
+        write!(f, "{} {} {}", self.rows, self.records, self.abandoned)
+    }
 }

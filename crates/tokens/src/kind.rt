@@ -1,4 +1,5 @@
 // The kinds of tokens by name, as RULES T4 numbers them. Names are the crate's; a modifier's name and the other reserved words are one kind each.
+// Bytes and no enum: a sheet is lent bytes (the C interface), and the functions here and in `operators` promise an answer for each of the 256.
 pub const IDENT: u8 = 1; // a name
 
 pub const ASYNC: u8 = 2; // async

@@ -1,5 +1,4 @@
 mod Masks
 mod Shapes
-mod Columns
 pub mod Walks
 pub mod Whole

@@ -4,11 +4,9 @@ use Rattle.std.specs.Prelude.{if◌then◌else◌}
 use Prim.Native.Nat.{ℕ, zero, suc, ◌+◌, ◌*◌, ◌/◌, ◌%◌, ◌^◌, ◌<◌}
 use mathlib.Core.Path.{◌≡◌, sym, ap, ◌∙◌}
 use mathlib.Core.Bool.{Bool, true, false}
-use mathlib.Core.List.{List, [], ◌∷◌, map}
 use native.Mathlib.Omega.{arith}
 use native.Mathlib.Nat.{div-div-eq-div-mul, pow-succ', not-suc-le-zero, le_of_suc-le-suc, add-zero}
 use lib.Dec.{eqb}
-use lib.ListN.{get_or}
 use Rattle.rows.specs.Mask.{has, bits, mask}
 
 bit_first : (b : Bool) (x : ℕ) → has ((if b then 1 else 0) + 2 * x) 0 ≡ b
@@ -35,15 +33,3 @@ has_bits kinds (suc n) k (suc i) h =
 pub has_mask : (kinds : ℕ → Bool) (k : ℕ) → k < 64 → has (mask kinds) k ≡ kinds k
 unfolding mask
 has_mask kinds k h = has_bits kinds 64 0 k h ∙ ap kinds (let e : 0 + k ≡ k = omega arith in e)
-
--- n numbers, from k on
-unfoldable pub numbers : ℕ → ℕ → List ℕ
-numbers zero k = []
-numbers (suc n) k = k ∷ numbers n (k + 1)
-
--- what stands at each place of a list that is made place by place
-pub at_place : {A : Type 0} (f : ℕ → A) (n k i : ℕ) (d : A) → i < n → get_or (map f (numbers n k)) i d ≡ f (k + i)
-unfolding numbers
-at_place f zero k i d h = absurd (not-suc-le-zero h)
-at_place f (suc n) k zero d h = ap f (sym (add-zero k))
-at_place f (suc n) k (suc i) d h = at_place f n (k + 1) i d (le_of_suc-le-suc h) ∙ ap f (let e : k + 1 + i ≡ k + suc i = omega arith in e)

@@ -1,20 +1,23 @@
 -- Laws of the table of shapes: what its numbers say of a kid at a place. Past the table, a kind over 50 has no kids, and none over 63 may be one.
 -- Assumes nothing.
 use Rattle.std.specs.Prelude.{if◌then◌else◌}
-use Prim.Native.Nat.{ℕ, zero, suc, ◌+◌, ◌-◌, ◌≤◌, ◌<◌}
+use Prim.Native.Nat.{ℕ, zero, suc, ◌+◌, ◌≤◌, ◌<◌}
 use mathlib.Core.Path.{◌≡◌, refl, sym, ap, ◌∙◌}
 use mathlib.Core.Bool.{Bool, true, false, not}
-use mathlib.Core.List.{List, [], ◌∷◌, map}
+use mathlib.Core.List.{List, [], ◌∷◌}
 use native.Mathlib.Omega.{arith}
-use native.Mathlib.Nat.{zero-add}
 use lib.Dec.{eqb, leb, ltb}
+use mir.Val.{bool_byte}
 use lib.ListN.{length, get_or}
-use borrow.Author.Tests.{not-true, lt-ltb, le-ltb, le-leb, lt-leb, leb-true, eq-eqb, ne_eqb}
+use borrow.Author.Tests.{not-true, lt-ltb, le-ltb, lt-leb, leb-true, eqb-true, ne_eqb}
 use Rattle.tokens.specs.Bool.{◌or◌, ◌and◌, ◌is◌, between}
+use Rattle.std.specs.List.{list_all, range_with_len}
+use Rattle.tokens.proofs.Table.{in_range}
 use Rattle.rows.specs.Row as row
-use Rattle.rows.specs.Mask.{has, mask, cells, Cell}
+use Rattle.rows.specs.Mask.{has, bits, mask, cells, Cell}
+use Rattle.trees.specs.declared.table.TheConstants.{PARAMETERS, S}
 use Rattle.rows.specs.Shape.{Shape, exactly, is_left_hand_side, is_unary, is_binary, is_logical, is_assignment, is_expression, is_body, is_binding, is_parameter, is_simple_target, is_target, only, nothing, may_be, may_end, fits, least, shape_of}
-use Rattle.trees.proofs.Masks.{has_mask, numbers, at_place}
+use Rattle.trees.proofs.Masks.{has_mask}
 use Rattle.rows.proofs.Tests.{and_left, and_right}
 
 -- a kind over 50 has no kids
@@ -26,49 +29,37 @@ beyond kind h =
     no : (k : ℕ) → leb k 50 ≡ true → eqb kind k ≡ false
     no k e = ne_eqb kind k (omega (arith, leb-true k 50 e))
 
--- what a test says of each number below n, if it says so of all of them together
-pub all_below : (f : ℕ → Bool) (n : ℕ) → map f (numbers n 0) ≡ map (λ (k : ℕ). true) (numbers n 0) → (k : ℕ) → k < n → f k ≡ true
-all_below f n e k h =
-    ap f (sym (zero-add k)) ∙ sym (at_place f n 0 k true h) ∙ ap (λ (l : List Bool). get_or l k true) e ∙ at_place (λ (k : ℕ). true) n 0 k true h
-
--- what a test says of the shape of each kind, if it says so of all in the table together and of no kids
-pub all_shapes : (test : Shape → Bool) → map (λ (k : ℕ). test (shape_of k)) (numbers 51 0) ≡ map (λ (k : ℕ). true) (numbers 51 0) → test (exactly []) ≡ true
-    → (kind : ℕ) → test (shape_of kind) ≡ true
+-- what a test says of the shape of each kind, if it says so of each in the table and of no kids
+pub all_shapes : (test : Shape → Bool) → list_all (λ k. test (shape_of k)) (range_with_len 0 51) ≡ true → test (exactly []) ≡ true → (kind : ℕ) → test (shape_of kind) ≡ true
 all_shapes test all none kind = go (native.Mathlib.Decide.dec_le 51 kind)
   where
     go : Dec (51 ≤ kind) → test (shape_of kind) ≡ true
     go (yes l) = ap test (beyond kind l) ∙ none
-    go (no l) = all_below (λ (k : ℕ). test (shape_of k)) 51 all kind (omega arith)
+    go (no l) = in_range (λ k. test (shape_of k)) 0 51 all kind (omega arith) (omega arith)
 
--- no row has more than three fixed kids in front, and one at the end
-pub front_few : (kind : ℕ) → length (shape_of kind).front ≤ 3
-unfolding numbers shape_of
-front_few kind = leb-true _ _ (all_shapes (λ (s : Shape). leb (length s.front) 3) refl refl kind)
+-- how many kids stand in front and at the end, by the kinds of those that may: none of them is without kinds
+abbrev pub some : ℕ → ℕ
+some x = bool_byte (not (eqb x 0))
 
-pub ending_few : (kind : ℕ) → length (shape_of kind).ending ≤ 1
-unfolding numbers shape_of
-ending_few kind = leb-true _ _ (all_shapes (λ (s : Shape). leb (length s.ending) 1) refl refl kind)
+number : Shape → ℕ → ℕ
+number s place = get_or (cells s) place 0
+
+pub front_cell : (kind : ℕ) {f a b c : ℕ} → Cell (shape_of kind) 1 a → Cell (shape_of kind) 2 b → Cell (shape_of kind) 3 c → f ≡ some a + some b + some c → Cell (shape_of kind) 0 f
+unfolding number bits mask cells is_left_hand_side is_unary is_binary is_logical is_assignment is_expression is_body is_binding is_parameter is_simple_target is_target only nothing shape_of
+front_cell kind x y z e =
+    let n = eqb-true _ _ (all_shapes (λ (s : Shape). eqb (number s 0) (some (number s 1) + some (number s 2) + some (number s 3))) refl refl kind) in
+    record { is = e ∙ rw (x.is, y.is, z.is) (sym n) }
+
+pub ending_cell : (kind : ℕ) {e x : ℕ} → Cell (shape_of kind) 7 x → e ≡ some x → Cell (shape_of kind) 6 e
+unfolding number bits mask cells is_left_hand_side is_unary is_binary is_logical is_assignment is_expression is_body is_binding is_parameter is_simple_target is_target only nothing shape_of
+ending_cell kind z e =
+    let n = eqb-true _ _ (all_shapes (λ (s : Shape). eqb (number s 6) (some (number s 7))) refl refl kind) in
+    record { is = e ∙ rw z.is (sym n) }
 
 -- the fixed kids are in front and at the end
-pub enough : {s : Shape} {f e kids : ℕ} → Cell s 0 f → f ≤ kids → Cell s 6 e → leb e (kids - f) ≡ leb (least s) kids
+pub enough : {s : Shape} {f e : ℕ} (kids : ℕ) → Cell s 0 f → Cell s 6 e → leb (f + e) kids ≡ leb (least s) kids
 unfolding cells least
-enough {s} {f} {e} {kids} x h y = go (native.Mathlib.Decide.dec_le e (kids - f))
-  where
-    p : f ≡ length s.front
-    p = x.is
-
-    q : e ≡ length s.ending
-    q = y.is
-
-    go : Dec (e ≤ kids - f) → leb e (kids - f) ≡ leb (length s.front + length s.ending) kids
-    go (yes l) = rw (le-leb e (kids - f) l, le-leb (length s.front + length s.ending) kids (omega arith))
-    go (no l) = rw (lt-leb e (kids - f) (omega arith), lt-leb (length s.front + length s.ending) kids (omega arith))
-
-pub not_enough : {s : Shape} {f kids : ℕ} → Cell s 0 f → kids < f → false ≡ leb (least s) kids
-unfolding cells least
-not_enough {s} {f} {kids} x h =
-    let p : f ≡ length s.front = x.is in
-    sym (lt-leb (length s.front + length s.ending) kids (omega arith))
+enough kids x y = rw (x.is, y.is)
 
 cell_front : (s : Shape) (before : ℕ) → before < 3 → get_or (cells s) (before + 1) 0 ≡ mask (get_or s.front before nothing)
 unfolding cells
@@ -82,54 +73,44 @@ unfolding cells
 cell_ending s zero h = refl
 cell_ending s (suc n) h = absurd (omega arith)
 
--- a fixed kid in front
-pub in_front : {s : Shape} {f m before kid : ℕ} (after : ℕ) → Cell s 0 f → before < f → length s.front ≤ 3 → Cell s (before + 1) m → kid < 64
-    → has m kid ≡ may_be s before after kid
-unfolding cells may_be
-in_front {s} {f} {m} {before} {kid} after x h few y k =
-    let p : f ≡ length s.front = x.is in
-    let l : before < length s.front = omega arith in
-    ap (λ (n : ℕ). has n kid) (y.is ∙ cell_front s before (omega arith))
-    ∙ has_mask (get_or s.front before nothing) kid k
-    ∙ (rw (lt-ltb before (length s.front) l))
+-- what is asked of a kid: of a fixed one in front, of a fixed one at the end, and of one between them
+module _ {s : Shape} {f before kid : ℕ} (x : Cell s 0 f) (k : kid < 64) where
+  pub in_front : {m : ℕ} (after : ℕ) → f ≤ 3 → before < f → Cell s (before + 1) m → has m kid ≡ may_be s before after kid
+  unfolding cells may_be
+  in_front {m} after few h y =
+      let p : f ≡ length s.front = x.is in
+      let l : before < length s.front = omega arith in
+      ap (λ (n : ℕ). has n kid) (y.is ∙ cell_front s before (omega arith)) ∙ has_mask (get_or s.front before nothing) kid k ∙ rw (lt-ltb before (length s.front) l)
 
--- the fixed kid at the end
-pub at_end : {s : Shape} {f e m before after kid : ℕ} → Cell s 0 f → f ≤ before → Cell s 6 e → after < e → length s.ending ≤ 1 → Cell s 7 m → kid < 64
-    → has m kid ≡ may_be s before after kid
-unfolding cells may_be
-at_end {s} {f} {e} {m} {before} {after} {kid} x h y g few z k =
-    let p : f ≡ length s.front = x.is in
-    let q : e ≡ length s.ending = y.is in
-    ap (λ (n : ℕ). has n kid) (z.is ∙ cell_ending s after (omega arith))
-    ∙ has_mask (get_or s.ending after nothing) kid k
-    ∙ (rw (le-ltb before (length s.front) (omega arith), lt-ltb after (length s.ending) (omega arith)))
+  module _ {e after : ℕ} (y : Cell s 6 e) (h : f ≤ before) where
+    pub at_end : {m : ℕ} → e ≤ 1 → after < e → Cell s 7 m → has m kid ≡ may_be s before after kid
+    unfolding cells may_be
+    at_end few g z =
+        let p : f ≡ length s.front = x.is in
+        let q : e ≡ length s.ending = y.is in
+        ap (λ (n : ℕ). has n kid) (z.is ∙ cell_ending s after (omega arith))
+        ∙ has_mask (get_or s.ending after nothing) kid k
+        ∙ rw (le-ltb before (length s.front) (omega arith), lt-ltb after (length s.ending) (omega arith))
 
--- what is asked of a kid between the fixed ones
-between_them : {s : Shape} {f e before after : ℕ} (kid : ℕ) → Cell s 0 f → f ≤ before → Cell s 6 e → e ≤ after
-    → may_be s before after kid ≡ (s.many kid or (eqb after e and s.closing kid))
-unfolding cells may_be
-between_them {s} {f} {e} {before} {after} kid x h y g =
-    let p : f ≡ length s.front = x.is in
-    let q : e ≡ length s.ending = y.is in
-    rw (le-ltb before (length s.front) (omega arith), le-ltb after (length s.ending) (omega arith), q)
+    pub between_them : {m : ℕ} → e ≤ after → Cell s 4 m → may_be s before after kid ≡ (has m kid or (eqb after e and s.closing kid))
+    unfolding cells may_be
+    between_them g z =
+        let p : f ≡ length s.front = x.is in
+        let q : e ≡ length s.ending = y.is in
+        rw (le-ltb before (length s.front) (omega arith), le-ltb after (length s.ending) (omega arith), q, z.is, has_mask s.many kid k)
 
-module _ {s : Shape} {f e m before after kid : ℕ} (x : Cell s 0 f) (h : f ≤ before) (y : Cell s 6 e) (g : e ≤ after) (z : Cell s 4 m) (k : kid < 64) where
-  many_has : has m kid ≡ s.many kid
-  unfolding cells
-  many_has = ap (λ (n : ℕ). has n kid) z.is ∙ has_mask s.many kid k
+pub closing_has : {s : Shape} {m kid : ℕ} → Cell s 5 m → kid < 64 → has m kid ≡ s.closing kid
+unfolding cells
+closing_has {s} {kid = kid} z k = ap (λ (n : ℕ). has n kid) z.is ∙ has_mask s.closing kid k
 
-  -- one of any number
-  pub one_of_many : has m kid ≡ true → true ≡ may_be s before after kid
-  one_of_many t = sym (between_them kid x h y g ∙ rw (sym many_has, t))
+-- the sets that the last kid of a Property may be of
+pub parameters_has : (kid : ℕ) → kid < 64 → has PARAMETERS kid ≡ is_parameter kid
+unfolding bits mask is_parameter is_binding
+parameters_has kid h = has_mask is_parameter kid h
 
-  -- none of these, and not where a closing kid stands
-  pub no_closing : has m kid ≡ false → (after ≡ e → ⊥) → false ≡ may_be s before after kid
-  no_closing t n = sym (between_them kid x h y g ∙ rw (sym many_has, t, ne_eqb after e n))
-
-  -- where a closing kid stands
-  pub closing : {c : ℕ} → has m kid ≡ false → after ≡ e → Cell s 5 c → has c kid ≡ may_be s before after kid
-  unfolding cells
-  closing {c} t n w = ap (λ (i : ℕ). has i kid) w.is ∙ has_mask s.closing kid k ∙ sym (between_them kid x h y g ∙ rw (sym many_has, t, eq-eqb after e n))
+pub assignments_has : (kid : ℕ) → kid < 64 → has S kid ≡ is_assignment kid
+unfolding bits mask is_assignment is_logical is_binary is_unary is_left_hand_side
+assignments_has kid h = has_mask is_assignment kid h
 
 -- no set of these has the kind; no set of a shape has it
 abbrev none_of : ℕ → List (ℕ → Bool) → Bool
@@ -175,7 +156,7 @@ module _ {kid : ℕ} (h : 64 ≤ kid) where
   set n = none_at kid named no_set n
 
   none : (kind : ℕ) → none_in kid (shape_of kind) ≡ true
-  unfolding numbers only nothing shape_of
+  unfolding only nothing shape_of
   none kind =
       all_shapes (none_in kid)
       (rw (set 0, set 1, set 2, set 3, set 4, set 5, set 6, set 7, set 8, set 9, set 10)
@@ -209,3 +190,5 @@ module _ {kid : ℕ} (h : 64 ≤ kid) where
   pub no_end : (kind : ℕ) → false ≡ may_end kind row.Property kid
   unfolding may_end shape_of
   no_end kind = sym (if_none (kind is row.BindingObject) (none_many row.Arrow 0) (none_front row.Spread 0))
+
+pub ruleset last_kids = (parameters_has, assignments_has, no_end)

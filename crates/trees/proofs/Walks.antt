@@ -206,8 +206,7 @@ module _ {w : List ℕ} {kind kids low row top after s : ℕ} (v : Walked w kind
       let c : count k.trees ≡ count n.front + count (cons z.tree n.back) = ap count n.is ∙ count_join n.front (cons z.tree n.back) in
       let a : 0 + count n.front ≡ kids - 1 - after = omega (arith, c, count_cons z.tree n.back, n.number, k.number) in
       let y : false ≡ true = sym f ∙ rw (a, n.number) at (all_fit_at kind 0 n.front z.tree n.back g) in
-      let o : ◌≡◌ {A = ℕ} 0 1 = cc in
-      omega arith
+      cc
 
 -- no kid is left, though one should be
 pub none_left : {w : List ℕ} {kind kids low row top after : ℕ} → Walked w kind kids low row top after → after < kids → top ≤ low → KidsStand w kind kids low row → ⊥
@@ -252,15 +251,12 @@ shaped (node kind mark first end ts) h =
     record { listed = and_left _ _ a; enough = and_left _ _ b; fit = and_right (leb (least (shape_of kind)) (count ts)) (all_fit kind 0 ts) b }
 
 true_false : {b : Bool} → b ≡ true → b ≡ false → ⊥
-true_false p q = let o : ◌≡◌ {A = ℕ} 0 1 = cc in omega arith
+true_false p q = cc
 
 -- the row of which a walk is asked: its kind, the number of its kids, its size
 module _ {w : List ℕ} {row kind : ℕ} (k : kind ≡ get_or w (6 * row + 0) 0) where
   same_kind : (s : Stands w row) → kind ≡ kind_of s.tree
   same_kind s = k ∙ root_kind s.tree s.root
-
-  pub unlisted : is_listed kind ≡ false → Stands w row → ⊥
-  unlisted f s = true_false (shaped s.tree s.good).listed (ap is_listed (sym (same_kind s)) ∙ f)
 
   module _ {kids : ℕ} (n : kids ≡ get_or w (6 * row + 4) 0) where
     pub too_few : (is_listed kind and leb (least (shape_of kind)) kids) ≡ false → Stands w row → ⊥

@@ -3,6 +3,7 @@
 ghost use Rattle.std.specs.Prelude.{◌≤◌};
 ghost use Rattle.rows.specs.Part.{Decides, Stands, Before, KidsStand, LastKind, KidFits};
 
+use crate::shape;
 use rows::row_word;
 
 // The kind of a row's last kid, and 0 if it has none.
@@ -23,7 +24,7 @@ fn kid_fits(words: &[u32], row: usize, kind: u32, before: u64, after: u64) -> bo
 {
     let kid = row_word(words, row, 0);
     let last = last_kind(words, row);
-    crate::shape::fits(kind, before, after, kid, last)
+    shape::fits(kind, before, after, kid, last)
 }
 
 // Whether the rows from low on, up to row, are so many trees that may stand as the kids of a row of this kind.
@@ -33,20 +34,15 @@ fn kids_stand(words: &[u32], row: usize, kind: u32, kids: u64, low: usize) -> bo
     ensures { Decides (KidsStand words.now kind kids low row) result }
 {
     let mut top = row;
-    let mut after: u64 = 0;
-    while after < kids {
+    for after in 0..kids {
         if top <= low {
             return false;
         }
         let size = row_word(words, top - 1, 5) as usize;
-        if top - low < size {
-            return false;
-        }
-        if !kid_fits(words, top - 1, kind, kids - 1 - after, after) {
+        if top - low < size || !kid_fits(words, top - 1, kind, kids - 1 - after, after) {
             return false;
         }
         top -= size;
-        after += 1;
     }
     top == low
 }
@@ -57,18 +53,9 @@ pub fn row_stands(words: &[u32], row: usize) -> bool
     ensures { Decides (Stands words.now row) result }
 {
     let kind = row_word(words, row, 0);
-    if !crate::shape::is_listed(kind) {
-        return false;
-    }
-    let kids = row_word(words, row, 4) as u64;
-    if !crate::shape::is_enough(kind, kids) {
-        return false;
-    }
+    let kids = u64::from(row_word(words, row, 4));
     let size = row_word(words, row, 5) as usize;
-    if size == 0 {
-        return false;
-    }
-    if row + 1 < size {
+    if !shape::is_enough(kind, kids) || size == 0 || row + 1 < size {
         return false;
     }
     kids_stand(words, row, kind, kids, row + 1 - size)

@@ -1,5 +1,5 @@
 // The public entries for programs in C and Rust, on numbers and slices. What an entry returns is 0, or the number that RULES A gives a
-// refusal; what it tells beside that it writes to the words that are lent for it.
+// refusal; what it tells beside that it writes to the words that are lent for it. Numbers and not enums, and a function for each entry: the C interface.
 #![tactic(auto)]
 
 ghost use Rattle.std.specs.Prelude.{◌≡◌};
@@ -7,9 +7,8 @@ ghost use Rattle.operators.specs.Precedence.{level, expression_level};
 ghost use Rattle.lookahead.specs.Entry.{three_way_entry};
 ghost use Rattle.grammar.specs.Told.{Told, tristate_number, ToldThreeWay, ToldRead, ToldPattern, ToldConvert, ToldSubtree};
 
-use lookahead::{ThreeWay, Tristate};
+use lookahead::Tristate;
 use tokens::cause::Answer;
-use tokens::causes;
 
 // An answer as numbers: 0 and the counts of rows, records and abandoned heads; or the refusal's number, its place, 0 and 0.
 fn tell(answer: Answer, first: &mut usize, second: &mut usize, third: &mut usize) -> u32
@@ -23,10 +22,10 @@ fn tell(answer: Answer, first: &mut usize, second: &mut usize, third: &mut usize
             0
         }
         Answer::Refused(cause) => {
-            *first = causes::place_of(cause);
+            *first = cause.place();
             *second = 0;
             *third = 0;
-            causes::number_of(cause)
+            cause.number()
         }
     }
 }
@@ -105,13 +104,13 @@ pub extern "C" fn vuolmaset_three_way(
     ensures { ToldThreeWay (three_way_entry kinds.now flags.now is_ts is_jsx at) told.new result }
 {
     match lookahead::three_way(kinds, flags, is_ts, is_jsx, at) {
-        ThreeWay::Told(answer) => {
+        Ok(answer) => {
             *told = tristate_number(answer);
             0
         }
-        ThreeWay::Refused(cause) => {
-            *told = causes::place_of(cause);
-            causes::number_of(cause)
+        Err(cause) => {
+            *told = cause.place();
+            cause.number()
         }
     }
 }

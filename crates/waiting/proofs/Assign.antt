@@ -1,6 +1,6 @@
 -- What comes of an AssignmentExpression where a head may open (13.15), by the way there and by the head: each way. For `start`.
 -- Assumes nothing.
-use Rattle.std.specs.Prelude.{if◌then◌else◌}
+use Rattle.std.specs.Prelude.{if◌then◌else◌, Ok, Err}
 use Prim.Native.Nat.{ℕ, ◌<◌}
 use mathlib.Core.Path.{◌≡◌, refl, sym, ap, ◌∙◌}
 use mathlib.Core.Bool.{Bool, true, false}
@@ -16,33 +16,22 @@ use Rattle.grammar.specs.Arrow as Grammar
 use Rattle.grammar.specs.Reading.{box}
 use Rattle.laws.proofs.Good.{inside}
 use Rattle.build.specs.Post.{Room, Comes, Met, MetAfter, MetList}
-use Rattle.heads.specs.Heads.{Dropped, is_pass, is_commit, may_open, way_at, way_of, arrow_kind}
+use Rattle.heads.specs.Heads.{Dropped, may_open, way_at, way_of, arrow_kind}
 use Rattle.build.specs.declared.cursor.Cursor.{Cursor}
-use Rattle.build.specs.declared.cursor.Step.{Step}
-use Rattle.build.specs.declared.cursor.Listed.{Listed}
+use Rattle.build.specs.Post.{Step}
+use Rattle.build.specs.Post.{Listed}
 use Rattle.heads.specs.declared.Head.{Head}
 use Rattle.heads.specs.declared.Way.{Way}
 use Rattle.build.proofs.Ways.{assignment_passes, assignment_tries, assignment_gives_up, assignment_commits, assignment_fails}
 use Rattle.build.proofs.Ends.{is_fail}
-use Rattle.waiting.proofs.Shared.{never}
 use Rattle.waiting.proofs.Value.{goes_on}
 use Rattle.build.proofs.Makes.{stands_now, made_again, unmade_again}
 
--- what the tests of a way tell
-pub is_passed : (w : Way) {b : Bool} → b ≡ is_pass w → b ≡ true → w ≡ Way.Pass
-is_passed Way.Pass i j = refl
-is_passed Way.Attempt i j = absurd (never (cc))
-is_passed Way.Commit i j = absurd (never (cc))
-
-pub is_committed : (w : Way) {b : Bool} → b ≡ is_commit w → b ≡ true → w ≡ Way.Commit
-is_committed Way.Pass i j = absurd (never (cc))
-is_committed Way.Attempt i j = absurd (never (cc))
-is_committed Way.Commit i j = refl
-
-pub is_tried : (w : Way) {b q : Bool} → b ≡ is_pass w → b ≡ false → q ≡ is_commit w → q ≡ false → w ≡ Way.Attempt
-is_tried Way.Pass i j k l = absurd (never (cc))
-is_tried Way.Attempt i j k l = refl
-is_tried Way.Commit i j k l = absurd (never (cc))
+-- a way that is neither passing nor reading for good
+pub is_tried : (w : Way) → (w ≡ Way.Pass → ⊥) → (w ≡ Way.Commit → ⊥) → w ≡ Way.Attempt
+is_tried Way.Pass i j = absurd (i refl)
+is_tried Way.Attempt i j = refl
+is_tried Way.Commit i j = absurd (j refl)
 
 -- where a head is tried, a token stands
 pub tried_stands : (ks fs m : List ℕ) (at : ℕ) {w : Way} → way_of w ≡ way_at ks fs m at → w ≡ Way.Attempt → at < length ks
@@ -53,8 +42,7 @@ tried_stands ks fs m at {w} t e = go (may_open (get_or ks at 0)) refl
     go true q = inside (sheet_of ks fs) at may_open refl q
     go false q =
         let z : Grammar.attempt ≡ Grammar.pass = sym (ap way_of e) ∙ t ∙ ap (λ (b : Bool). if b then (box (sheet_of ks fs)).way at m else Grammar.pass) q in
-        let y : ◌≡◌ {A = ℕ} 0 1 = cc in
-        absurd (omega arith)
+        absurd (cc)
 
 module _ {ks fs r₀ s₀ m₀ : List ℕ} {c : Cursor} where
   assign_passes : {r s m : List ℕ} {x : Step} {w : Way} → way_of w ≡ way_at ks fs m₀ c.at → w ≡ Way.Pass
@@ -70,7 +58,7 @@ module _ {ks fs r₀ s₀ m₀ : List ℕ} {c : Cursor} where
   arrow_of : {r₁ s₁ m₁ r s m : List ℕ} {x : Step} {y : Listed} {d : Cursor} {kids : ℕ} {h : Head} → Room ks r₀ s₀ c
       → ((p : ℕ) (ts : Forest) (rs : List Record) (out : Out (List ℕ)) → Comes ks fs (head c.at) m₀ (done p ts rs m₁) → Comes ks fs (body (arrow_kind ks c.at) c.at p ts) m₁ out
       → Comes ks fs (assignment c.at) m₀ (after_records rs out))
-      → MetList ks fs r₀ s₀ m₀ r₁ s₁ m₁ (head c.at) c.rows c.records y → y ≡ Listed.Done d kids
+      → MetList ks fs r₀ s₀ m₀ r₁ s₁ m₁ (head c.at) c.rows c.records y → y ≡ Ok (d, kids)
       → h ≡ record { kind = arrow_kind ks c.at; first = c.at; from = c.rows; kids = kids }
       → MetAfter ks fs r₁ s₁ m₁ r s m (body h.kind h.first d.at) h.from d.rows h.kids d.records x
       → Met ks fs r₀ s₀ m₀ r s m (assignment c.at) c.rows c.records x
@@ -81,19 +69,19 @@ module _ {ks fs r₀ s₀ m₀ : List ℕ} {c : Cursor} where
       goes_on room (λ out u. rule _ _ _ out g.comes u) g.made f
 
   -- a head that was read, and its body
-  pub assign_arrows : {r₁ s₁ m₁ r s m : List ℕ} {x : Step} {y : Listed} {d : Cursor} {kids : ℕ} {h : Head} (w : Way) {b : Bool} → Room ks r₀ s₀ c → way_of w ≡ way_at ks fs m₀ c.at
-      → b ≡ is_pass w → b ≡ false → MetList ks fs r₀ s₀ m₀ r₁ s₁ m₁ (head c.at) c.rows c.records y → y ≡ Listed.Done d kids
+  pub assign_arrows : {r₁ s₁ m₁ r s m : List ℕ} {x : Step} {y : Listed} {d : Cursor} {kids : ℕ} {h : Head} (w : Way) → Room ks r₀ s₀ c → way_of w ≡ way_at ks fs m₀ c.at
+      → (w ≡ Way.Pass → ⊥) → MetList ks fs r₀ s₀ m₀ r₁ s₁ m₁ (head c.at) c.rows c.records y → y ≡ Ok (d, kids)
       → h ≡ record { kind = arrow_kind ks c.at; first = c.at; from = c.rows; kids = kids }
       → MetAfter ks fs r₁ s₁ m₁ r s m (body h.kind h.first d.at) h.from d.rows h.kids d.records x
       → Met ks fs r₀ s₀ m₀ r s m (assignment c.at) c.rows c.records x
   unfolding way_of
-  assign_arrows Way.Pass room t i j a q u b = absurd (never (cc))
-  assign_arrows Way.Attempt room t i j a q u b = arrow_of room (λ p ts rs out i j. assignment_tries (sym t) i j) a q u b
-  assign_arrows Way.Commit room t i j a q u b = arrow_of room (λ p ts rs out i j. assignment_commits (sym t) i j) a q u b
+  assign_arrows Way.Pass room t i a q u b = absurd (i refl)
+  assign_arrows Way.Attempt room t i a q u b = arrow_of room (λ p ts rs out i j. assignment_tries (sym t) i j) a q u b
+  assign_arrows Way.Commit room t i a q u b = arrow_of room (λ p ts rs out i j. assignment_commits (sym t) i j) a q u b
 
   pub assign_fails : {r₁ s₁ m₁ : List ℕ} {y : Listed} {p : Cause} {w : Way} → way_of w ≡ way_at ks fs m₀ c.at → w ≡ Way.Commit
-      → MetList ks fs r₀ s₀ m₀ r₁ s₁ m₁ (head c.at) c.rows c.records y → y ≡ Listed.Fail p
-      → Met ks fs r₀ s₀ m₀ r₁ s₁ m₁ (assignment c.at) c.rows c.records (Step.Fail p)
+      → MetList ks fs r₀ s₀ m₀ r₁ s₁ m₁ (head c.at) c.rows c.records y → y ≡ Err p
+      → Met ks fs r₀ s₀ m₀ r₁ s₁ m₁ (assignment c.at) c.rows c.records (Err p)
   unfolding way_of
   assign_fails t e a q = let g = a.list_fail _ q in is_fail refl record { comes = assignment_fails (sym t ∙ ap way_of e) g.comes; unmade = g.unmade }
 
@@ -115,7 +103,7 @@ module _ {ks fs r₀ s₀ m₀ r₁ s₁ m₁ : List ℕ} {k : ℕ} {c : Cursor}
   past_none e i j l o = record { long = ap length i; deep = ap length j; same = o; goes = λ r s m x a. assign_passes t e (now i j l o a) }
 
   -- a head that failed is given up: it is dropped
-  pub past_given_up : {r₂ s₂ m₂ m₃ : List ℕ} {k₃ : ℕ} {y : Listed} {p : Cause} → w ≡ Way.Attempt → MetList ks fs r₀ s₀ m₀ r₂ s₂ m₂ (head c.at) c.rows c.records y → y ≡ Listed.Fail p
+  pub past_given_up : {r₂ s₂ m₂ m₃ : List ℕ} {k₃ : ℕ} {y : Listed} {p : Cause} → w ≡ Way.Attempt → MetList ks fs r₀ s₀ m₀ r₂ s₂ m₂ (head c.at) c.rows c.records y → y ≡ Err p
       → Dropped m₂ c.at c.records m₃ k₃ → length r₂ ≡ length r₀ → length s₂ ≡ length s₀ → r₁ ≡ r₂ → s₁ ≡ s₂ → m₁ ≡ m₃ → k ≡ k₃ → Past ks fs r₀ s₀ m₀ r₁ s₁ m₁ k c
   unfolding way_of
   past_given_up {r₂} {s₂} {m₂} e a q d u v i j l o =

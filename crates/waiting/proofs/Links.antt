@@ -1,5 +1,6 @@
 -- What waits, and what comes of it: only the first rows matter to what was read; the rows that wait, as words; and each way from one state of the loop to the next.
 -- Assumes nothing.
+use Rattle.std.specs.Prelude.{Ok, Err}
 use Prim.Native.Nat.{ℕ, ◌+◌, ◌-◌, ◌*◌, ◌≤◌, ◌<◌}
 use mathlib.Core.Path.{◌≡◌, refl, sym, ap, subst, ◌∙◌}
 use mathlib.Core.Bool.{Bool, true, false, not}
@@ -15,10 +16,10 @@ use Rattle.rows.specs.Post.{Word, Pushed, Grown, Kept}
 use Rattle.grammar.specs.Job.{Job, assignment, value, binary, assign, conditional}
 use Rattle.grammar.specs.Assignment.{is_assignment_operator}
 use Rattle.grammar.specs.Binary.{right_floor, operation_kind}
-use Rattle.targets.specs.declared.Conversion.{Conversion}
+use Rattle.targets.specs.Outcome.{Conversion}
 use Rattle.build.specs.Post.{cursor, Room, Met, Leafed, Operand, HeadFits}
 use Rattle.build.specs.declared.cursor.Cursor.{Cursor}
-use Rattle.build.specs.declared.cursor.Step.{Step}
+use Rattle.build.specs.Post.{Step}
 use Rattle.build.proofs.Ends.{is_done, moved}
 use Rattle.heads.specs.declared.Head.{Head}
 use lib.Seq.{take-take, take-append-le, length-take-le, drop-append_seam, drop-drop, get_or-drop}
@@ -28,7 +29,6 @@ use Rattle.rows.specs.Row as Row
 use Rattle.roles.specs.Meaning as means
 use Rattle.targets.specs.Post as Targets
 use Rattle.waiting.specs.Waiting.{Grouped, kind_for, Breaks, Waiting, operation, part, choice, is_operation, Choice, awaits_operand, floor_of, begun, Whole, Spare, Comes-all, Outcome, Starts, Opens, Linked, Ends, words, all_words, Held}
-use Rattle.waiting.proofs.Shared.{never}
 use Rattle.waiting.proofs.Value.{assignment_stands, operand_rows, binary_ends, binary_stops, binary_operates, value_refuses, value_operand, value_choices, value_ends, value_stays, value_assigned, value_arrows, choice_fails, choice_opens, choice_fails_after, choice_done, assigned_few, assigned_refuses, assigned_fails, assigned_done, body_curlies, body_refused, body_dones}
 use Rattle.waiting.proofs.Root.{length_flats}
 
@@ -60,8 +60,8 @@ pub met_from : {ks fs r₀ r₁ s₀ m₀ r s m : List ℕ} {job : Job} {n k : �
 met_from e f = met_rows (λ d ts g. record { used = g.used; text = g.text ∙ ap (λ (l : List ℕ). l ++ flats ts) e }) (λ h. record { text = h.text ∙ e }) f
 
 -- where it was done
-pub met_to : {ks fs r₀ s₀ m₀ r r' s m : List ℕ} {job : Job} {n k : ℕ} {d : Cursor} → take (6 * d.rows) r' ≡ take (6 * d.rows) r → Met ks fs r₀ s₀ m₀ r s m job n k (Step.Done d)
-    → Met ks fs r₀ s₀ m₀ r' s m job n k (Step.Done d)
+pub met_to : {ks fs r₀ s₀ m₀ r r' s m : List ℕ} {job : Job} {n k : ℕ} {d : Cursor} → take (6 * d.rows) r' ≡ take (6 * d.rows) r → Met ks fs r₀ s₀ m₀ r s m job n k (Ok d)
+    → Met ks fs r₀ s₀ m₀ r' s m job n k (Ok d)
 met_to e f =
     let g = f.done_to _ refl in
     let text = e ∙ g.made.grown.text in
@@ -210,7 +210,7 @@ begun_value ks ws first e = rw e
 
 floor_none : (ks : List ℕ) (ws : List Waiting) → awaits_operand ws ≡ false → floor_of ks ws ≡ 0
 floor_none ks [] e = refl
-floor_none ks (operation mark first left from ∷ ws) e = absurd (never (cc))
+floor_none ks (operation mark first left from ∷ ws) e = absurd (cc)
 floor_none ks (part kind mark first kids from _ _ ∷ ws) e = refl
 floor_none ks (choice mark first from ∷ ws) e = refl
 
@@ -249,7 +249,7 @@ module _ {ks fs : List ℕ} {all : Whole} {base : ℕ} {ws : List Waiting} {top 
 
   -- a refusal of the operand that was waited for, or of the binary level
   stops : {r' s' m' : List ℕ} {x : Step} {cause : Cause} → length s' ≡ length s → Met ks fs l.rows₀ l.records₀ l.notes₀ r' s' m' (binary (floor_of ks ws) first) from l.said₀ x
-      → x ≡ Step.Fail cause → Comes-all ks fs all r' s' m' x
+      → x ≡ Err cause → Comes-all ks fs all r' s' m' x
   stops {r'} {s'} {m'} {x} {cause} long a e = go (awaits_operand ws) refl
     where
       go : (b : Bool) → awaits_operand ws ≡ b → Comes-all ks fs all r' s' m' x
@@ -312,7 +312,7 @@ module _ {ks fs : List ℕ} {all : Whole} {base : ℕ} {ws : List Waiting} {top 
   module _ {operator above : ℕ} (i : awaits_operand ws ≡ false) (t : operator ≡ get_or ks u.at 0) (v : above ≡ expression_level operator) (none : above ≡ 0)
       (rows : List ℕ) (low : take (6 * u.rows) rows ≡ take (6 * u.rows) r) (wide : 6 * top ≤ length rows) where
     -- the binary level ends here
-    pub level : Met ks fs l.rows₀ l.records₀ l.notes₀ rows s m (binary 0 first) from l.said₀ (Step.Done u)
+    pub level : Met ks fs l.rows₀ l.records₀ l.notes₀ rows s m (binary 0 first) from l.said₀ (Ok u)
     level = met_to low (rw (floor_none ks ws i) at (binary_ends l.grouped t v (omega (arith, none))))
 
     valued : {r' s' m' : List ℕ} {x : Step} → length s' ≡ length s → Met ks fs l.rows₀ l.records₀ l.notes₀ r' s' m' (value first) from l.said₀ x
@@ -398,12 +398,12 @@ module _ {ks fs : List ℕ} {all : Whole} {base : ℕ} {ws : List Waiting} {top 
           → Outcome ks fs all (Ends ks fs all base ws) r' s' m' x
       assigned long a = valued long (value_assigned here refl (l.plain i) level refl t no_body o e a)
 
-      pub right_refused : (after : List ℕ) → 6 * u.rows ≤ length r₁ → {cause : Cause} → z ≡ Conversion.Refused cause → Comes-all ks fs all (r₁ ++ after) s₁ m (Step.Fail cause)
+      pub right_refused : (after : List ℕ) → 6 * u.rows ≤ length r₁ → {cause : Cause} → z ≡ Err cause → Comes-all ks fs all (r₁ ++ after) s₁ m (Err cause)
       right_refused after tall q =
           let g = l.grouped in
           (assigned deep₁ (met_wider (omega (arith, wide, linked_spare, g)) after (omega (arith, tall, g)) (assigned_refuses group_room over t n h q))).refused _ refl
 
-      module _ {counted : ℕ} (q : z ≡ Conversion.Turned counted) where
+      module _ {counted : ℕ} (q : z ≡ Ok counted) where
         pub right_spare : Spare ks s₁ (top - 1) (cursor (u.at + 1) u.rows (u.records + counted))
         right_spare = omega (arith, linked_spare, assigned_few group_room over t n h q, equals, deep₁)
 
@@ -439,7 +439,7 @@ module _ {ks fs : List ℕ} {all : Whole} {base : ℕ} (ws : List Waiting) {top 
   abbrev body_room : Room ks r s d
   body_room = room_below p wide
 
-  pub body_refuses : {y : ℕ} → y ≡ get_or ks (d.at + 1) 0 → y ≡ 22 → Comes-all ks fs all r s m (Step.Fail (Cause.Unexpected (d.at + 1)))
+  pub body_refuses : {y : ℕ} → y ≡ get_or ks (d.at + 1) 0 → y ≡ 22 → Comes-all ks fs all r s m (Err (Cause.Unexpected (d.at + 1)))
   body_refuses k t = (o.goes r s m _ refl (body_curlies body_room f k t)).refused _ refl
 
   module _ {y : ℕ} {s₁ : List ℕ} {c : Cursor} (k : y ≡ get_or ks (d.at + 1) 0) (t : y ≡ 22 → ⊥) (b : Breaks fs s d s₁ c) (a : is_operation h.kind ≡ false) (z : h.kind ≡ Choice → ⊥) where

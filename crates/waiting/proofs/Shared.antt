@@ -1,7 +1,6 @@
 -- What the laws of several functions share: records before records, and what a nonterminal comes to, by an equation.
 -- Assumes nothing.
 use Prim.Native.Nat.{ℕ}
-use native.Mathlib.Omega.{arith}
 use mathlib.Core.Path.{◌≡◌, refl, sym, ap, subst}
 use mathlib.Core.List.{List, [], ◌++◌, append-nil, append_assoc}
 use Rattle.tokens.specs.declared.cause.Cause.{Cause}
@@ -10,10 +9,6 @@ use Rattle.rows.specs.Record.{Record}
 use Rattle.grammar.specs.Sheet.{Out, done, fail, stuck, after_records}
 use Rattle.grammar.specs.Job.{Job}
 use Rattle.build.specs.Post.{Comes}
-
--- two constructors are never equal: `cc` says so as 0 ≡ 1
-pub never : ◌≡◌ {A = ℕ} 0 1 → ⊥
-never e = omega arith
 
 -- no records, and records before records
 pub after_none : {N : Type 0} (out : Out N) → after_records [] out ≡ out

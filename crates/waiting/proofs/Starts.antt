@@ -1,6 +1,6 @@
 -- `start` and the loop of `assign`: each way out of the one, and each way through the other.
 -- Assumes nothing.
-use Rattle.std.specs.Prelude.{if◌then◌else◌}
+use Rattle.std.specs.Prelude.{if◌then◌else◌, Result, Ok, Err}
 use Prim.Native.Nat.{ℕ, ◌+◌, ◌-◌, ◌*◌, ◌/◌, ◌≤◌, ◌<◌}
 use mathlib.Core.Path.{◌≡◌, refl, sym, ap, subst, ◌∙◌}
 use mathlib.Core.Bool.{Bool, true, false, not}
@@ -18,19 +18,18 @@ use Rattle.grammar.specs.Assignment.{is_async_name}
 use Rattle.grammar.specs.Job.{Job, assignment, value, binary, unary, head, body}
 use Rattle.build.specs.Post.{cursor, Room, Met, MetAfter, MetList, Refused, Leafed}
 use Rattle.build.specs.declared.cursor.Cursor.{Cursor}
-use Rattle.build.specs.declared.cursor.Step.{Step}
-use Rattle.build.specs.declared.cursor.Listed.{Listed}
-use Rattle.heads.specs.Heads.{is_pass, way_at, way_of, arrow_kind}
+use Rattle.build.specs.Post.{Step}
+use Rattle.build.specs.Post.{Listed}
+use Rattle.heads.specs.Heads.{way_at, way_of, arrow_kind}
 use Rattle.heads.specs.declared.Way.{Way}
 use Rattle.build.proofs.Ends.{is_fail, moved}
 use Rattle.heads.specs.declared.Head.{Head}
-use Rattle.waiting.proofs.Shared.{never}
 use Rattle.trees.proofs.Walks.{some_rows}
 use Rattle.laws.proofs.Bounds.{bounded}
 use Rattle.waiting.proofs.Assign.{Past, assign_arrows, assign_fails}
 use Rattle.waiting.proofs.Value.{binary_grouped, binary_refuses, async_stands, value_asyncs, value_refuses}
 use Rattle.waiting.specs.Waiting.{Choice, is_operation, floor_of, begun, Whole, all_words, Spare, Comes-all, Outcome, Starts, Opens, Ends, Awaits}
-use Rattle.waiting.specs.Post.{spot, start_of, GroupAt, BodyFits, WaitsBody, Goes, StartFits, AfterStart}
+use Rattle.waiting.specs.Post.{spot, GroupAt, BodyFits, WaitsBody, Goes, StartFits, AfterStart}
 use Rattle.waiting.specs.Post.{OpenedTo, OperandTo, MetStart}
 use Rattle.waiting.specs.declared.Next.{Next}
 use Rattle.waiting.specs.declared.Spot.{Spot}
@@ -40,7 +39,7 @@ use Rattle.waiting.proofs.Groups.{goes_fail, body_awaits}
 
 is_true : (b : Bool) → not b ≡ false → b ≡ true
 is_true true e = refl
-is_true false e = absurd (never (cc))
+is_true false e = absurd (cc)
 
 -- where the whole begins
 abbrev pub whole_of : List ℕ → List ℕ → List ℕ → Cursor → Whole
@@ -69,9 +68,6 @@ module _ {ks fs : List ℕ} {all : Whole} {m₀ r₀ s₀ : List ℕ} {base top 
   low_long : length (take (6 * top) r₀) ≡ 6 * top
   low_long = length-take-le (6 * top) r₀ top_inside
 
-  pub start_room : Room ks (take (6 * top) r₀) s₀ c
-  start_room = room_below w.spare (let e = low_long in omega arith)
-
   rows_below : c.rows ≤ top
   rows_below = omega (arith, w.spare)
 
@@ -90,13 +86,13 @@ module _ {ks fs : List ℕ} {all : Whole} {m₀ r₀ s₀ : List ℕ} {base top 
 
     -- a refusal
     pub start_refused : {cause : Cause} → Refused ks fs (take (6 * top) r₀) s₀ m₀ low s m (if part then assignment c.at else unary c.at) c.rows c.records cause
-        → Comes-all ks fs all (low ++ drop (6 * top) r₀) s m (Step.Fail cause)
+        → Comes-all ks fs all (low ++ drop (6 * top) r₀) s m (Err cause)
     start_refused {cause} f = go part refl f
       where
-        wider : {job : Job} → Refused ks fs (take (6 * top) r₀) s₀ m₀ low s m job c.rows c.records cause → Met ks fs r₀ s₀ m₀ (low ++ drop (6 * top) r₀) s m job c.rows c.records (Step.Fail cause)
+        wider : {job : Job} → Refused ks fs (take (6 * top) r₀) s₀ m₀ low s m job c.rows c.records cause → Met ks fs r₀ s₀ m₀ (low ++ drop (6 * top) r₀) s m job c.rows c.records (Err cause)
         wider g = whole_met (met_wider (let e = low_long in omega (arith, rows_below)) (drop (6 * top) r₀) (omega (arith, rows_below, long)) (is_fail refl g))
 
-        go : (b : Bool) → part ≡ b → Refused ks fs (take (6 * top) r₀) s₀ m₀ low s m (if b then assignment c.at else unary c.at) c.rows c.records cause → Comes-all ks fs all (low ++ drop (6 * top) r₀) s m (Step.Fail cause)
+        go : (b : Bool) → part ≡ b → Refused ks fs (take (6 * top) r₀) s₀ m₀ low s m (if b then assignment c.at else unary c.at) c.rows c.records cause → Comes-all ks fs all (low ++ drop (6 * top) r₀) s m (Err cause)
         go true e g = (job_as true e deep (wider g)).refused cause refl
         go false e g = (job_as false e deep (binary_refuses (room_below w.spare top_inside) (wider g) refl)).refused cause refl
 
@@ -128,13 +124,13 @@ module _ {ks fs : List ℕ} {all : Whole} {m₀ r₀ s₀ : List ℕ} {base top 
                 job_as true o.is_part (l ∙ deep) (whole_met (o.goes r' s' m' x b));
           }
 
-      pub opened_awaits : {r' s' : List ℕ} {x : Next} → WaitsBody ks fs (low ++ drop (6 * top) r₀) s d h top r' s' x → length r' ≡ length (low ++ drop (6 * top) r₀) → Goes ks fs all m d.at r' s' base x
+      pub opened_awaits : {r' s' : List ℕ} {x : Result Next Cause} → WaitsBody ks fs (low ++ drop (6 * top) r₀) s d h top r' s' x → length r' ≡ length (low ++ drop (6 * top) r₀) → Goes ks fs all m d.at r' s' base x
       opened_awaits a l =
           body_awaits w.waiting (held_lent low w.held long) (w.operand ∙ ap not o.is_part) opened_spare o.fits o.no_operation o.no_choice opens a l
 
     -- an operand
     module _ {d : Cursor} (o : OperandTo ks fs (take (6 * top) r₀) s₀ m₀ low s m part c.at c.rows c.records d) where
-      read : Met ks fs o.rows₁ o.records₁ o.notes₁ (low ++ drop (6 * top) r₀) s m (unary c.at) c.rows c.records (Step.Done d)
+      read : Met ks fs o.rows₁ o.records₁ o.notes₁ (low ++ drop (6 * top) r₀) s m (unary c.at) c.rows c.records (Ok d)
       read = met_wider (let e = low_long in let f = o.rows_long in omega (arith, rows_below)) (drop (6 * top) r₀) (omega (arith, rows_below, long)) o.read
 
       spare₁ : Spare ks o.records₁ top c
@@ -154,7 +150,7 @@ module _ {ks fs : List ℕ} {all : Whole} {m₀ r₀ s₀ : List ℕ} {base top 
                 goes = λ r' s' m' x l a. job_as false e (l ∙ o.records_long) (whole_met (rw (sym (o.rows_same e), sym (o.records_same e), sym (o.notes_same e)) a));
               }
 
-      pub operand_group : GroupAt ks fs all m w.waiting (low ++ drop (6 * top) r₀) s (record { at = d.at; rows = d.rows; records = d.records; first = c.at; from = c.rows; top = top }) base
+      pub operand_group : GroupAt ks fs all m w.waiting (low ++ drop (6 * top) r₀) s (record { end = d; first = c.at; from = c.rows; top = top }) base
       operand_group =
           record {
             held = held_lent low w.held long;
@@ -175,12 +171,12 @@ module _ {ks fs : List ℕ} {all : Whole} {m₀ r₀ s₀ : List ℕ} {base top 
 -- THE WAYS OUT OF `start`
 -- what is asked of each is enough
 module _ (ks fs r₀ s₀ m₀ r s m : List ℕ) (part : Bool) (at n k : ℕ) where
-  abbrev Got : Start → Type 0
-  Got (Start.Opened d h) = OpenedTo ks fs r₀ s₀ m₀ r s m part at n k d h
-  Got (Start.Operand d) = OperandTo ks fs r₀ s₀ m₀ r s m part at n k d
-  Got (Start.Fail cause) = Refused ks fs r₀ s₀ m₀ r s m (if part then assignment at else unary at) n k cause
+  abbrev Got : Result Start Cause → Type 0
+  Got (Ok (Start.Opened d h)) = OpenedTo ks fs r₀ s₀ m₀ r s m part at n k d h
+  Got (Ok (Start.Operand d)) = OperandTo ks fs r₀ s₀ m₀ r s m part at n k d
+  Got (Err cause) = Refused ks fs r₀ s₀ m₀ r s m (if part then assignment at else unary at) n k cause
 
-  starts_so : (x : Start) → Got x → MetStart ks fs r₀ s₀ m₀ r s m part at n k x
+  starts_so : (x : Result Start Cause) → Got x → MetStart ks fs r₀ s₀ m₀ r s m part at n k x
   starts_so x a = record { opened_to = λ d h e. rw e at a; operand_to = λ d e. rw e at a; fail_at = λ cause e. rw e at a }
 
 -- arrows are no operators
@@ -194,12 +190,12 @@ arrow_no_choice false e = omega (arith, e)
 
 module _ {ks fs r₀ s₀ m₀ : List ℕ} {part : Bool} {c : Cursor} (room : Room ks r₀ s₀ c) where
   -- a head that was read
-  pub start_opens : {r s m : List ℕ} {y : Listed} {d : Cursor} {kids : ℕ} {h : Head} (w : Way) {b : Bool} → part ≡ true → way_of w ≡ way_at ks fs m₀ c.at → b ≡ is_pass w → b ≡ false
-      → MetList ks fs r₀ s₀ m₀ r s m (head c.at) c.rows c.records y → y ≡ Listed.Done d kids
+  pub start_opens : {r s m : List ℕ} {y : Listed} {d : Cursor} {kids : ℕ} {h : Head} (w : Way) → part ≡ true → way_of w ≡ way_at ks fs m₀ c.at → (w ≡ Way.Pass → ⊥)
+      → MetList ks fs r₀ s₀ m₀ r s m (head c.at) c.rows c.records y → y ≡ Ok (d, kids)
       → h ≡ record { kind = arrow_kind ks c.at; first = c.at; from = c.rows; kids = kids }
-      → MetStart ks fs r₀ s₀ m₀ r s m part c.at c.rows c.records (Start.Opened d h)
+      → MetStart ks fs r₀ s₀ m₀ r s m part c.at c.rows c.records (Ok (Start.Opened d h))
   unfolding arrow_kind
-  start_opens {d = d} {kids} {h} w p t i j a q e =
+  start_opens {d = d} {kids} {h} w p t i a q e =
       let g = a.list_to _ _ q in
       let b = bounded g.comes.settles in
       let rows = g.made.grown.used in
@@ -207,7 +203,7 @@ module _ {ks fs r₀ s₀ m₀ : List ℕ} {part : Bool} {c : Cursor} (room : Ro
       let counted = g.counted in
       let some = some_rows g.trees in
       let kind : h.kind ≡ arrow_kind ks c.at = ap (λ (z : Head). z.kind) e in
-      starts_so _ _ _ _ _ _ _ _ _ _ _ _ (Start.Opened _ _) record {
+      starts_so _ _ _ _ _ _ _ _ _ _ _ _ (Ok (Start.Opened _ _)) record {
         is_part = p;
         fits = rw e (omega arith);
         forward = omega arith;
@@ -216,20 +212,20 @@ module _ {ks fs r₀ s₀ m₀ : List ℕ} {part : Bool} {c : Cursor} (room : Ro
         said = omega arith;
         no_operation = ap is_operation kind ∙ arrow_no_operation (get_or ks c.at 0 is Async);
         no_choice = λ z. arrow_no_choice (get_or ks c.at 0 is Async) (sym kind ∙ z);
-        goes = λ r' s' m' x f. assign_arrows w room t i j a q e f;
+        goes = λ r' s' m' x f. assign_arrows w room t i a q e f;
       }
 
   -- a head that is read for good and fails
   pub start_commits : {r s m : List ℕ} {y : Listed} {cause : Cause} {w : Way} → part ≡ true → way_of w ≡ way_at ks fs m₀ c.at → w ≡ Way.Commit
-      → MetList ks fs r₀ s₀ m₀ r s m (head c.at) c.rows c.records y → y ≡ Listed.Fail cause
-      → MetStart ks fs r₀ s₀ m₀ r s m part c.at c.rows c.records (Start.Fail cause)
+      → MetList ks fs r₀ s₀ m₀ r s m (head c.at) c.rows c.records y → y ≡ Err cause
+      → MetStart ks fs r₀ s₀ m₀ r s m part c.at c.rows c.records (Err cause)
   start_commits {r} {s} {m} {cause = cause} p t e a q =
-      starts_so _ _ _ _ _ _ _ _ _ _ _ _ (Start.Fail _) (subst (λ (b : Bool). Refused ks fs r₀ s₀ m₀ r s m (if b then assignment c.at else unary c.at) c.rows c.records cause) (sym p) ((assign_fails t e a q).fail_at _ refl))
+      starts_so _ _ _ _ _ _ _ _ _ _ _ _ (Err _) (subst (λ (b : Bool). Refused ks fs r₀ s₀ m₀ r s m (if b then assignment c.at else unary c.at) c.rows c.records cause) (sym p) ((assign_fails t e a q).fail_at _ refl))
 
   -- Async and a name before `=>`, past a head
   pub start_asyncs : {r₁ s₁ m₁ r : List ℕ} {k : ℕ} {b : Bool} {d : Cursor} {h : Head} → part ≡ true → Past ks fs r₀ s₀ m₀ r₁ s₁ m₁ k c → b ≡ is_async_name (sheet_of ks fs) c.at → b ≡ true
       → Leafed r₁ (cursor (c.at + 1) c.rows k) Row.BindingName r d → h ≡ record { kind = Row.AsyncArrow; first = c.at; from = c.rows; kids = 1 }
-      → MetStart ks fs r₀ s₀ m₀ r s₁ m₁ part c.at c.rows c.records (Start.Opened d h)
+      → MetStart ks fs r₀ s₀ m₀ r s₁ m₁ part c.at c.rows c.records (Ok (Start.Opened d h))
   start_asyncs {r₁} {s₁} {m₁} {r} {k} {b} {d} {h} p past i j top e =
       let stands = async_stands ks fs c.at i j in
       let place = ap (λ (z : Cursor). z.at) top.is in
@@ -241,7 +237,7 @@ module _ {ks fs r₀ s₀ m₀ : List ℕ} {part : Bool} {c : Cursor} (room : Ro
       let from = ap (λ (z : Head). z.from) e in
       let kids = ap (λ (z : Head). z.kids) e in
       let kind = ap (λ (z : Head). z.kind) e in
-      starts_so _ _ _ _ _ _ _ _ _ _ _ _ (Start.Opened _ _) record {
+      starts_so _ _ _ _ _ _ _ _ _ _ _ _ (Ok (Start.Opened _ _)) record {
         is_part = p;
         fits = omega (arith, stands, place, first, rows, from, kids);
         forward = omega (arith, place);
@@ -276,9 +272,9 @@ module _ {ks fs r₀ s₀ m₀ r₁ s₁ m₁ : List ℕ} {part : Bool} {k : ℕ
         same = h ∙ past.same;
         plain = λ z. sym i ∙ j;
         past = λ z r s m x a. past.goes r s m x (rw (sym e, sym f, sym g, past.same) a);
-        rows_same = λ z. absurd (never (cc));
-        records_same = λ z. absurd (never (cc));
-        notes_same = λ z. absurd (never (cc));
+        rows_same = λ z. absurd (cc);
+        records_same = λ z. absurd (cc);
+        notes_same = λ z. absurd (cc);
       }
 
   pub passed_operand : part ≡ false → r₁ ≡ r₀ → s₁ ≡ s₀ → m₁ ≡ m₀ → k ≡ c.records → Passed ks fs r₀ s₀ m₀ r₁ s₁ m₁ part k c
@@ -287,8 +283,8 @@ module _ {ks fs r₀ s₀ m₀ r₁ s₁ m₁ : List ℕ} {part : Bool} {k : ℕ
         long = ap length e;
         deep = ap length f;
         same = h;
-        plain = λ z. absurd (never (cc));
-        past = λ z. absurd (never (cc));
+        plain = λ z. absurd (cc);
+        past = λ z. absurd (cc);
         rows_same = λ z. e;
         records_same = λ z. f;
         notes_same = λ z. g;
@@ -303,9 +299,9 @@ module _ {ks fs r₀ s₀ m₀ r₁ s₁ m₁ : List ℕ} {part : Bool} {k : ℕ
   operand_met : Met ks fs r₁ s₁ m₁ r s m (unary c.at) c.rows c.records x
   operand_met = subst (λ (i : ℕ). Met ks fs r₁ s₁ m₁ r s m (unary c.at) c.rows i x) p.same a
 
-  pub start_operand : {d : Cursor} → x ≡ Step.Done d → MetStart ks fs r₀ s₀ m₀ r s m part c.at c.rows c.records (Start.Operand d)
+  pub start_operand : {d : Cursor} → x ≡ Ok d → MetStart ks fs r₀ s₀ m₀ r s m part c.at c.rows c.records (Ok (Start.Operand d))
   start_operand {d} e =
-      starts_so _ _ _ _ _ _ _ _ _ _ _ _ (Start.Operand _) record {
+      starts_so _ _ _ _ _ _ _ _ _ _ _ _ (Ok (Start.Operand _)) record {
         rows₁ = r₁;
         records₁ = s₁;
         notes₁ = m₁;
@@ -319,10 +315,10 @@ module _ {ks fs r₀ s₀ m₀ r₁ s₁ m₁ : List ℕ} {part : Bool} {k : ℕ
         read = subst (λ (y : Step). Met ks fs r₁ s₁ m₁ r s m (unary c.at) c.rows c.records y) e operand_met;
       }
 
-  pub start_fails : {cause : Cause} → x ≡ Step.Fail cause → MetStart ks fs r₀ s₀ m₀ r s m part c.at c.rows c.records (Start.Fail cause)
-  start_fails {cause} e = starts_so _ _ _ _ _ _ _ _ _ _ _ _ (Start.Fail cause) (go part refl)
+  pub start_fails : {cause : Cause} → x ≡ Err cause → MetStart ks fs r₀ s₀ m₀ r s m part c.at c.rows c.records (Err cause)
+  start_fails {cause} e = starts_so _ _ _ _ _ _ _ _ _ _ _ _ (Err cause) (go part refl)
     where
-      failed : Met ks fs r₁ s₁ m₁ r s m (unary c.at) c.rows c.records (Step.Fail cause)
+      failed : Met ks fs r₁ s₁ m₁ r s m (unary c.at) c.rows c.records (Err cause)
       failed = subst (λ (y : Step). Met ks fs r₁ s₁ m₁ r s m (unary c.at) c.rows c.records y) e operand_met
 
       here : Room ks r₁ s₁ c
@@ -337,13 +333,13 @@ module _ {ks fs r₀ s₀ m₀ r₁ s₁ m₁ : List ℕ} {part : Bool} {k : ℕ
 pub record Looping (ks fs r₀ s₀ m₀ : List ℕ) (b : Cursor) (base : ℕ) (r s m : List ℕ) (n : Spot) : Type 0 where
   pub rows_long : length r ≡ length r₀
   pub records_long : length s ≡ length s₀
-  pub awaits : Awaits ks fs (whole_of r₀ s₀ m₀ b) m r s base n.top n.part b.at (start_of n)
+  pub awaits : Awaits ks fs (whole_of r₀ s₀ m₀ b) m r s base n.top n.part b.at n.here
 
 pub looping_starts : {ks fs r s m : List ℕ} {b : Cursor} {base : ℕ} → Room ks r s b → base ≡ length r / 6 → Looping ks fs r s m b base r s m (spot b base true)
 looping_starts room e = record { rows_long = refl; records_long = refl; awaits = awaits_first room e }
 
 -- a start was read, and what waits and what is next
-pub record Stepped (ks fs : List ℕ) (all : Whole) (m : List ℕ) (at row_words record_words : ℕ) (r s : List ℕ) (base : ℕ) (x : Next) : Type 0 where
+pub record Stepped (ks fs : List ℕ) (all : Whole) (m : List ℕ) (at row_words record_words : ℕ) (r s : List ℕ) (base : ℕ) (x : Result Next Cause) : Type 0 where
   pub rows_long : length r ≡ row_words
   pub records_long : length s ≡ record_words
   pub place : ℕ
@@ -351,8 +347,8 @@ pub record Stepped (ks fs : List ℕ) (all : Whole) (m : List ℕ) (at row_words
   pub goes : Goes ks fs all m place r s base x
 
 module _ {ks fs r₀ s₀ m₀ : List ℕ} {b : Cursor} {base : ℕ} {r s m : List ℕ} {n : Spot} (w : Looping ks fs r₀ s₀ m₀ b base r s m n)
-    (low s₁ m₁ : List ℕ) (long : length low ≡ 6 * n.top) (deep : length s₁ ≡ length s) {got : Start}
-    (a : MetStart ks fs (take (6 * n.top) r) s m low s₁ m₁ n.part n.at n.rows n.records got) where
+    (low s₁ m₁ : List ℕ) (long : length low ≡ 6 * n.top) (deep : length s₁ ≡ length s) {got : Result Start Cause}
+    (a : MetStart ks fs (take (6 * n.top) r) s m low s₁ m₁ n.part n.here.at n.here.rows n.here.records got) where
   all_long : length (low ++ drop (6 * n.top) r) ≡ length r₀
   all_long = let e = length-append low (drop (6 * n.top) r) in let q = length-drop (6 * n.top) r in omega (arith, top_inside w.awaits, w.rows_long, long)
 
@@ -364,33 +360,33 @@ module _ {ks fs r₀ s₀ m₀ : List ℕ} {b : Cursor} {base : ℕ} {r s m : Li
             record { all = whole_of r₀ s₀ m₀ b; m = m₁; ws = w.awaits.waiting; at = operand_group w.awaits low s₁ m₁ long deep (a.operand_to d e) };
       }
 
-  pub stepped : {r' s' : List ℕ} {x : Next} → AfterStart ks fs (low ++ drop (6 * n.top) r) s₁ got n base r' s' x → length r' ≡ length (low ++ drop (6 * n.top) r) → length s' ≡ length s₁
-      → Stepped ks fs (whole_of r₀ s₀ m₀ b) m₁ n.at (length r₀) (length s₀) r' s' base x
+  pub stepped : {r' s' : List ℕ} {x : Result Next Cause} → AfterStart ks fs (low ++ drop (6 * n.top) r) s₁ got n base r' s' x → length r' ≡ length (low ++ drop (6 * n.top) r) → length s' ≡ length s₁
+      → Stepped ks fs (whole_of r₀ s₀ m₀ b) m₁ n.here.at (length r₀) (length s₀) r' s' base x
   stepped {r'} {s'} {x} f l l' = go got refl
     where
-      at_place : (place : ℕ) → n.at < place → Goes ks fs (whole_of r₀ s₀ m₀ b) m₁ place r' s' base x → Stepped ks fs (whole_of r₀ s₀ m₀ b) m₁ n.at (length r₀) (length s₀) r' s' base x
+      at_place : (place : ℕ) → n.here.at < place → Goes ks fs (whole_of r₀ s₀ m₀ b) m₁ place r' s' base x → Stepped ks fs (whole_of r₀ s₀ m₀ b) m₁ n.here.at (length r₀) (length s₀) r' s' base x
       at_place place h g = record { rows_long = l ∙ all_long; records_long = l' ∙ deep ∙ w.records_long; place = place; forward = h; goes = g }
 
-      go : (y : Start) → got ≡ y → Stepped ks fs (whole_of r₀ s₀ m₀ b) m₁ n.at (length r₀) (length s₀) r' s' base x
-      go (Start.Opened d h) e =
+      go : (y : Result Start Cause) → got ≡ y → Stepped ks fs (whole_of r₀ s₀ m₀ b) m₁ n.here.at (length r₀) (length s₀) r' s' base x
+      go (Ok (Start.Opened d h)) e =
           let o = a.opened_to d h e in
           at_place d.at o.forward (opened_awaits w.awaits low s₁ m₁ long deep o (f.opened d h e) l)
-      go (Start.Operand d) e =
+      go (Ok (Start.Operand d)) e =
           let o = a.operand_to d e in
           let v = moved _ (o.read.done_to d refl) refl in
           at_place d.at v.forward ((f.operand d e).goes (whole_of r₀ s₀ m₀ b) m₁ w.awaits.waiting (operand_group w.awaits low s₁ m₁ long deep o))
-      go (Start.Fail cause) e =
+      go (Err cause) e =
           let q = f.failed cause e in
-          at_place (n.at + 1) (omega arith) (goes_fail q.gives (rw (q.rows_same, q.records_same) (start_refused w.awaits low s₁ m₁ long deep (a.fail_at cause e))))
+          at_place (n.here.at + 1) (omega arith) (goes_fail q.gives (rw (q.rows_same, q.records_same) (start_refused w.awaits low s₁ m₁ long deep (a.fail_at cause e))))
 
 awaits_from : {ks fs : List ℕ} {all : Whole} {m r s : List ℕ} {base top past past' : ℕ} {part : Bool} {c : Cursor} → past' ≤ past → Awaits ks fs all m r s base top part past c
     → Awaits ks fs all m r s base top part past' c
 awaits_from h w = record { waiting = w.waiting; held = w.held; forward = omega (arith, h, w.forward); spare = w.spare; operand = w.operand; starts = w.starts }
 
 module _ {ks fs r₀ s₀ m₀ : List ℕ} {b : Cursor} {base : ℕ} {r s m : List ℕ} {n : Spot} (w : Looping ks fs r₀ s₀ m₀ b base r s m n)
-    {r' s' m' : List ℕ} {x : Next} (p : Stepped ks fs (whole_of r₀ s₀ m₀ b) m' n.at (length r₀) (length s₀) r' s' base x) {t : Spot} (e : x ≡ Next.Read t) where
+    {r' s' m' : List ℕ} {x : Result Next Cause} (p : Stepped ks fs (whole_of r₀ s₀ m₀ b) m' n.here.at (length r₀) (length s₀) r' s' base x) {t : Spot} (e : x ≡ Ok (Next.Read t)) where
   pub looping_again : Looping ks fs r₀ s₀ m₀ b base r' s' m' t
   looping_again = record { rows_long = p.rows_long; records_long = p.records_long; awaits = awaits_from (omega (arith, p.forward, w.awaits.forward)) (p.goes.reads t e) }
 
-  pub looping_less : length ks - t.at < length ks - n.at
+  pub looping_less : length ks - t.here.at < length ks - n.here.at
   looping_less = let a = p.goes.reads t e in omega (arith, p.forward, a.forward, a.spare)

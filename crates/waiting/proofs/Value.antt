@@ -1,6 +1,6 @@
 -- What comes of an AssignmentExpression, of its operands and operators, its arrow, its assignment and its Conditional: each way. For `start`, and for rows that wait.
 -- Assumes nothing.
-use Rattle.std.specs.Prelude.{if◌then◌else◌}
+use Rattle.std.specs.Prelude.{if◌then◌else◌, Ok, Err}
 use Prim.Native.Nat.{ℕ, ◌+◌, ◌-◌, ◌<◌, ◌*◌, ◌≤◌}
 use mathlib.Core.Path.{◌≡◌, refl, sym, ap, subst, ◌∙◌}
 use mathlib.Core.Bool.{Bool, true, false, not}
@@ -24,7 +24,7 @@ use Rattle.laws.proofs.Good.{inside, and_right}
 use Rattle.laws.proofs.Bounds.{alone, operation_one, operation_free, sizes_nil, sizes_cons, oweds_nil, oweds_cons, size_node, owed_node, lent_either}
 use Rattle.build.specs.Post.{cursor, Room, Comes, Made, ReadTo, Met, MetAfter, Leafed, Operand, HeadFits, Topped, Said}
 use Rattle.build.specs.declared.cursor.Cursor.{Cursor}
-use Rattle.build.specs.declared.cursor.Step.{Step}
+use Rattle.build.specs.Post.{Step}
 use Rattle.build.proofs.Rules.{value_async, value_fails, value_arrow, value_assigns, value_chooses, value_stops, binary_fails, binary_more, operators_end, operators_fail, operators_more, body_curly, body_fails, body_done, assign_refused, assign_fails, assign_done, conditional_fails, conditional_no_colon, conditional_fails_after, conditional_done}
 use Rattle.build.proofs.Ends.{is_done, is_fail, moved, single}
 use Rattle.build.proofs.Makes.{stands_now, made_leaf, made_over, unmade_over, made_then, unmade_after, stands_made, unmade_past, count_one, is_topped, unmade_none}
@@ -32,7 +32,7 @@ use Rattle.rows.specs.Row as Row
 use Rattle.roles.specs.Meaning as means
 use Rattle.targets.specs.Post as Targets
 use Rattle.waiting.proofs.Root.{some_row, root_kind}
-use Rattle.waiting.proofs.Shared.{never, after_none, comes_to, comes_as, after_after, after_done}
+use Rattle.waiting.proofs.Shared.{after_none, comes_to, comes_as, after_after, after_done}
 use lib.Dec.{ltb}
 use Rattle.operators.specs.Precedence.{level, expression_level}
 use Rattle.grammar.specs.Binary.{operation_kind, right_floor, operation_records}
@@ -41,7 +41,7 @@ use Rattle.waiting.specs.Waiting.{Grouped, Breaks, broken, kind_for}
 use Rattle.rows.proofs.Records.{grown_records_none, grown_record}
 use Rattle.heads.specs.declared.Head.{Head}
 use Rattle.conversion.specs.Conversion.{Role, any, simple}
-use Rattle.targets.specs.declared.Conversion.{Conversion}
+use Rattle.targets.specs.Outcome.{Conversion}
 use Rattle.laws.proofs.Owed.{pays}
 use Rattle.build.proofs.Converts.{rooted, Turned, is_turned, is_refused}
 
@@ -60,12 +60,12 @@ pub operand_rows : {ks fs r₀ s₀ m₀ r s m : List ℕ} {floor at n k : ℕ} 
 operand_rows g = omega (arith, alone (single _ g refl), tall (first_tree g.trees), g.made.grown.used)
 
 module _ {ks fs r₀ s₀ m₀ : List ℕ} {c : Cursor} {floor : ℕ} (room : Room ks r₀ s₀ c) where
-  pub binary_refuses : {r s m : List ℕ} {x : Step} {p : Cause} → Met ks fs r₀ s₀ m₀ r s m (unary c.at) c.rows c.records x → x ≡ Step.Fail p
+  pub binary_refuses : {r s m : List ℕ} {x : Step} {p : Cause} → Met ks fs r₀ s₀ m₀ r s m (unary c.at) c.rows c.records x → x ≡ Err p
       → Met ks fs r₀ s₀ m₀ r s m (binary floor c.at) c.rows c.records x
   binary_refuses h e = let f = h.fail_at _ e in is_fail e record { comes = binary_fails f.comes; unmade = f.unmade }
 
   -- an operand that was read, with the operators that follow it
-  pub binary_grouped : {r s m : List ℕ} {x : Step} {d : Cursor} → Met ks fs r₀ s₀ m₀ r s m (unary c.at) c.rows c.records x → x ≡ Step.Done d
+  pub binary_grouped : {r s m : List ℕ} {x : Step} {d : Cursor} → Met ks fs r₀ s₀ m₀ r s m (unary c.at) c.rows c.records x → x ≡ Ok d
       → Grouped ks fs r₀ s₀ m₀ floor c.at c.rows c.records r s m d d.at
   binary_grouped {r} {s} {m} {d = d} h e =
       let a = h.done_to _ e in
@@ -90,7 +90,7 @@ module _ {ks fs r₀ s₀ m₀ : List ℕ} {c : Cursor} {floor : ℕ} (room : Ro
 
 module _ {ks fs r₀ s₀ m₀ : List ℕ} {floor first n k₀ : ℕ} {r₁ s₁ m₁ : List ℕ} {here : Cursor} {at operator above : ℕ}
     (w : Grouped ks fs r₀ s₀ m₀ floor first n k₀ r₁ s₁ m₁ here at) (t : operator ≡ get_or ks at 0) (l : above ≡ expression_level operator) where
-  pub binary_ends : above ≤ floor → Met ks fs r₀ s₀ m₀ r₁ s₁ m₁ (binary floor first) n k₀ (Step.Done here)
+  pub binary_ends : above ≤ floor → Met ks fs r₀ s₀ m₀ r₁ s₁ m₁ (binary floor first) n k₀ (Ok here)
   binary_ends le =
       let e : ltb floor (expression_level (get_or ks at 0)) ≡ false = le-ltb _ _ (subst (λ (i : ℕ). i ≤ floor) (l ∙ ap expression_level t) le) in
       let h = comes_to (w.rest _ (operators_end e)) (after_done w.said _ _ _) in
@@ -109,7 +109,7 @@ module _ {ks fs r₀ s₀ m₀ : List ℕ} {floor first n k₀ : ℕ} {r₁ s₁
     next_is : next ≡ right_floor (get_or ks at 0)
     next_is = f ∙ ap right_floor t
 
-    pub binary_stops : {p : Cause} → x ≡ Step.Fail p → Met ks fs r₀ s₀ m₀ r s m (binary floor first) n k₀ x
+    pub binary_stops : {p : Cause} → x ≡ Err p → Met ks fs r₀ s₀ m₀ r s m (binary floor first) n k₀ x
     unfolding after_records
     binary_stops {p} e =
         let g = h.fail_at _ e in
@@ -118,7 +118,7 @@ module _ {ks fs r₀ s₀ m₀ : List ℕ} {floor first n k₀ : ℕ} {r₁ s₁
           unmade = unmade_after w.wide w.deep w.made g.unmade;
         }
 
-    pub binary_operates : {r' s' : List ℕ} {d u : Cursor} → x ≡ Step.Done d → 6 * here.rows ≤ length r₁ → Finished ks r s d at first here.rows n r' s' u
+    pub binary_operates : {r' s' : List ℕ} {d u : Cursor} → x ≡ Ok d → 6 * here.rows ≤ length r₁ → Finished ks r s d at first here.rows n r' s' u
         → Grouped ks fs r₀ s₀ m₀ floor first n k₀ r' s' m u d.at
     binary_operates {r'} {s'} {d} {u} e fits fin =
         let g = h.done_to _ e in
@@ -185,17 +185,13 @@ module _ {fs s₀ s : List ℕ} {c d : Cursor} {y : ℕ} where
         said = rw (ne_eqb _ _ (λ q. t (k ∙ q)), w, p) (grown_records_none s₀ c.records);
       }
 
--- the same, with all named
-pub breaks_as : (fs s₀ : List ℕ) (c : Cursor) (s : List ℕ) (d : Cursor) → Breaks fs s₀ c s d → Breaks fs s₀ c s d
-breaks_as fs s₀ c s d b = b
-
 before : {fs r₀ s₀ s₁ : List ℕ} {c d : Cursor} {from : ℕ} {trees : Forest} → Breaks fs s₀ c s₁ d → Grown r₀ from r₀ c.rows trees
     → Made r₀ s₀ from c.records r₀ s₁ d trees (broken fs c.at)
 before {r₀ = r₀} {from = from} {trees} b g = record { grown = subst (λ (x : ℕ). Grown r₀ from r₀ x trees) (sym b.rows) g; recorded = b.said }
 
 module _ {ks fs r₀ s₀ m₀ : List ℕ} {c : Cursor} {h : Head} (room : Room ks r₀ s₀ c) (fits : HeadFits ks c h) where
   pub body_curlies : {y : ℕ} → y ≡ get_or ks (c.at + 1) 0 → y ≡ 22
-      → MetAfter ks fs r₀ s₀ m₀ r₀ s₀ m₀ (body h.kind h.first c.at) h.from c.rows h.kids c.records (Step.Fail (Cause.Unexpected (c.at + 1)))
+      → MetAfter ks fs r₀ s₀ m₀ r₀ s₀ m₀ (body h.kind h.first c.at) h.from c.rows h.kids c.records (Err (Cause.Unexpected (c.at + 1)))
   body_curlies k t =
       record {
         over_all = λ trees number g.
@@ -203,7 +199,7 @@ module _ {ks fs r₀ s₀ m₀ : List ℕ} {c : Cursor} {h : Head} (room : Room 
       }
 
   module _ {y : ℕ} {s₁ : List ℕ} {d : Cursor} (k : y ≡ get_or ks (c.at + 1) 0) (t : y ≡ 22 → ⊥) (b : Breaks fs s₀ c s₁ d) where
-    pub body_refused : {r s m : List ℕ} {x : Step} {p : Cause} → Met ks fs r₀ s₁ m₀ r s m (assignment d.at) d.rows d.records x → x ≡ Step.Fail p
+    pub body_refused : {r s m : List ℕ} {x : Step} {p : Cause} → Met ks fs r₀ s₁ m₀ r s m (assignment d.at) d.rows d.records x → x ≡ Err p
         → MetAfter ks fs r₀ s₀ m₀ r s m (body h.kind h.first c.at) h.from c.rows h.kids c.records x
     body_refused a e =
         record {
@@ -215,9 +211,9 @@ module _ {ks fs r₀ s₀ m₀ : List ℕ} {c : Cursor} {h : Head} (room : Room 
               };
         }
 
-    pub body_dones : {r₁ r s m : List ℕ} {x : Step} {e u : Cursor} → Met ks fs r₀ s₁ m₀ r₁ s m (assignment d.at) d.rows d.records x → x ≡ Step.Done e
+    pub body_dones : {r₁ r s m : List ℕ} {x : Step} {e u : Cursor} → Met ks fs r₀ s₁ m₀ r₁ s m (assignment d.at) d.rows d.records x → x ≡ Ok e
         → Topped r₁ e h.kind c.at h.first e.at (h.kids + 1) h.from r u
-        → MetAfter ks fs r₀ s₀ m₀ r s m (body h.kind h.first c.at) h.from c.rows h.kids c.records (Step.Done u)
+        → MetAfter ks fs r₀ s₀ m₀ r s m (body h.kind h.first c.at) h.from c.rows h.kids c.records (Ok u)
     body_dones a q top =
         record {
           over_all = λ trees number g.
@@ -236,12 +232,6 @@ aimed : (plain : Bool) → means.aim (not plain) ≡ role_of plain
 aimed true = refl
 aimed false = refl
 
-pub plain_kind : {plain : Bool} {kind : ℕ} → plain ≡ true → kind ≡ Row.Assign → kind ≡ kind_for plain
-plain_kind t e = rw t e
-
-pub compound_kind : {plain : Bool} {kind : ℕ} → plain ≡ false → kind ≡ Row.CompoundAssign → kind ≡ kind_for plain
-compound_kind t e = rw t e
-
 -- room for the conversion
 pub assigned_room : {ks r s : List ℕ} {c : Cursor} {first from root : ℕ} → Room ks r s c → Operand ks r c first from → c.rows ≡ root + 1 → Targets.Room r root (length s) c.records
 assigned_room room o n = record { rooted = rooted o.stands n (omega (arith, room)); room = omega (arith, room, o.few_records) }
@@ -251,23 +241,23 @@ module _ {ks r₀ s₀ : List ℕ} {c : Cursor} {first from root y : ℕ} (room 
   converted : Targets.RowConverted r₀ s₀ root (role_of (get_or ks c.at 0 is Eq)) c.records r₁ s₁ z
   converted = subst (λ (p : Role). Targets.RowConverted r₀ s₀ root p c.records r₁ s₁ z) (aimed (y is Eq) ∙ ap (λ (i : ℕ). role_of (i is Eq)) k) h
 
-  target : {counted : ℕ} → z ≡ Conversion.Turned counted → Turned r₀ s₀ from c.rows c.records o.left (role_of (get_or ks c.at 0 is Eq)) counted r₁ s₁
+  target : {counted : ℕ} → z ≡ Ok counted → Turned r₀ s₀ from c.rows c.records o.left (role_of (get_or ks c.at 0 is Eq)) counted r₁ s₁
   target e = is_turned converted o.left o.stands n (omega (arith, room)) (omega (arith, room, o.few_records)) e
 
   -- its records are no more than it owed
-  pub assigned_few : {counted : ℕ} → z ≡ Conversion.Turned counted → c.records + counted ≤ c.at
+  pub assigned_few : {counted : ℕ} → z ≡ Ok counted → c.records + counted ≤ c.at
   assigned_few e =
       let t = target e in
       omega (arith, t.counted, pays o.left (role_of (get_or ks c.at 0 is Eq)) t.target t.records t.converts, lent_either (get_or ks c.at 0 is Eq), o.few_records)
 
   module _ {fs m₀ : List ℕ} where
-    pub assigned_refuses : {cause : Cause} → z ≡ Conversion.Refused cause → Met ks fs r₀ s₀ m₀ r₁ s₁ m₀ (assign first c.at o.left) from c.records (Step.Fail cause)
+    pub assigned_refuses : {cause : Cause} → z ≡ Err cause → Met ks fs r₀ s₀ m₀ r₁ s₁ m₀ (assign first c.at o.left) from c.records (Err cause)
     assigned_refuses e =
         let u = is_refused converted o.left o.stands n (omega (arith, room)) (omega (arith, room, o.few_records)) e in
         is_fail refl record { comes = assign_refused u.converts; unmade = rw (u.rows_same, u.records_same) unmade_none }
 
-    module _ {counted : ℕ} {r s m : List ℕ} {x : Step} (e : z ≡ Conversion.Turned counted) (a : Met ks fs r₁ s₁ m₀ r s m (assignment (c.at + 1)) c.rows (c.records + counted) x) where
-      pub assigned_fails : {p : Cause} → x ≡ Step.Fail p → Met ks fs r₀ s₀ m₀ r s m (assign first c.at o.left) from c.records x
+    module _ {counted : ℕ} {r s m : List ℕ} {x : Step} (e : z ≡ Ok counted) (a : Met ks fs r₁ s₁ m₀ r s m (assignment (c.at + 1)) c.rows (c.records + counted) x) where
+      pub assigned_fails : {p : Cause} → x ≡ Err p → Met ks fs r₀ s₀ m₀ r s m (assign first c.at o.left) from c.records x
       assigned_fails q =
           let t = target e in
           let f = a.fail_at _ q in
@@ -276,8 +266,8 @@ module _ {ks r₀ s₀ : List ℕ} {c : Cursor} {first from root y : ℕ} (room 
             unmade = unmade_after (omega (arith, room, o)) (omega (arith, room)) (t.made 0) f.unmade;
           }
 
-      pub assigned_done : {r' : List ℕ} {d u : Cursor} {kind : ℕ} → x ≡ Step.Done d → kind ≡ kind_for (y is Eq) → Topped r d kind c.at first d.at 2 from r' u
-          → Met ks fs r₀ s₀ m₀ r' s m (assign first c.at o.left) from c.records (Step.Done u)
+      pub assigned_done : {r' : List ℕ} {d u : Cursor} {kind : ℕ} → x ≡ Ok d → kind ≡ kind_for (y is Eq) → Topped r d kind c.at first d.at 2 from r' u
+          → Met ks fs r₀ s₀ m₀ r' s m (assign first c.at o.left) from c.records (Ok u)
       unfolding count
       assigned_done {r'} {d} {u} q w top =
           let t = target e in
@@ -289,13 +279,13 @@ module _ {ks r₀ s₀ : List ℕ} {c : Cursor} {first from root y : ℕ} (room 
 -- A CONDITIONAL (13.14), from its `?` on
 module _ {ks fs r₀ s₀ m₀ : List ℕ} {c : Cursor} {first from : ℕ} (room : Room ks r₀ s₀ c) (o : Operand ks r₀ c first from)
     {r₁ s₁ m₁ : List ℕ} {x : Step} (h : Met ks fs r₀ s₀ m₀ r₁ s₁ m₁ (assignment (c.at + 1)) c.rows c.records x) where
-  pub choice_fails : {p : Cause} → x ≡ Step.Fail p → Met ks fs r₀ s₀ m₀ r₁ s₁ m₁ (conditional first c.at o.left) from c.records x
+  pub choice_fails : {p : Cause} → x ≡ Err p → Met ks fs r₀ s₀ m₀ r₁ s₁ m₁ (conditional first c.at o.left) from c.records x
   choice_fails e =
       let f = h.fail_at _ e in
       is_fail e record { comes = conditional_fails o.next f.comes; unmade = unmade_after (omega (arith, room, o)) (omega (arith, room)) (stands_made c o.stands) f.unmade }
 
-  module _ {d : Cursor} {y : ℕ} (e : x ≡ Step.Done d) (k : y ≡ get_or ks d.at 0) where
-    pub choice_opens : (y ≡ 25 → ⊥) → Met ks fs r₀ s₀ m₀ r₁ s₁ m₁ (conditional first c.at o.left) from c.records (Step.Fail (Cause.Unexpected d.at))
+  module _ {d : Cursor} {y : ℕ} (e : x ≡ Ok d) (k : y ≡ get_or ks d.at 0) where
+    pub choice_opens : (y ≡ 25 → ⊥) → Met ks fs r₀ s₀ m₀ r₁ s₁ m₁ (conditional first c.at o.left) from c.records (Err (Cause.Unexpected d.at))
     choice_opens t =
         let a = h.done_to _ e in
         is_fail refl record {
@@ -304,7 +294,7 @@ module _ {ks fs r₀ s₀ m₀ : List ℕ} {c : Cursor} {first from : ℕ} (room
         }
 
     module _ {r s m : List ℕ} {z : Step} (t : y ≡ 25) (h' : Met ks fs r₁ s₁ m₁ r s m (assignment (d.at + 1)) d.rows d.records z) where
-      pub choice_fails_after : {p : Cause} → z ≡ Step.Fail p → Met ks fs r₀ s₀ m₀ r s m (conditional first c.at o.left) from c.records z
+      pub choice_fails_after : {p : Cause} → z ≡ Err p → Met ks fs r₀ s₀ m₀ r s m (conditional first c.at o.left) from c.records z
       choice_fails_after e' =
           let a = h.done_to _ e in
           let f = h'.fail_at _ e' in
@@ -313,8 +303,8 @@ module _ {ks fs r₀ s₀ m₀ : List ℕ} {c : Cursor} {first from : ℕ} (room
             unmade = unmade_after (omega (arith, room, o)) (omega (arith, room)) (made_then (stands_made c o.stands) a.made) f.unmade;
           }
 
-      pub choice_done : {r' : List ℕ} {g u : Cursor} → z ≡ Step.Done g → Topped r g Row.Conditional c.at first g.at 3 from r' u
-          → Met ks fs r₀ s₀ m₀ r' s m (conditional first c.at o.left) from c.records (Step.Done u)
+      pub choice_done : {r' : List ℕ} {g u : Cursor} → z ≡ Ok g → Topped r g Row.Conditional c.at first g.at 3 from r' u
+          → Met ks fs r₀ s₀ m₀ r' s m (conditional first c.at o.left) from c.records (Ok u)
       unfolding join count
       choice_done e' top =
           let a = h.done_to _ e in
@@ -340,7 +330,7 @@ and_no true b e = e
 and_no false b e = refl
 
 no_and : (a b : Bool) → a ≡ false → a and b ≡ false
-no_and true b e = absurd (never (cc))
+no_and true b e = absurd (cc)
 no_and false b e = refl
 
 no_assignment : {y : ℕ} → y ≡ Arrow → is_assignment_operator y ≡ false
@@ -380,10 +370,10 @@ module _ {ks fs r₀ s₀ m₀ : List ℕ} {c : Cursor} (room : Room ks r₀ s�
 
   module _ {b : Bool} {r₁ s₁ m₁ : List ℕ} {x : Step} (i : b ≡ is_async_name (sheet_of ks fs) c.at) (j : b ≡ false)
       (a : Met ks fs r₀ s₀ m₀ r₁ s₁ m₁ (binary 0 c.at) c.rows c.records x) where
-    pub value_refuses : {p : Cause} → x ≡ Step.Fail p → Met ks fs r₀ s₀ m₀ r₁ s₁ m₁ (value c.at) c.rows c.records x
+    pub value_refuses : {p : Cause} → x ≡ Err p → Met ks fs r₀ s₀ m₀ r₁ s₁ m₁ (value c.at) c.rows c.records x
     value_refuses e = let f = a.fail_at _ e in is_fail e record { comes = value_fails (sym i ∙ j) f.comes; unmade = f.unmade }
 
-    module _ {d : Cursor} {y : ℕ} (q : x ≡ Step.Done d) (k : y ≡ get_or ks d.at 0) where
+    module _ {d : Cursor} {y : ℕ} (q : x ≡ Ok d) (k : y ≡ get_or ks d.at 0) where
       abbrev g : ReadTo ks fs r₀ s₀ m₀ r₁ s₁ m₁ (binary 0 c.at) c.rows c.records d
       g = a.done_to d q
 
@@ -430,7 +420,7 @@ module _ {ks fs r₀ s₀ m₀ : List ℕ} {c : Cursor} (room : Room ks r₀ s�
           goes_on (λ out u. value_arrow (sym i ∙ j) read_left (eq-eqb _ _ kind) (sym k ∙ t) u) made (f.over_all (one name) refl (stands_now (omega (arith, room)) made.grown))
 
       -- `=>` after what is no Identifier
-      pub value_stays : {z : ℕ} → y ≡ Arrow → Word r₁ (d.rows - 1) 0 z → (z ≡ Row.Identifier → ⊥) → Met ks fs r₀ s₀ m₀ r₁ s₁ m₁ (value c.at) c.rows c.records (Step.Done d)
+      pub value_stays : {z : ℕ} → y ≡ Arrow → Word r₁ (d.rows - 1) 0 z → (z ≡ Row.Identifier → ⊥) → Met ks fs r₀ s₀ m₀ r₁ s₁ m₁ (value c.at) c.rows c.records (Ok d)
       value_stays t w h =
           let kind = root_kind (omega (arith, room)) made_left.grown w in
           is_done refl record {
@@ -458,6 +448,6 @@ module _ {ks fs r₀ s₀ m₀ : List ℕ} {c : Cursor} (room : Room ks r₀ s�
               → Met ks fs r₀ s₀ m₀ r s m (value c.at) c.rows c.records v
           value_choices e h f = goes_on (λ out u. value_chooses (sym i ∙ j) read_left no_arrow (operator e) (eq-eqb _ _ (sym k ∙ h)) u) made_left f
 
-          pub value_ends : o ≡ false → (y ≡ Question → ⊥) → Met ks fs r₀ s₀ m₀ r₁ s₁ m₁ (value c.at) c.rows c.records (Step.Done d)
+          pub value_ends : o ≡ false → (y ≡ Question → ⊥) → Met ks fs r₀ s₀ m₀ r₁ s₁ m₁ (value c.at) c.rows c.records (Ok d)
           value_ends e h =
               is_done refl record { trees = one left; records = g.records; comes = value_stops (sym i ∙ j) read_left no_arrow (operator e) (λ u. h (k ∙ u)); made = made_left }

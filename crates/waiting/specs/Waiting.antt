@@ -1,12 +1,12 @@
 -- Rows that wait for their last part, and what is left to come of a reading while they wait. Each says what it makes of the part that it waits for,
 -- in terms of what the reader of that part promises (`Met`); the outermost makes the whole.
-use Rattle.std.specs.Prelude.{◌+◌, ◌*◌, ◌≤◌, ◌<◌, ◌-◌, ◌≡◌, ◌∷◌, ◌++◌, if◌then◌else◌}
+use Rattle.std.specs.Prelude.{◌+◌, ◌*◌, ◌≤◌, ◌<◌, ◌-◌, ◌≡◌, ◌∷◌, ◌++◌, if◌then◌else◌, Ok, Err}
 use Rattle.rows.specs.Base.{ℕ, List, [], length, get_or, drop, Tree, one, row, Record, break_before_arrow, Bool, true, false, not, ◌is◌, ◌or◌, Cause}
 use Rattle.grammar.specs.{Sheet.Out, Sheet.after_records, Sheet.sheet_of, Job.binary, Job.operators, Job.Job, Job.assignment, Job.value, Job.body}
 use Rattle.grammar.specs.{Assignment.is_async_name, Binary.operation_kind, Binary.right_floor}
 use Rattle.conversion.specs.Conversion.{potential as owed}
 use Rattle.build.specs.Post.{Comes, Made, cursor, Met, MetAfter, Topped, TopRoom}
-use Rattle.build.specs.{declared.cursor.Cursor.Cursor, Operation.Finished, declared.cursor.Step.Step}
+use Rattle.build.specs.{declared.cursor.Cursor.Cursor, Operation.Finished, Post.Step}
 use Rattle.rows.specs.Post.{GrownRecords}
 use Rattle.tokens.specs.Kind.{Colon}
 use Rattle.heads.specs.declared.Head.{Head}
@@ -106,8 +106,8 @@ module _ (ks fs : List ℕ) (all : Whole) where
 
   -- a part was refused, and so is the whole; or it was read, and then comes what is next
   pub record Outcome (next : List ℕ → List ℕ → List ℕ → Cursor → Type 0) (r s m : List ℕ) (x : Step) : Type 0 where
-    pub refused : (cause : Cause) → x ≡ Step.Fail cause → Comes-all r s m x
-    pub read : (d : Cursor) → x ≡ Step.Done d → next r s m d
+    pub refused : (cause : Cause) → x ≡ Err cause → Comes-all r s m x
+    pub read : (d : Cursor) → x ≡ Ok d → next r s m d
 
   -- whatever a nonterminal comes to from here
   pub record Starts (next : List ℕ → List ℕ → List ℕ → Cursor → Type 0) (job : Job) (r s m : List ℕ) (c : Cursor) : Type 0 where
@@ -153,11 +153,11 @@ module _ (ks fs : List ℕ) (all : Whole) where
   -- the middle part of a Conditional has ended: a `:` and its last part follow
   pub record ChoiceEnds (next : List ℕ → List ℕ → List ℕ → Cursor → Type 0) (operand : Bool) (r s m : List ℕ) (top : ℕ) (d : Cursor) (mark first from : ℕ) : Type 0 where
     pub spare : Spare ks s (top - 1) d
-    pub no_colon : (get_or ks d.at 0 ≡ Colon → ⊥) → Comes-all r s m (Step.Fail (Cause.Unexpected d.at))
+    pub no_colon : (get_or ks d.at 0 ≡ Colon → ⊥) → Comes-all r s m (Err (Cause.Unexpected d.at))
     pub colon : get_or ks d.at 0 ≡ Colon → Starts (λ r' s' m' e. PartEnds (λ r'' u. next r'' s' m' u) operand r' top e Row.Conditional mark first 3 from) (assignment (d.at + 1)) r s m (cursor (d.at + 1) d.rows d.records)
 
   unfoldable pub Ends : ℕ → List Waiting → List ℕ → List ℕ → List ℕ → Cursor → Type 0  -- a part has ended, and these wait, up to the row `base`
-  Ends base [] r s m d = Comes-all r s m (Step.Done d)
+  Ends base [] r s m d = Comes-all r s m (Ok d)
   Ends base (operation mark first left from ∷ ws) r s m d =
       OperationEnds (λ r' s' u. Linked (Ends base ws) ws (base - length ws) r' s' m u first from) r s (base - length ws) d mark first left from
   Ends base (part kind mark first kids from _ _ ∷ ws) r s m d = PartEnds (λ r' u. Ends base ws r' s m u) (awaits_operand ws) r (base - length ws) d kind mark first kids from

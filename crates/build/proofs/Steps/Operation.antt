@@ -1,8 +1,8 @@
 -- `finish` and `postfix`: what is made of operators once their operands stand.
 -- Assumes nothing.
-use Rattle.std.specs.Prelude.{if◌then◌else◌}
+use Rattle.std.specs.Prelude.{if◌then◌else◌, Ok, Err, Option, Some, None}
 use Prim.Native.Nat.{ℕ, ◌+◌, ◌-◌, ◌*◌, ◌≤◌, ◌<◌}
-use mathlib.Core.Path.{◌≡◌, refl, sym, ap, subst, ◌∙◌}
+use mathlib.Core.Path.{◌≡◌, refl, sym, ap, ◌∙◌}
 use mathlib.Core.Bool.{Bool, true, false, not}
 use mathlib.Core.List.{List, [], ◌∷◌, ◌++◌, append-nil}
 use native.Mathlib.Omega.{arith}
@@ -21,18 +21,17 @@ use Rattle.rows.proofs.Flat.{length_flats}
 use Rattle.rows.proofs.Rows.{grown_join}
 use Rattle.conversion.specs.Conversion.{simple}
 use Rattle.targets.specs.Post as Targets
-use Rattle.targets.specs.declared.Conversion.{Conversion}
+use Rattle.targets.specs.Outcome.{Conversion}
 use Rattle.grammar.specs.Sheet.{sheet_of}
 use Rattle.grammar.specs.Binary.{operation_kind, is_or_and, operation_records}
 use Rattle.grammar.specs.Update.{is_update_operator}
-use Rattle.laws.proofs.Owed.{owed}
-use Rattle.build.specs.Post.{cursor, Topped, Said}
+use Rattle.build.specs.Post.{cursor, Topped, Said, Step}
 use Rattle.build.specs.Operation.{record_number, FinishFits, Finished, OperandFits, PostfixTo, PostfixFail, MetPostfix}
 use Rattle.build.specs.declared.cursor.Cursor.{Cursor}
-use Rattle.build.specs.declared.cursor.Step.{Step}
 use Rattle.build.proofs.Rules.{postfix_none, postfix_refused, postfix_done}
 use Rattle.build.proofs.Makes.{stands_made, made_top, made_said}
-use Rattle.build.proofs.Converts.{rooted, is_turned, is_refused}
+use Rattle.build.proofs.Results.{at_ok, at_err, not_ok, not_err}
+use Rattle.build.proofs.Converts.{rooted, is_turned, is_refused, turned_few}
 
 -- a word of the root row of a tree that stands
 root_word : (r : List ℕ) (from n root j : ℕ) (kind mark first end : ℕ) (kids : Forest) → Grown r from r n (one (node kind mark first end kids)) → n ≡ root + 1 → 6 * n ≤ length r → j < 6
@@ -59,14 +58,15 @@ unfolding mark_of
 root_mark r from n root (node kind mark first end kids) g e room = root_word r from n root 1 kind mark first end kids g e room (omega arith)
 
 -- the record of a row by its number
-abbrev numbered : ℕ → ℕ → List Record
-numbered number at = if number is 0 then [] else says number at ∷ []
+abbrev numbered : Option ℕ → ℕ → List Record
+numbered (Some number) at = says number at ∷ []
+numbered None at = []
 
 choose : (coalesces mixes powers unary : Bool) (at : ℕ) → (coalesces ≡ true → powers ≡ false)
     → (if coalesces and mixes then mixed_coalesce at ∷ [] else []) ++ (if powers and unary then unary_power at ∷ [] else [])
-    ≡ numbered (if coalesces then (if mixes then 6 else 0) else if powers and unary then 7 else 0) at
-choose true true true unary at h = let e : true ≡ false = h refl in let z : ◌≡◌ {A = ℕ} 0 1 = cc in absurd (omega arith)
-choose true false true unary at h = let e : true ≡ false = h refl in let z : ◌≡◌ {A = ℕ} 0 1 = cc in absurd (omega arith)
+    ≡ numbered (if coalesces then (if mixes then Some 6 else None) else if powers and unary then Some 7 else None) at
+choose true true true unary at h = let e : true ≡ false = h refl in absurd (cc)
+choose true false true unary at h = let e : true ≡ false = h refl in absurd (cc)
 choose true true false unary at h = refl
 choose true false false unary at h = refl
 choose false mixes true true at h = refl
@@ -85,101 +85,76 @@ module _ (ks : List ℕ) {r₀ s₀ : List ℕ} {d : Cursor} {at first left from
       rw (sym ka, sym ma, sym kb, sym mb)
       (choose (get_or ks at 0 is Question2) _ (get_or ks at 0 is Star2) _ at (λ e. let f = eqb-true (get_or ks at 0) Question2 e in ne_eqb (get_or ks at 0) Star2 (λ i. omega arith)))
 
-  pub finish_none : {r : List ℕ} {number kind : ℕ} {u : Cursor} → number ≡ record_number ks r₀ at (left - 1) (d.rows - 1) → kind ≡ operation_kind (get_or ks at 0)
-      → Topped r₀ d kind at first d.at 2 from r u → number ≡ 0 → Finished ks r₀ s₀ d at first left from r s₀ u
+  pub finish_none : {r : List ℕ} {kind : ℕ} {u : Cursor} → record_number ks r₀ at (left - 1) (d.rows - 1) ≡ None → kind ≡ operation_kind (get_or ks at 0)
+      → Topped r₀ d kind at first d.at 2 from r u → Finished ks r₀ s₀ d at first left from r s₀ u
   unfolding count join
-  finish_none n k top z =
+  finish_none n k top =
       record {
         place = ap (λ (x : Cursor). x.at) top.is;
-        made = λ fs a b g h. rw (records_are fs a b g h, sym n, z, sym k) (made_top (stands_made d (grown_join g h)) top refl);
+        made = λ fs a b g h. rw (records_are fs a b g h, n, sym k) (made_top (stands_made d (grown_join g h)) top refl);
       }
 
-  pub finish_says : {r s : List ℕ} {number kind : ℕ} {v u : Cursor} → number ≡ record_number ks r₀ at (left - 1) (d.rows - 1) → kind ≡ operation_kind (get_or ks at 0)
-      → Topped r₀ d kind at first d.at 2 from r v → (number ≡ 0 → ⊥) → Said s₀ v number at s u → Finished ks r₀ s₀ d at first left from r s u
+  pub finish_says : {r s : List ℕ} {number kind : ℕ} {v u : Cursor} → record_number ks r₀ at (left - 1) (d.rows - 1) ≡ Some number → kind ≡ operation_kind (get_or ks at 0)
+      → Topped r₀ d kind at first d.at 2 from r v → Said s₀ v number at s u → Finished ks r₀ s₀ d at first left from r s u
   unfolding count join
-  finish_says n k top z said =
+  finish_says n k top said =
       record {
         place = ap (λ (x : Cursor). x.at) said.is ∙ ap (λ (x : Cursor). x.at) top.is;
-        made = λ fs a b g h. rw (records_are fs a b g h, sym n, ne_eqb _ _ z, sym k) (made_said (made_top (stands_made d (grown_join g h)) top refl) said);
+        made = λ fs a b g h. rw (records_are fs a b g h, n, sym k) (made_said (made_top (stands_made d (grown_join g h)) top refl) said);
       }
-
-same_done : (c e : Cursor) → Step.Done c ≡ Step.Done e → c ≡ e
-same_done c e q = cc
-
-apart : (c : Cursor) (p : Cause) → Step.Done c ≡ Step.Fail p → ⊥
-apart c p q = let z : ◌≡◌ {A = ℕ} 0 1 = cc in omega arith
-
-same_fail : (p q : Cause) → Step.Fail p ≡ Step.Fail q → p ≡ q
-same_fail p q e = cc
 
 module _ {ks fs r₀ s₀ : List ℕ} {d : Cursor} {first from : ℕ} (fits : OperandFits ks r₀ s₀ d from) where
   -- no update follows, or one on another line
-  pub postfix_stays : (is_update_operator (get_or ks d.at 0) and not (get_or fs d.at 0 is 1)) ≡ false → MetPostfix ks fs r₀ s₀ d first from r₀ s₀ (Step.Done d)
+  pub postfix_stays : (is_update_operator (get_or ks d.at 0) and not (get_or fs d.at 0 is 1)) ≡ false → MetPostfix ks fs r₀ s₀ d first from r₀ s₀ (Ok d)
   postfix_stays e =
       record {
         done_to = λ u q left g deep.
-            subst (λ (x : Cursor). PostfixTo ks fs r₀ s₀ d first from r₀ s₀ left x) (same_done d u q)
-            record { tree = left; records = []; comes = λ h. rw append-nil (postfix_none h e); made = stands_made d g };
-        fail_at = λ cause q. absurd (apart d cause q);
-      }
-
-  at_done : {r s : List ℕ} {u : Cursor} → ((left : Tree) → Grown r₀ from r₀ d.rows (one left) → 2 * (d.records + owed left) ≤ length s₀ → PostfixTo ks fs r₀ s₀ d first from r s left u)
-      → MetPostfix ks fs r₀ s₀ d first from r s (Step.Done u)
-  at_done {r} {s} {u} h =
-      record {
-        done_to = λ v q left g deep. subst (λ (x : Cursor). PostfixTo ks fs r₀ s₀ d first from r s left x) (same_done u v q) (h left g deep);
-        fail_at = λ cause q. absurd (apart u cause q);
+            at_ok (λ (x : Cursor). PostfixTo ks fs r₀ s₀ d first from r₀ s₀ left x) refl
+            record { tree = left; records = []; comes = λ h. rw append-nil (postfix_none h e); made = stands_made d g } u q;
+        fail_at = not_err _ refl;
       }
 
   -- an update of what is no simple target
-  pub postfix_refuses : {r s : List ℕ} {x : Conversion} {cause : Cause} {root : ℕ} → (is_update_operator (get_or ks d.at 0) and not (get_or fs d.at 0 is 1)) ≡ true
-      → Targets.RowConverted r₀ s₀ root simple d.records r s x → x ≡ Conversion.Refused cause → d.rows ≡ root + 1 → MetPostfix ks fs r₀ s₀ d first from r s (Step.Fail cause)
-  postfix_refuses {r} {s} {cause = cause} e c q n =
+  pub postfix_refuses : {r s : List ℕ} {x : Conversion} {y : Step} {cause : Cause} → (is_update_operator (get_or ks d.at 0) and not (get_or fs d.at 0 is 1)) ≡ true
+      → Targets.RowConverted r₀ s₀ (d.rows - 1) simple d.records r s x → x ≡ Err cause → y ≡ Err cause → MetPostfix ks fs r₀ s₀ d first from r s y
+  postfix_refuses {r} {s} e c q i =
       record {
-        done_to = λ u i. absurd (apart u cause (sym i));
-        fail_at = λ other i left g deep.
-            let t = is_refused c left g n (omega (arith, fits)) deep q in
-            subst (λ (y : Cause). PostfixFail ks fs r₀ s₀ d first from r s left y) (same_fail cause other i)
-            record { comes = λ h. postfix_refused h e t.converts; rows_same = t.rows_same; records_same = t.records_same };
+        done_to = not_ok _ i;
+        fail_at = λ other j left g deep.
+            let t = is_refused c left g (omega (arith, fits)) (omega (arith, fits)) deep q in
+            at_err (λ (c : Cause). PostfixFail ks fs r₀ s₀ d first from r s left c) i
+            record { comes = λ h. postfix_refused h e t.converts; rows_same = t.rows_same; records_same = t.records_same } other j;
       }
 
   -- an update of a simple target
-  pub postfix_updates : {r₁ r s : List ℕ} {x : Conversion} {counted root : ℕ} {u : Cursor} → (is_update_operator (get_or ks d.at 0) and not (get_or fs d.at 0 is 1)) ≡ true
-      → Targets.RowConverted r₀ s₀ root simple d.records r₁ s x → x ≡ Conversion.Turned counted → d.rows ≡ root + 1
-      → Topped r₁ (cursor d.at d.rows (d.records + counted)) Row.PostfixUpdate d.at first (d.at + 1) 1 from r u → MetPostfix ks fs r₀ s₀ d first from r s (Step.Done u)
+  pub postfix_updates : {r₁ r s : List ℕ} {x : Conversion} {counted : ℕ} {u : Cursor} → (is_update_operator (get_or ks d.at 0) and not (get_or fs d.at 0 is 1)) ≡ true
+      → Targets.RowConverted r₀ s₀ (d.rows - 1) simple d.records r₁ s x → x ≡ Ok counted
+      → Topped r₁ (cursor d.at d.rows (d.records + counted)) Row.PostfixUpdate d.at first (d.at + 1) 1 from r u → MetPostfix ks fs r₀ s₀ d first from r s (Ok u)
   unfolding count
-  postfix_updates e c q n top =
-      at_done (λ left g deep.
-      let t = is_turned c left g n (omega (arith, fits)) deep q in
+  postfix_updates {r = r} {s} {u = u} e c q top =
       record {
-        tree = node Row.PostfixUpdate d.at first (d.at + 1) (one t.target);
-        records = t.records;
-        comes = λ h. rw (ap (λ (y : Cursor). y.at) top.is) (postfix_done h e t.converts);
-        made = made_top (t.made d.at) top refl;
-      })
-
--- what the tests say
-pub updates : (ks fs : List ℕ) (at : ℕ) {k f : ℕ} {b : Bool} → k ≡ get_or ks at 0 → b ≡ is_update_operator k → b ≡ true → f ≡ get_or fs at 0 → (f ≡ 1 → ⊥)
-    → (is_update_operator (get_or ks at 0) and not (get_or fs at 0 is 1)) ≡ true
-updates ks fs at a u t g n = rw (sym a, sym u ∙ t, sym g, ne_eqb _ _ n)
-
-pub stays : (ks fs : List ℕ) (at : ℕ) {f : ℕ} → f ≡ get_or fs at 0 → f ≡ 1 → (is_update_operator (get_or ks at 0) and not (get_or fs at 0 is 1)) ≡ false
-stays ks fs at g n = go (is_update_operator (get_or ks at 0)) (rw (sym g, n))
-  where
-    go : (b : Bool) → not (get_or fs at 0 is 1) ≡ false → (b and not (get_or fs at 0 is 1)) ≡ false
-    go true e = e
-    go false e = refl
-
-pub not_there : (ks fs : List ℕ) (at : ℕ) {k : ℕ} {b : Bool} → k ≡ get_or ks at 0 → b ≡ is_update_operator k → b ≡ false
-    → (is_update_operator (get_or ks at 0) and not (get_or fs at 0 is 1)) ≡ false
-not_there ks fs at a u t = rw (sym a, sym u ∙ t)
+        done_to = λ v i left g deep.
+            let t = is_turned c left g (omega (arith, fits)) (omega (arith, fits)) deep q in
+            at_ok (λ (x : Cursor). PostfixTo ks fs r₀ s₀ d first from r s left x) refl
+            record {
+              tree = node Row.PostfixUpdate d.at first (d.at + 1) (one t.target);
+              records = t.records;
+              comes = λ h. rw (ap (λ (y : Cursor). y.at) top.is) (postfix_done h e t.converts);
+              made = made_top (t.made d.at) top refl;
+            } v i;
+        fail_at = not_err _ refl;
+      }
 
 -- room for a conversion
-pub postfix_room : {ks r s : List ℕ} {d : Cursor} {from root : ℕ} → OperandFits ks r s d from → d.rows ≡ root + 1 → Targets.Room r root (length s) d.records
-postfix_room o n = record { rooted = rooted o.stands n (omega (arith, o)); room = o.deep }
+pub postfix_room : {ks r s : List ℕ} {d : Cursor} {from : ℕ} → OperandFits ks r s d from → Targets.Room r (d.rows - 1) (length s) d.records
+postfix_room o = record { rooted = rooted o.stands (omega (arith, o)) (omega (arith, o)); room = o.deep }
+
+-- and its records are few
+pub postfix_few : {ks r₀ s₀ r s : List ℕ} {d : Cursor} {from counted : ℕ} {x : Conversion} → OperandFits ks r₀ s₀ d from → Targets.RowConverted r₀ s₀ (d.rows - 1) simple d.records r s x
+    → x ≡ Ok counted → 2 * (d.records + counted) ≤ length s₀
+postfix_few fits c q = let few = turned_few (is_turned c fits.operand fits.stands (omega (arith, fits)) (omega (arith, fits)) fits.deep q) in omega (arith, fits, few)
 
 -- an update stands before the end
-pub update_stands : (ks : List ℕ) (at : ℕ) {k : ℕ} {b : Bool} → k ≡ get_or ks at 0 → b ≡ is_update_operator k → b ≡ true → at < length ks
+pub update_stands : (ks : List ℕ) (at : ℕ) → is_update_operator (get_or ks at 0) ≡ true → at < length ks
 unfolding is_update_operator
-update_stands ks at k p q =
-    stands_not ks at (λ z. let y : is_update_operator 0 ≡ true = ap is_update_operator (sym z ∙ sym k) ∙ sym p ∙ q in let w : ◌≡◌ {A = ℕ} 0 1 = cc in omega arith)
+update_stands ks at e = stands_not ks at (λ z. let y = rw z at e in absurd (cc))

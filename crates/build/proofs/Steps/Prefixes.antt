@@ -1,5 +1,6 @@
 -- `prefixes`, 13.5 and 13.4: the rows of prefix operators from the innermost out, each turn and each way out.
 -- Assumes nothing.
+use Rattle.std.specs.Prelude.{Ok, Err}
 use Prim.Native.Nat.{ℕ, zero, suc, ◌+◌, ◌-◌, ◌*◌, ◌≤◌, ◌<◌}
 use mathlib.Core.Path.{◌≡◌, refl, sym, ap, subst, ◌∙◌}
 use mathlib.Core.Bool.{Bool, true, false}
@@ -21,26 +22,23 @@ use Rattle.rows.proofs.Rows.{grown_row}
 use Rattle.conversion.specs.Conversion.{simple}
 use Rattle.conversion.specs.Conversion.{potential, potentials}
 use Rattle.targets.specs.Post as Targets
-use Rattle.targets.specs.declared.Conversion.{Conversion}
+use Rattle.targets.specs.Outcome.{Conversion}
 use Rattle.grammar.specs.Sheet.{done, fail}
 use Rattle.grammar.specs.Job.{unary}
 use Rattle.grammar.specs.Update.{is_unary_operator, is_update_operator}
 use Rattle.build.specs.Post.{cursor, Comes, Made, Topped}
 use Rattle.build.specs.Operation.{is_prefix_operator, PrefixFits, PrefixedTo, PrefixedFail, Before, MetPrefixes}
 use Rattle.build.specs.declared.cursor.Cursor.{Cursor}
-use Rattle.build.specs.declared.cursor.Step.{Step}
+use Rattle.build.specs.Post.{Step}
 use Rattle.build.proofs.Rules.{unary_fails, unary_done, update_fails, update_refused, update_done}
 use Rattle.build.proofs.Makes.{stands_now, stands_made, made_top, made_over, unmade_past}
-use Rattle.build.proofs.Converts.{rooted, is_turned, is_refused, turned_few}
-use Rattle.build.proofs.Steps.Inside.{same_done, apart}
-
-same_fail : (p q : Cause) → Step.Fail p ≡ Step.Fail q → p ≡ q
-same_fail p q e = cc
+use Rattle.build.proofs.Converts.{rooted, Turned, is_turned, is_refused, turned_few}
+use Rattle.build.proofs.Results.{at_ok, at_err, not_ok, not_err}
 
 -- what may stand before an operand stands before the end
 pub prefix_stands : (ks : List ℕ) (i : ℕ) → is_prefix_operator (get_or ks i 0) ≡ true → i < length ks
 unfolding is_unary_operator is_update_operator
-prefix_stands ks i e = stands_not ks i (λ z. let y = rw z at e in let w : ◌≡◌ {A = ℕ} 0 1 = cc in omega arith)
+prefix_stands ks i e = stands_not ks i (λ z. let y = rw z at e in absurd (cc))
 
 -- it is an operator of 13.5 or an update, and not both
 update_not_unary : (k : ℕ) → is_update_operator k ≡ true → is_unary_operator k ≡ false
@@ -50,11 +48,11 @@ update_not_unary k e = go (eqb k Plus2) refl (eqb k Minus2) refl e
     go : (a : Bool) → eqb k Plus2 ≡ a → (b : Bool) → eqb k Minus2 ≡ b → (a or b) ≡ true → is_unary_operator k ≡ false
     go true p b q t = rw (eqb-true k Plus2 p)
     go false p true q t = rw (eqb-true k Minus2 q)
-    go false p false q t = let w : ◌≡◌ {A = ℕ} 0 1 = cc in absurd (omega arith)
+    go false p false q t = absurd (cc)
 
 else_unary : (a b : Bool) → (a or b) ≡ true → b ≡ false → a ≡ true
 else_unary true b e f = refl
-else_unary false b e f = let w : ◌≡◌ {A = ℕ} 0 1 = cc in absurd (omega arith)
+else_unary false b e f = absurd (cc)
 
 module _ {ks fs : List ℕ} {m₀ m : List ℕ} {c : Cause} where
   fails_at : (i : ℕ) → is_prefix_operator (get_or ks i 0) ≡ true → Comes ks fs (unary (i + 1)) m₀ (fail c m) → Comes ks fs (unary i) m₀ (fail c m)
@@ -133,35 +131,35 @@ module _ {ks r₀ s₀ : List ℕ} {d : Cursor} {first start from : ℕ} (fits :
         };
       }
 
-  pub prefixes_done : {r s : List ℕ} {here : Cursor} {at : ℕ} → Prefixing ks r₀ s₀ d first start from r s here at → at ≤ first → MetPrefixes ks r₀ s₀ d first start from r s (Step.Done here)
+  pub prefixes_done : {r s : List ℕ} {here : Cursor} {at : ℕ} → Prefixing ks r₀ s₀ d first start from r s here at → at ≤ first → MetPrefixes ks r₀ s₀ d first start from r s (Ok here)
   prefixes_done {r} {s} {here} {at} w e =
       record {
         done_to = λ u q fs m₀ m rs b.
             let z = w.so fs m₀ m rs b in
             let p : at ≡ first = omega (arith, w) in
-            subst (λ (x : Cursor). PrefixedTo ks fs r₀ s₀ d first from m₀ m rs r s x) (same_done here u q)
+            at_ok (λ (x : Cursor). PrefixedTo ks fs r₀ s₀ d first from m₀ m rs r s x) refl
             record {
               tree = z.tree;
               records = z.records;
               comes = rw (w.place, sym p) z.comes;
               made = z.made;
-            };
-        fail_at = λ cause q. absurd (apart here cause q);
+            } u q;
+        fail_at = not_err _ refl;
       }
 
   -- an operator of 13.5
-  pub prefixes_unary : {r s r' : List ℕ} {here u : Cursor} {at k : ℕ} {b : Bool} → Prefixing ks r₀ s₀ d first start from r s here at → first < at → k ≡ get_or ks (at - 1) 0
-      → b ≡ is_update_operator k → b ≡ false → Topped r here Row.Unary (at - 1) (at - 1) d.at 1 from r' u → length r' ≡ length r
+  pub prefixes_unary : {r s r' : List ℕ} {here u : Cursor} {at : ℕ} → Prefixing ks r₀ s₀ d first start from r s here at → first < at
+      → is_update_operator (get_or ks (at - 1) 0) ≡ false → Topped r here Row.Unary (at - 1) (at - 1) d.at 1 from r' u → length r' ≡ length r
       → Prefixing ks r₀ s₀ d first start from r' s u (at - 1)
   unfolding count
-  prefixes_unary {r} {s} {r'} {here} {u} {at} w lt k p q top l =
+  prefixes_unary {r} {s} {r'} {here} {u} {at} w lt e top l =
       let i = at - 1 in
       let back : i + 1 ≡ at = omega arith in
       let isa = ap (λ (x : Cursor). x.at) top.is in
       let isr = ap (λ (x : Cursor). x.rows) top.is in
       let iss = ap (λ (x : Cursor). x.records) top.is in
       let op = fits.operators i (omega arith) (omega (arith, w)) in
-      let one_op : is_unary_operator (get_or ks i 0) ≡ true = else_unary _ _ op (ap is_update_operator (sym k) ∙ sym p ∙ q) in
+      let one_op : is_unary_operator (get_or ks i 0) ≡ true = else_unary _ _ op e in
       let owes = unary_owes i d.at w.now_one in
       record {
         low = omega arith;
@@ -186,46 +184,60 @@ module _ {ks r₀ s₀ : List ℕ} {d : Cursor} {first start from : ℕ} (fits :
             };
       }
 
-  -- what holds at the operator before, an update
-  is_update : {r s : List ℕ} {here : Cursor} {at k : ℕ} {b : Bool} → Prefixing ks r₀ s₀ d first start from r s here at → first < at → k ≡ get_or ks (at - 1) 0
-      → b ≡ is_update_operator k → b ≡ true → is_update_operator (get_or ks (at - 1) 0) ≡ true
-  is_update w lt k p q = ap is_update_operator (sym k) ∙ sym p ∙ q
-
   inside : {r s : List ℕ} {here : Cursor} {at : ℕ} → Prefixing ks r₀ s₀ d first start from r s here at → first < at → at - 1 < length ks
   inside {at = at} w lt = prefix_stands ks (at - 1) (fits.operators (at - 1) (omega arith) (omega (arith, w)))
 
   -- an update of what is no simple target
-  pub prefixes_refuse : {r s r' s' : List ℕ} {here : Cursor} {at k root : ℕ} {b : Bool} {x : Conversion} {cause : Cause} → Prefixing ks r₀ s₀ d first start from r s here at → first < at
-      → k ≡ get_or ks (at - 1) 0 → b ≡ is_update_operator k → b ≡ true → Targets.RowConverted r s root simple here.records r' s' x → x ≡ Conversion.Refused cause → here.rows ≡ root + 1
-      → MetPrefixes ks r₀ s₀ d first start from r' s' (Step.Fail cause)
-  prefixes_refuse {r} {s} {r'} {s'} {here} {at} {cause = cause} w lt k p q c e n =
+  pub prefixes_refuse : {r s r' s' : List ℕ} {here : Cursor} {at : ℕ} {x : Conversion} {y : Step} {cause : Cause} → Prefixing ks r₀ s₀ d first start from r s here at → first < at
+      → is_update_operator (get_or ks (at - 1) 0) ≡ true → Targets.RowConverted r s (here.rows - 1) simple here.records r' s' x → x ≡ Err cause → y ≡ Err cause
+      → MetPrefixes ks r₀ s₀ d first start from r' s' y
+  prefixes_refuse {r} {s} {r'} {s'} {here} {at} w lt u c e y =
+      let n : here.rows ≡ here.rows - 1 + 1 = omega (arith, w, fits) in
       let i = at - 1 in
       let back : i + 1 ≡ at = omega arith in
-      let u = is_update w lt k p q in
       record {
-        done_to = λ v j. absurd (apart v cause (sym j));
+        done_to = not_ok _ y;
         fail_at = λ other j fs m₀ m rs b.
             let z = w.so fs m₀ m rs b in
             let g = stands_now (omega (arith, w, fits)) z.made.grown in
             let t = is_refused c z.tree g n (omega (arith, w, fits)) (omega (arith, w, z)) e in
-            subst (λ (y : Cause). PrefixedFail ks fs r₀ s₀ d first from m₀ m r' s' y) (same_fail cause other j)
+            at_err (λ (c : Cause). PrefixedFail ks fs r₀ s₀ d first from m₀ m r' s' c) y
             record {
               comes = all_fail first i (omega arith) (λ l lo hi. fits.operators l lo (omega (arith, w))) (update_refused (inside w lt) (update_not_unary _ u) u (subst (λ (j : ℕ). Comes ks fs (unary j) m₀ (done d.at (one z.tree) (rs ++ z.records) m)) (sym back) z.comes) t.converts);
               unmade = rw (t.rows_same, t.records_same) (unmade_past (omega (arith, fits)) (omega (arith, b)) z.made);
-            };
+            } other j;
       }
 
-  -- an update of a simple target
-  pub prefixes_update : {r s r₁ r' s' : List ℕ} {here v : Cursor} {at k root counted : ℕ} {b : Bool} {x : Conversion} → Prefixing ks r₀ s₀ d first start from r s here at → first < at
-      → k ≡ get_or ks (at - 1) 0 → b ≡ is_update_operator k → b ≡ true → Targets.RowConverted r s root simple here.records r₁ s' x → x ≡ Conversion.Turned counted → here.rows ≡ root + 1
-      → Topped r₁ (cursor d.at here.rows (here.records + counted)) Row.PrefixUpdate (at - 1) (at - 1) d.at 1 from r' v → length r₁ ≡ length r → length s' ≡ length s → length r' ≡ length r₁
-      → Prefixing ks r₀ s₀ d first start from r' s' v (at - 1)
+  -- an update of a simple target: what is made of the operand and the operators so far
+  sofar_update : {fs m₀ m r s r₁ r' s' : List ℕ} {rs : List Record} {here v : Cursor} {at counted : ℕ} → Prefixing ks r₀ s₀ d first start from r s here at → first < at
+      → is_update_operator (get_or ks (at - 1) 0) ≡ true → (z : Sofar ks fs r₀ s₀ d at from m₀ m rs r s here)
+      → Turned r s from here.rows here.records z.tree simple counted r₁ s'
+      → Topped r₁ (cursor here.at here.rows (here.records + counted)) Row.PrefixUpdate (at - 1) (at - 1) d.at 1 from r' v → Sofar ks fs r₀ s₀ d (at - 1) from m₀ m rs r' s' v
   unfolding count
-  prefixes_update {r} {s} {r₁} {r'} {s'} {here} {v} {at} {counted = counted} w lt k p q c e n top l₁ l₂ l₃ =
+  sofar_update {fs} {m₀} {m} {rs = rs} {here} {at = at} w lt u z y top =
       let i = at - 1 in
       let back : i + 1 ≡ at = omega arith in
-      let u = is_update w lt k p q in
-      let isa = ap (λ (y : Cursor). y.at) top.is in
+      let iss = ap (λ (x : Cursor). x.records) top.is in
+      let fewer = turned_few y in
+      let owes = update_owes i d.at y.target in
+      record {
+        tree = node Row.PrefixUpdate i i d.at (one y.target);
+        records = z.records ++ y.records;
+        comes =
+            rw (sym (append_assoc rs z.records y.records))
+            (update_done (inside w lt) (update_not_unary _ u) u (subst (λ (j : ℕ). Comes ks fs (unary j) m₀ (done d.at (one z.tree) (rs ++ z.records) m)) (sym back) z.comes) y.converts);
+        made = made_top (made_over (omega (arith, fits)) z.made (y.made here.at)) top refl;
+        deep = omega (arith, z.deep, iss, owes, fewer);
+      }
+
+  pub prefixes_update : {r s r₁ r' s' : List ℕ} {here v : Cursor} {at counted : ℕ} {x : Conversion} → Prefixing ks r₀ s₀ d first start from r s here at → first < at
+      → is_update_operator (get_or ks (at - 1) 0) ≡ true → Targets.RowConverted r s (here.rows - 1) simple here.records r₁ s' x → x ≡ Ok counted
+      → Topped r₁ (cursor here.at here.rows (here.records + counted)) Row.PrefixUpdate (at - 1) (at - 1) d.at 1 from r' v → length r₁ ≡ length r → length s' ≡ length s → length r' ≡ length r₁
+      → Prefixing ks r₀ s₀ d first start from r' s' v (at - 1)
+  unfolding count
+  prefixes_update {r} {s} {r₁} {r'} {s'} {here} {v} {at} {counted = counted} w lt u c e top l₁ l₂ l₃ =
+      let n : here.rows ≡ here.rows - 1 + 1 = omega (arith, w, fits) in
+      let i = at - 1 in
       let isr = ap (λ (y : Cursor). y.rows) top.is in
       let iss = ap (λ (y : Cursor). y.records) top.is in
       let t = is_turned c w.now_one w.stands n (omega (arith, w, fits)) (omega (arith, w)) e in
@@ -234,7 +246,7 @@ module _ {ks r₀ s₀ : List ℕ} {d : Cursor} {first start from : ℕ} (fits :
       record {
         low = omega arith;
         high = omega (arith, w);
-        place = isa;
+        place = ap (λ (y : Cursor). y.at) top.is;
         rows = omega (arith, w, isr);
         rows_long = l₃ ∙ l₁ ∙ w.rows_long;
         records_long = l₂ ∙ w.records_long;
@@ -246,27 +258,16 @@ module _ {ks r₀ s₀ : List ℕ} {d : Cursor} {first start from : ℕ} (fits :
         small = omega (arith, w, iss, owes, few);
         so = λ fs m₀ m rs b.
             let z = w.so fs m₀ m rs b in
-            let g = stands_now (omega (arith, w, fits)) z.made.grown in
-            let y = is_turned c z.tree g n (omega (arith, w, fits)) (omega (arith, w, z)) e in
-            let fewer = turned_few y in
-            let owes_it = update_owes i d.at y.target in
-            record {
-              tree = node Row.PrefixUpdate i i d.at (one y.target);
-              records = z.records ++ y.records;
-              comes = rw (sym (append_assoc rs z.records y.records)) (update_done (inside w lt) (update_not_unary _ u) u (subst (λ (j : ℕ). Comes ks fs (unary j) m₀ (done d.at (one z.tree) (rs ++ z.records) m)) (sym back) z.comes) y.converts);
-              made = made_top (made_over (omega (arith, fits)) z.made (y.made d.at)) top refl;
-              deep = omega (arith, z, iss, owes_it, fewer);
-            };
+            sofar_update w lt u z (is_turned c z.tree (stands_now (omega (arith, w, fits)) z.made.grown) n (omega (arith, w, fits)) (omega (arith, w, z)) e) top;
       }
 
   -- room for a conversion
-  pub prefixes_room : {r s : List ℕ} {here : Cursor} {at root : ℕ} → Prefixing ks r₀ s₀ d first start from r s here at → here.rows ≡ root + 1 → Targets.Room r root (length s) here.records
-  prefixes_room w n = record { rooted = rooted w.stands n (omega (arith, w, fits)); room = omega (arith, w) }
+  pub prefixes_room : {r s : List ℕ} {here : Cursor} {at : ℕ} → Prefixing ks r₀ s₀ d first start from r s here at → Targets.Room r (here.rows - 1) (length s) here.records
+  prefixes_room w = record { rooted = rooted w.stands (omega (arith, w, fits)) (omega (arith, w, fits)); room = omega (arith, w) }
 
   -- and its records are few
-  pub prefixes_few : {r s r₁ s' : List ℕ} {here : Cursor} {at root counted : ℕ} {x : Conversion} → Prefixing ks r₀ s₀ d first start from r s here at
-      → Targets.RowConverted r s root simple here.records r₁ s' x → x ≡ Conversion.Turned counted → here.rows ≡ root + 1 → here.records + counted ≤ 2048
-  prefixes_few w c e n =
-      let t = is_turned c w.now_one w.stands n (omega (arith, w, fits)) (omega (arith, w)) e in
-      let few = turned_few t in
+  pub prefixes_few : {r s r₁ s' : List ℕ} {here : Cursor} {at counted : ℕ} {x : Conversion} → Prefixing ks r₀ s₀ d first start from r s here at
+      → Targets.RowConverted r s (here.rows - 1) simple here.records r₁ s' x → x ≡ Ok counted → here.records + counted ≤ 2048
+  prefixes_few w c e =
+      let few = turned_few (is_turned c w.now_one w.stands (omega (arith, w, fits)) (omega (arith, w, fits)) (omega (arith, w)) e) in
       omega (arith, w, few)

@@ -1,8 +1,9 @@
 -- `binding`, 14.3.3: each way out of it.
 -- Assumes nothing.
+use Rattle.std.specs.Prelude.{Ok, Err}
 use Prim.Native.Nat.{ℕ, ◌+◌, ◌<◌}
 use mathlib.Core.Path.{◌≡◌, refl, sym, ap, ◌∙◌}
-use mathlib.Core.Bool.{Bool, true, false}
+use mathlib.Core.Bool.{true, false}
 use mathlib.Core.List.{List}
 use native.Mathlib.Omega.{arith}
 use lib.ListN.{length, get_or}
@@ -15,7 +16,7 @@ use Rattle.grammar.specs.Sheet.{Out}
 use Rattle.grammar.specs.Job.{Job, binding, binding_elements, binding_properties}
 use Rattle.build.specs.Post.{Comes, Met, Leafed}
 use Rattle.build.specs.declared.cursor.Cursor.{Cursor}
-use Rattle.build.specs.declared.cursor.Step.{Step}
+use Rattle.build.specs.Post.{Step}
 use Rattle.build.proofs.Rules.{binding_name, binding_array, binding_object, binding_none}
 use Rattle.build.proofs.Ends.{is_fail}
 use Rattle.build.proofs.Makes.{is_leafed, unmade_none}
@@ -30,9 +31,9 @@ met_as f h =
     }
 
 module _ {ks fs r₀ s₀ m₀ : List ℕ} {c : Cursor} {y : ℕ} (k : y ≡ get_or ks c.at 0) where
-  pub binding_names : {r : List ℕ} {d : Cursor} {b : Bool} → b ≡ is_name y → b ≡ true → Leafed r₀ c Row.BindingName r d
-      → Met ks fs r₀ s₀ m₀ r s₀ m₀ (binding c.at) c.rows c.records (Step.Done d)
-  binding_names e t top = is_leafed top (binding_name (ap is_name (sym k) ∙ sym e ∙ t))
+  pub binding_names : {r : List ℕ} {d : Cursor} → true ≡ is_name y → Leafed r₀ c Row.BindingName r d
+      → Met ks fs r₀ s₀ m₀ r s₀ m₀ (binding c.at) c.rows c.records (Ok d)
+  binding_names e top = is_leafed top (binding_name (ap is_name (sym k) ∙ sym e))
 
   pub binding_arrays : {r s m : List ℕ} {x : Step} → y ≡ 20 → Met ks fs r₀ s₀ m₀ r s m (binding_elements c.at (c.at + 1) nil) c.rows c.records x
       → Met ks fs r₀ s₀ m₀ r s m (binding c.at) c.rows c.records x
@@ -42,11 +43,11 @@ module _ {ks fs r₀ s₀ m₀ : List ℕ} {c : Cursor} {y : ℕ} (k : y ≡ get
       → Met ks fs r₀ s₀ m₀ r s m (binding c.at) c.rows c.records x
   binding_objects t h = met_as (λ out. binding_object (sym k ∙ t)) h
 
-  pub binding_nones : {b : Bool} → b ≡ is_name y → b ≡ false → (y ≡ 20 → ⊥) → (y ≡ 22 → ⊥)
-      → Met ks fs r₀ s₀ m₀ r₀ s₀ m₀ (binding c.at) c.rows c.records (Step.Fail (Cause.Unexpected c.at))
-  binding_nones e t a b = is_fail refl record { comes = binding_none (ap is_name (sym k) ∙ sym e ∙ t) (λ q. a (k ∙ q)) (λ q. b (k ∙ q)); unmade = unmade_none }
+  pub binding_nones : false ≡ is_name y → (y ≡ 20 → ⊥) → (y ≡ 22 → ⊥)
+      → Met ks fs r₀ s₀ m₀ r₀ s₀ m₀ (binding c.at) c.rows c.records (Err (Cause.Unexpected c.at))
+  binding_nones e a b = is_fail refl record { comes = binding_none (ap is_name (sym k) ∙ sym e) (λ q. a (k ∙ q)) (λ q. b (k ∙ q)); unmade = unmade_none }
 
 -- a name stands before the end
-pub name_stands : (ks : List ℕ) {at y : ℕ} {b : Bool} → y ≡ get_or ks at 0 → b ≡ is_name y → b ≡ true → at < length ks
+pub name_stands : (ks : List ℕ) {at y : ℕ} → y ≡ get_or ks at 0 → true ≡ is_name y → at < length ks
 unfolding is_name
-name_stands ks {at} k e t = stands_not ks at (λ z. let q = sym (ap is_name (k ∙ z)) ∙ sym e ∙ t in let w : ◌≡◌ {A = ℕ} 0 1 = cc in omega arith)
+name_stands ks {at} k e = stands_not ks at (λ z. let q = sym (ap is_name (k ∙ z)) ∙ sym e in let w : ◌≡◌ {A = ℕ} 0 1 = cc in omega arith)

@@ -1,8 +1,9 @@
 -- `bproperty`, 14.3.3: each way out of it.
 -- Assumes nothing.
+use Rattle.std.specs.Prelude.{Ok, Err}
 use Prim.Native.Nat.{ℕ, ◌+◌, ◌-◌}
 use mathlib.Core.Path.{◌≡◌, refl, sym, subst, ◌∙◌}
-use mathlib.Core.Bool.{Bool, true, false}
+use mathlib.Core.Bool.{true, false}
 use mathlib.Core.List.{List}
 use native.Mathlib.Omega.{arith}
 use lib.ListN.{get_or}
@@ -16,20 +17,21 @@ use Rattle.laws.proofs.Bounds.{bounded}
 use Rattle.build.specs.Operation.{is_shorthand}
 use Rattle.build.specs.Post.{Room, Comes, Met, MetInit, Leafed, Topped}
 use Rattle.build.specs.declared.cursor.Cursor.{Cursor}
-use Rattle.build.specs.declared.cursor.Step.{Step}
-use Rattle.build.proofs.Rules.{binding_property_shorthand, binding_property_init_fails, binding_property_init, binding_property_key_fails, binding_property_no_colon, binding_property_value_fails, binding_property_done}
+use Rattle.build.specs.Post.{Step}
+use Rattle.build.proofs.Rules.{binding_property_shorthand, binding_property_init_fails, binding_property_init, binding_property_key_fails, binding_property_no_colon}
+use Rattle.build.proofs.Rules.{binding_property_value_fails, binding_property_done}
 use Rattle.build.proofs.Ends.{is_fail, single}
 use Rattle.build.proofs.Makes.{made_leaf, made_then, made_top, unmade_past, unmade_after, count_one, is_topped}
 use Rattle.parse.proofs.Steps.Cursors.{leafed_now}
 
-module _ {ks fs r₀ s₀ m₀ : List ℕ} {c : Cursor} {b : Bool} (room : Room ks r₀ s₀ c) (n : b ≡ is_shorthand ks c.at) where
-  pub bproperty_shorthands : {r₁ r : List ℕ} {d u : Cursor} {y : ℕ} → b ≡ true → Leafed r₀ c Row.BindingName r₁ d → y ≡ get_or ks (c.at + 1) 0 → (y ≡ 63 → ⊥)
+module _ {ks fs r₀ s₀ m₀ : List ℕ} {c : Cursor} (room : Room ks r₀ s₀ c) where
+  pub bproperty_shorthands : {r₁ r : List ℕ} {d u : Cursor} {y : ℕ} → true ≡ is_shorthand ks c.at → Leafed r₀ c Row.BindingName r₁ d → y ≡ get_or ks (c.at + 1) 0 → (y ≡ 63 → ⊥)
       → Topped r₁ d Row.BindingShorthand c.at c.at (c.at + 1) 1 c.rows r u
-      → Met ks fs r₀ s₀ m₀ r s₀ m₀ (binding_property c.at) c.rows c.records (Step.Done u)
+      → Met ks fs r₀ s₀ m₀ r s₀ m₀ (binding_property c.at) c.rows c.records (Ok u)
   unfolding count
-  bproperty_shorthands t low k o top = is_topped top (binding_property_shorthand (sym n ∙ t) (λ q. o (k ∙ q))) (made_leaf low) refl
+  bproperty_shorthands t low k o top = is_topped top (binding_property_shorthand (sym t) (λ q. o (k ∙ q))) (made_leaf low) refl
 
-  pub bproperty_inits : {r₁ r s m : List ℕ} {x : Step} {d : Cursor} {y : ℕ} → b ≡ true → Leafed r₀ c Row.BindingName r₁ d → y ≡ get_or ks (c.at + 1) 0 → y ≡ 63
+  pub bproperty_inits : {r₁ r s m : List ℕ} {x : Step} {d : Cursor} {y : ℕ} → true ≡ is_shorthand ks c.at → Leafed r₀ c Row.BindingName r₁ d → y ≡ get_or ks (c.at + 1) 0 → y ≡ 63
       → MetInit ks fs r₁ s₀ m₀ r s m d.at Row.BindingShorthandInit c.rows d.rows d.records x
       → Met ks fs r₀ s₀ m₀ r s m (binding_property c.at) c.rows c.records x
   unfolding count join
@@ -45,45 +47,44 @@ module _ {ks fs r₀ s₀ m₀ : List ℕ} {c : Cursor} {b : Bool} (room : Room 
             record {
               trees = one (node Row.BindingShorthandInit (c.at + 1) c.at e.at (cons (leaf Row.BindingName c.at) i.trees));
               records = i.records;
-              comes = binding_property_init (sym n ∙ t) (sym k ∙ o) (subst (λ (p : ℕ). Comes ks fs (assignment p) m₀ (done e.at i.trees i.records m)) past i.comes);
+              comes = binding_property_init (sym t) (sym k ∙ o) (subst (λ (p : ℕ). Comes ks fs (assignment p) m₀ (done e.at i.trees i.records m)) past i.comes);
               made = made_top (made_then (made_leaf low) i.made) over_name (omega (arith, count_one _ _ (bounded i.comes.settles).single));
             };
         fail_at = λ p q.
             let f = h.init_fail p q in
             record {
-              comes = binding_property_init_fails (sym n ∙ t) (sym k ∙ o) (subst (λ (w : ℕ). Comes ks fs (assignment w) m₀ (fail p m)) past f.comes);
+              comes = binding_property_init_fails (sym t) (sym k ∙ o) (subst (λ (w : ℕ). Comes ks fs (assignment w) m₀ (fail p m)) past f.comes);
               unmade = unmade_after (omega (arith, room)) (omega (arith, room)) (made_leaf low) f.unmade;
             };
       }
 
-  pub bproperty_refuses : {r s m : List ℕ} {x : Step} {p : Cause} → b ≡ false → Met ks fs r₀ s₀ m₀ r s m (key c.at) c.rows c.records x → x ≡ Step.Fail p
-      → Met ks fs r₀ s₀ m₀ r s m (binding_property c.at) c.rows c.records x
-  bproperty_refuses t h e = let f = h.fail_at _ e in is_fail e record { comes = binding_property_key_fails (sym n ∙ t) f.comes; unmade = f.unmade }
+  pub bproperty_refuses : {r s m : List ℕ} {p : Cause} → false ≡ is_shorthand ks c.at → Met ks fs r₀ s₀ m₀ r s m (key c.at) c.rows c.records (Err p)
+      → Met ks fs r₀ s₀ m₀ r s m (binding_property c.at) c.rows c.records (Err p)
+  bproperty_refuses t h = let f = h.fail_at _ refl in is_fail refl record { comes = binding_property_key_fails (sym t) f.comes; unmade = f.unmade }
 
-  pub bproperty_opens : {r s m : List ℕ} {x : Step} {d : Cursor} {y : ℕ} → b ≡ false → Met ks fs r₀ s₀ m₀ r s m (key c.at) c.rows c.records x → x ≡ Step.Done d
-      → y ≡ get_or ks d.at 0 → (y ≡ 25 → ⊥) → Met ks fs r₀ s₀ m₀ r s m (binding_property c.at) c.rows c.records (Step.Fail (Cause.Unexpected d.at))
-  bproperty_opens t h e k o =
-      let a = h.done_to _ e in
-      is_fail refl record { comes = binding_property_no_colon (sym n ∙ t) a.comes (λ q. o (k ∙ q)); unmade = unmade_past (omega (arith, room)) (omega (arith, room)) a.made }
+  pub bproperty_opens : {r s m : List ℕ} {d : Cursor} {y : ℕ} → false ≡ is_shorthand ks c.at → Met ks fs r₀ s₀ m₀ r s m (key c.at) c.rows c.records (Ok d) → y ≡ get_or ks d.at 0
+      → (y ≡ 25 → ⊥) → Met ks fs r₀ s₀ m₀ r s m (binding_property c.at) c.rows c.records (Err (Cause.Unexpected d.at))
+  bproperty_opens t h k o =
+      let a = h.done_to _ refl in
+      is_fail refl record { comes = binding_property_no_colon (sym t) a.comes (λ q. o (k ∙ q)); unmade = unmade_past (omega (arith, room)) (omega (arith, room)) a.made }
 
-  pub bproperty_fails_after : {r₁ s₁ m₁ r s m : List ℕ} {x z : Step} {d : Cursor} {p : Cause} {y : ℕ} → b ≡ false → Met ks fs r₀ s₀ m₀ r₁ s₁ m₁ (key c.at) c.rows c.records x → x ≡ Step.Done d
-      → y ≡ get_or ks d.at 0 → y ≡ 25 → Met ks fs r₁ s₁ m₁ r s m (binding_element (d.at + 1)) d.rows d.records z → z ≡ Step.Fail p
-      → Met ks fs r₀ s₀ m₀ r s m (binding_property c.at) c.rows c.records z
-  bproperty_fails_after t h e k o h' e' =
-      let a = h.done_to _ e in
-      let f = h'.fail_at _ e' in
-      is_fail e' record {
-        comes = binding_property_value_fails (sym n ∙ t) a.comes (sym k ∙ o) f.comes;
+  pub bproperty_fails_after : {r₁ s₁ m₁ r s m : List ℕ} {d : Cursor} {p : Cause} {y : ℕ} → false ≡ is_shorthand ks c.at → Met ks fs r₀ s₀ m₀ r₁ s₁ m₁ (key c.at) c.rows c.records (Ok d)
+      → y ≡ get_or ks d.at 0 → y ≡ 25 → Met ks fs r₁ s₁ m₁ r s m (binding_element (d.at + 1)) d.rows d.records (Err p)
+      → Met ks fs r₀ s₀ m₀ r s m (binding_property c.at) c.rows c.records (Err p)
+  bproperty_fails_after t h k o h' =
+      let a = h.done_to _ refl in
+      let f = h'.fail_at _ refl in
+      is_fail refl record {
+        comes = binding_property_value_fails (sym t) a.comes (sym k ∙ o) f.comes;
         unmade = unmade_after (omega (arith, room)) (omega (arith, room)) a.made f.unmade;
       }
 
-  pub bproperty_dones : {r₁ s₁ m₁ r₂ r s m : List ℕ} {x z : Step} {d e u : Cursor} {y : ℕ} → b ≡ false → Met ks fs r₀ s₀ m₀ r₁ s₁ m₁ (key c.at) c.rows c.records x → x ≡ Step.Done d
-      → y ≡ get_or ks d.at 0 → y ≡ 25 → Met ks fs r₁ s₁ m₁ r₂ s m (binding_element (d.at + 1)) d.rows d.records z → z ≡ Step.Done e
-      → Topped r₂ e Row.Property c.at c.at e.at 2 c.rows r u
-      → Met ks fs r₀ s₀ m₀ r s m (binding_property c.at) c.rows c.records (Step.Done u)
-  bproperty_dones t h q k o h' q' top =
-      let a = h.done_to _ q in
-      let g = h'.done_to _ q' in
+  pub bproperty_dones : {r₁ s₁ m₁ r₂ r s m : List ℕ} {d e u : Cursor} {y : ℕ} → false ≡ is_shorthand ks c.at → Met ks fs r₀ s₀ m₀ r₁ s₁ m₁ (key c.at) c.rows c.records (Ok d)
+      → y ≡ get_or ks d.at 0 → y ≡ 25 → Met ks fs r₁ s₁ m₁ r₂ s m (binding_element (d.at + 1)) d.rows d.records (Ok e)
+      → Topped r₂ e Row.Property c.at c.at e.at 2 c.rows r u → Met ks fs r₀ s₀ m₀ r s m (binding_property c.at) c.rows c.records (Ok u)
+  bproperty_dones t h k o h' top =
+      let a = h.done_to _ refl in
+      let g = h'.done_to _ refl in
       let one_a = count_one _ _ (single _ a refl) in
       let one_g = count_one _ _ (single _ g refl) in
-      is_topped top (binding_property_done (sym n ∙ t) a.comes (sym k ∙ o) g.comes) (made_then a.made g.made) (omega (arith, one_a, one_g, count_join a.trees g.trees))
+      is_topped top (binding_property_done (sym t) a.comes (sym k ∙ o) g.comes) (made_then a.made g.made) (omega (arith, one_a, one_g, count_join a.trees g.trees))

@@ -1,5 +1,6 @@
 -- `comma`, 13.16: its loop, and each way out of it.
 -- Assumes nothing.
+use Rattle.std.specs.Prelude.{Ok, Err}
 use Prim.Native.Nat.{ℕ, zero, suc, ◌+◌, ◌≤◌}
 use mathlib.Core.Path.{◌≡◌, refl, sym, ◌∙◌}
 use mathlib.Core.List.{List, [], ◌++◌}
@@ -16,7 +17,6 @@ use Rattle.grammar.specs.Sheet.{Out, done, fail, after_records}
 use Rattle.grammar.specs.Job.{expression, sequence, assignment}
 use Rattle.build.specs.Post.{cursor, Comes, Room, Made, Met, Topped}
 use Rattle.build.specs.declared.cursor.Cursor.{Cursor}
-use Rattle.build.specs.declared.cursor.Step.{Step}
 use Rattle.build.proofs.Rules.{expression_fails, expression_one, expression_more, sequence_ends, sequence_fails, sequence_more}
 use Rattle.build.proofs.Ends.{is_done, is_fail, moved, single}
 use Rattle.build.proofs.Makes.{made_none, made_then, made_at, unmade_after, count_one, is_topped}
@@ -66,17 +66,17 @@ pub comma_some : (kids : ℕ) → (kids + 1 ≡ 1 → ⊥) → 1 ≤ kids
 comma_some zero h = absurd (h refl)
 comma_some (suc kids) h = omega arith
 
-module _ {ks fs r₀ s₀ m₀ r₁ s₁ m₁ r s m : List ℕ} {c here : Cursor} {kids mark : ℕ} {x : Step} (w : CommaSoFar ks fs r₀ s₀ m₀ c r₁ s₁ m₁ here kids mark)
-    (h : Met ks fs r₁ s₁ m₁ r s m (assignment here.at) here.rows here.records x) where
-  pub comma_stops : {p : Cause} → Room ks r₀ s₀ c → x ≡ Step.Fail p → Met ks fs r₀ s₀ m₀ r s m (expression c.at) c.rows c.records x
-  comma_stops room e =
-      let f = h.fail_at _ e in
-      is_fail e record { comes = w.stops f.comes; unmade = unmade_after (omega (arith, room)) (omega (arith, room)) w.made f.unmade }
+module _ {ks fs r₀ s₀ m₀ r₁ s₁ m₁ r s m : List ℕ} {c here : Cursor} {kids mark : ℕ} (w : CommaSoFar ks fs r₀ s₀ m₀ c r₁ s₁ m₁ here kids mark) where
+  pub comma_stops : {p : Cause} → Room ks r₀ s₀ c → Met ks fs r₁ s₁ m₁ r s m (assignment here.at) here.rows here.records (Err p)
+      → Met ks fs r₀ s₀ m₀ r s m (expression c.at) c.rows c.records (Err p)
+  comma_stops room h =
+      let f = h.fail_at _ refl in
+      is_fail refl record { comes = w.stops f.comes; unmade = unmade_after (omega (arith, room)) (omega (arith, room)) w.made f.unmade }
 
-  module _ {d : Cursor} {y : ℕ} (e : x ≡ Step.Done d) (k : y ≡ get_or ks d.at 0) where
-    pub comma_one : (y ≡ Comma → ⊥) → kids + 1 ≡ 1 → Met ks fs r₀ s₀ m₀ r s m (expression c.at) c.rows c.records (Step.Done d)
+  module _ {d : Cursor} {y : ℕ} (h : Met ks fs r₁ s₁ m₁ r s m (assignment here.at) here.rows here.records (Ok d)) (k : y ≡ get_or ks d.at 0) where
+    pub comma_one : (y ≡ Comma → ⊥) → kids + 1 ≡ 1 → Met ks fs r₀ s₀ m₀ r s m (expression c.at) c.rows c.records (Ok d)
     comma_one t z =
-        let a = h.done_to _ e in
+        let a = h.done_to _ refl in
         is_done refl record {
           trees = join w.so_far a.trees;
           records = w.said ++ a.records;
@@ -85,9 +85,9 @@ module _ {ks fs r₀ s₀ m₀ r₁ s₁ m₁ r s m : List ℕ} {c here : Cursor
         }
 
     pub comma_ends : {r' : List ℕ} {u : Cursor} → (y ≡ Comma → ⊥) → (kids + 1 ≡ 1 → ⊥) → Topped r d Row.Sequence mark c.at d.at (kids + 1) c.rows r' u
-        → Met ks fs r₀ s₀ m₀ r' s m (expression c.at) c.rows c.records (Step.Done u)
+        → Met ks fs r₀ s₀ m₀ r' s m (expression c.at) c.rows c.records (Ok u)
     comma_ends t some top =
-        let a = h.done_to _ e in
+        let a = h.done_to _ refl in
         let one_a = count_one _ _ (single _ a refl) in
         let more : kids ≡ 0 → ⊥ = λ z. some (omega (arith, z)) in
         is_topped top (comes_to (w.goes (λ z. absurd (more z)) (λ n. refl) a.comes (λ z. absurd (more z)) (sequence_ends (λ q. t (k ∙ q)))) (after_done (w.said ++ a.records) _ _ _))
@@ -96,7 +96,7 @@ module _ {ks fs r₀ s₀ m₀ r₁ s₁ m₁ r s m : List ℕ} {c here : Cursor
     comma_turns : {comma : ℕ} → y ≡ Comma → (kids ≡ 0 → comma ≡ d.at) → ((kids ≡ 0 → ⊥) → comma ≡ mark) → comma ≤ length ks → length r ≡ length r₁ → length s ≡ length s₁
         → CommaSoFar ks fs r₀ s₀ m₀ c r s m (cursor (d.at + 1) d.rows d.records) (kids + 1) comma
     comma_turns {comma} t at_first later small l l' =
-        let a = h.done_to _ e in
+        let a = h.done_to _ refl in
         let g = moved _ a refl in
         let st = stands ks (sym k ∙ t) in
         let one_a = count_one _ _ (single _ a refl) in

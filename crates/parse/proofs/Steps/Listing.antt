@@ -1,6 +1,6 @@
 -- A list: parts with commas between them, up to a closing token. Once for all six lists: what holds at each turn of the loop that reads one, and each way through it; then the six.
 -- Assumes nothing.
-use Rattle.std.specs.Prelude.{if◌then◌else◌}
+use Rattle.std.specs.Prelude.{if◌then◌else◌, Ok, Err}
 use Prim.Native.Nat.{ℕ, ◌+◌, ◌*◌, ◌≤◌, ◌<◌, suc, ◌-◌}
 use mathlib.Core.Path.{◌≡◌, refl, sym, subst, ◌∙◌, ap}
 use mathlib.Core.List.{List, [], ◌++◌}
@@ -18,7 +18,8 @@ use Rattle.rows.specs.Row as Row
 use Rattle.rows.specs.Post.{Grown, Word}
 use Rattle.rows.proofs.Rows.{count_join}
 use Rattle.grammar.specs.Sheet.{sheet_of, Out, done, fail, leaf, after_records, Sheet, first_tree}
-use Rattle.grammar.specs.Job.{Job, binding_rest, Asks, binding_element, assignment, spread, property, arguments, elements, properties, parameters, binding_property, binding_elements, binding_properties}
+use Rattle.grammar.specs.Job.{Job, binding_rest, Asks, binding_element, assignment, spread, property, arguments, elements, properties, parameters, binding_property}
+use Rattle.grammar.specs.Job.{binding_elements, binding_properties}
 use Rattle.grammar.specs.Binding.{binding_rest_of}
 use Rattle.grammar.specs.Step.{step, read}
 use Rattle.grammar.specs.Reading.{box}
@@ -27,8 +28,6 @@ use Rattle.laws.specs.Settles.{μ}
 use Rattle.laws.proofs.Good.{Reads, Answers, Ends, ends_done, ends_fail, ends_stuck, good, yields, says, follows}
 use Rattle.build.specs.Post.{cursor, Comes, ReadTo, Refused, Made, Unmade, Met, MetList, Leafed, Topped, ClosedTo, MetClosed}
 use Rattle.build.specs.declared.cursor.Cursor.{Cursor}
-use Rattle.build.specs.declared.cursor.Step.{Step}
-use Rattle.build.specs.declared.cursor.Listed.{Listed}
 use Rattle.build.proofs.Ends.{Moved}
 use Rattle.build.proofs.Makes.{made_none, made_then, made_at, made_leaf, stands_made, unmade_past, unmade_after, count_one, is_topped}
 use Rattle.build.proofs.Rules as Rule
@@ -138,12 +137,30 @@ pub record Closes (ks fs r₀ s₀ m₀ r s m : List ℕ) (start : Job) (from k 
   pub made : Made r₀ s₀ from k r s d trees records
   pub counted : kids ≡ count trees
 
+-- how many rows and kids the list has, against the tokens from b on
+pub record Counted (ks : List ℕ) (b d : Cursor) (end kids : ℕ) : Type 0 where
+  pub high : end ≤ length ks
+  pub some : b.rows ≤ d.rows
+  pub few : d.rows + b.at ≤ b.rows + end
+  pub number : kids + b.at ≤ end + 1
+
+-- a list with a row over it has ended, on one of the ways out of its loop
+pub record Ended (ks fs r₀ s₀ m₀ r s m : List ℕ) (start : Job) (from : ℕ) (b : Cursor) (kind first end : ℕ) (d : Cursor) (kids : ℕ) : Type 0 where
+  pub closed : Closes ks fs r₀ s₀ m₀ r s m start from b.records (λ ts. one (node kind first first end ts)) end d kids
+  pub counted : Counted ks b d end kids
+
+pub ended : {ks fs r₀ s₀ m₀ r s m r' s' m' : List ℕ} {start : Job} {from kind kind' first end end' kids kids' : ℕ} {b d d' : Cursor} → r ≡ r' → s ≡ s' → m ≡ m' → d ≡ d'
+    → kids ≡ kids' → kind ≡ kind' → end ≡ end'
+    → Closes ks fs r₀ s₀ m₀ r' s' m' start from b.records (λ ts. one (node kind' first first end' ts)) end' d' kids' → Counted ks b d' end' kids'
+    → Ended ks fs r₀ s₀ m₀ r s m start from b kind first end d kids
+ended e₁ e₂ e₃ e₄ e₅ e₆ e₇ h n = rw (e₁, e₂, e₃, e₄, e₅, e₆, e₇) record { closed = h; counted = n }
+
 module _ {ks fs r₀ s₀ m₀ r s m : List ℕ} {start : Job} {from k end kids : ℕ} {d : Cursor} where
   pub topped : {r' : List ℕ} {u : Cursor} {kind first : ℕ} → Closes ks fs r₀ s₀ m₀ r s m start from k (λ ts. one (node kind first first end ts)) end d kids
-      → Topped r d kind first first end kids from r' u → Met ks fs r₀ s₀ m₀ r' s m start from k (Step.Done u)
+      → Topped r d kind first first end kids from r' u → Met ks fs r₀ s₀ m₀ r' s m start from k (Ok u)
   topped h top = is_topped top h.comes h.made h.counted
 
-  pub listed : Closes ks fs r₀ s₀ m₀ r s m start from k (λ ts. ts) end d kids → MetList ks fs r₀ s₀ m₀ r s m start from k (Listed.Done (cursor end d.rows d.records) kids)
+  pub listed : Closes ks fs r₀ s₀ m₀ r s m start from k (λ ts. ts) end d kids → MetList ks fs r₀ s₀ m₀ r s m start from k (Ok ((cursor end d.rows d.records), kids))
   listed h = is_listed record { trees = h.trees; records = h.records; comes = h.comes; made = made_at h.made refl refl; counted = h.counted }
 
 -- a rest and its closing token
@@ -225,48 +242,48 @@ module _ {ks fs : List ℕ} {l : Listing ks fs} {r₀ s₀ m₀ : List ℕ} {sta
         (λ out h. comes_to (f out (subst (λ (i : ℕ). Comes ks fs (l.list i kind' (join w.trees (one (leaf Row.Hole here.at)))) m out) now.at_is h)) (sym (after_none out)))
 
   -- at a part
-  module _ {y : ℕ} {r' s' m' : List ℕ} {x : Step} (k : y ≡ get_or ks here.at 0) (t : l.begins y) (h : Met ks fs r s m r' s' m' (l.part here.at) here.rows here.records x) where
-    begun : l.begins (get_or ks here.at 0)
-    begun = subst (λ (i : ℕ). l.begins i) k t
+  begun : {y : ℕ} → y ≡ get_or ks here.at 0 → l.begins y → l.begins (get_or ks here.at 0)
+  begun k t = subst (λ (i : ℕ). l.begins i) k t
 
-    pub refuses : {p : Cause} → x ≡ Step.Fail p → Refused ks fs r₀ s₀ m₀ r' s' m' start from c.records p
-    refuses e = let f = h.fail_at _ e in gives_up (l.fails begun f.comes) f.unmade
+  module _ {y : ℕ} {r' s' m' : List ℕ} (k : y ≡ get_or ks here.at 0) (t : l.begins y) where
+    pub refuses : {p : Cause} → Met ks fs r s m r' s' m' (l.part here.at) here.rows here.records (Err p) → Refused ks fs r₀ s₀ m₀ r' s' m' start from c.records p
+    refuses h = let f = h.fail_at _ refl in gives_up (l.fails (begun k t) f.comes) f.unmade
 
-    module _ {d : Cursor} (e : x ≡ Step.Done d) where
-      pub moves : Parted ks here.at here.rows here.records d (h.done_to d e).trees
-      moves = parted (l.within here.at) (h.done_to d e)
+    module _ {d : Cursor} (h : Met ks fs r s m r' s' m' (l.part here.at) here.rows here.records (Ok d)) where
+      pub moves : Parted ks here.at here.rows here.records d (h.done_to d refl).trees
+      moves = parted (l.within here.at) (h.done_to d refl)
 
       module _ {z : ℕ} (k' : z ≡ get_or ks d.at 0) where
         pub opens : (z ≡ l.close → ⊥) → (z ≡ Comma → ⊥) → Refused ks fs r₀ s₀ m₀ r' s' m' start from c.records (Cause.Unexpected d.at)
-        opens n n' = let a = h.done_to d e in gives_up_past (l.stray begun a.comes (λ q. n' (k' ∙ q)) (λ q. n (k' ∙ q))) a.made
+        opens n n' = let a = h.done_to d refl in gives_up_past (l.stray (begun k t) a.comes (λ q. n' (k' ∙ q)) (λ q. n (k' ∙ q))) a.made
 
         pub closes : z ≡ l.close → Closes ks fs r₀ s₀ m₀ r' s' m' start from c.records (l.whole l.plain (d.at + 1)) (d.at + 1) d (kids + 1)
-        closes v = let a = h.done_to d e in closes_with a.made moves.lone (l.last begun a.comes (sym k' ∙ v))
+        closes v = let a = h.done_to d refl in closes_with a.made moves.lone (l.last (begun k t) a.comes (sym k' ∙ v))
 
         pub turns : {kind' : ℕ} → z ≡ Comma → l.later here.at ≡ kind' → length r' ≡ length r → length s' ≡ length s
             → SoFar l r₀ s₀ m₀ start from c r' s' m' (cursor (d.at + 1) d.rows d.records) (kids + 1) kind'
         turns v by i j =
-            let a = h.done_to d e in
+            let a = h.done_to d refl in
             let b = moves in
             let st = stands ks (sym k' ∙ v) in
             goes_on a.made b.lone (omega (arith, b)) (omega (arith, st)) (omega (arith, b)) (omega (arith, b)) (omega (arith, b)) refl refl i j
-            (λ out g. l.more begun a.comes (sym k' ∙ v) (subst (λ (q : ℕ). Comes ks fs (l.list (d.at + 1) q (join w.trees a.trees)) m' out) (sym by) g))
+            (λ out g. l.more (begun k t) a.comes (sym k' ∙ v) (subst (λ (q : ℕ). Comes ks fs (l.list (d.at + 1) q (join w.trees a.trees)) m' out) (sym by) g))
 
   -- at a rest
-  module _ {close : ℕ} {r' s' m' : List ℕ} {x : Step} (h : MetClosed ks fs r s m r' s' m' (binding_rest here.at) close Cause.RestLast here.rows here.records x) where
-    pub rest_refuses : {p : Cause} → x ≡ Step.Fail p
+  module _ {close : ℕ} {r' s' m' : List ℕ} where
+    pub rest_refuses : {p : Cause} → MetClosed ks fs r s m r' s' m' (binding_rest here.at) close Cause.RestLast here.rows here.records (Err p)
         → ((q : Cause) → Comes ks fs (binding_rest here.at) m (fail q m') → Comes ks fs (l.list here.at kind w.trees) m (fail q m'))
         → ((i : ℕ) (ts : Forest) (rs : List Record) → Comes ks fs (binding_rest here.at) m (done i ts rs m') → (get_or ks i 0 ≡ close → ⊥)
         → Comes ks fs (l.list here.at kind w.trees) m (fail (Cause.RestLast i) m'))
         → Refused ks fs r₀ s₀ m₀ r' s' m' start from c.records p
-    rest_refuses e f g = let a = h.closed_fail _ e in gives_up (not_closed f g a.why) a.unmade
+    rest_refuses h f g = let a = h.closed_fail _ refl in gives_up (not_closed f g a.why) a.unmade
 
-    pub rest_closes : {d : Cursor} (e : x ≡ Step.Done d)
+    pub rest_closes : {d : Cursor} (h : MetClosed ks fs r s m r' s' m' (binding_rest here.at) close Cause.RestLast here.rows here.records (Ok d))
         → Comes ks fs (l.list here.at kind w.trees) m
-        (done ((h.closed_to d e).end + 1) (l.whole l.plain ((h.closed_to d e).end + 1) (join w.trees (h.closed_to d e).trees)) (h.closed_to d e).records m')
+        (done ((h.closed_to d refl).end + 1) (l.whole l.plain ((h.closed_to d refl).end + 1) (join w.trees (h.closed_to d refl).trees)) (h.closed_to d refl).records m')
         → Closes ks fs r₀ s₀ m₀ r' s' m' start from c.records (l.whole l.plain d.at) d.at d (kids + 1)
-    rest_closes {d} e f =
-        let g = h.closed_to d e in
+    rest_closes {d} h f =
+        let g = h.closed_to d refl in
         closes_with g.made (count_one _ _ (bounded g.comes.settles).single)
         (subst (λ (i : ℕ). Comes ks fs (l.list here.at kind w.trees) m (done i (l.whole l.plain i (join w.trees g.trees)) g.records m')) (sym g.past) f)
 

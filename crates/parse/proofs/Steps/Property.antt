@@ -1,8 +1,9 @@
 -- `property`, 13.2.5: each way out of it.
 -- Assumes nothing.
+use Rattle.std.specs.Prelude.{Ok, Err}
 use Prim.Native.Nat.{ℕ, ◌+◌, ◌<◌}
 use mathlib.Core.Path.{◌≡◌, refl, sym, ◌∙◌}
-use mathlib.Core.Bool.{Bool, true, false}
+use mathlib.Core.Bool.{true, false}
 use mathlib.Core.List.{List, [], ◌++◌}
 use native.Mathlib.Omega.{arith}
 use lib.ListN.{length, get_or}
@@ -17,7 +18,6 @@ use Rattle.grammar.specs.Job.{assignment, key, property}
 use Rattle.build.specs.Operation.{is_shorthand}
 use Rattle.build.specs.Post.{Room, Comes, Made, Met, Leafed, Topped}
 use Rattle.build.specs.declared.cursor.Cursor.{Cursor}
-use Rattle.build.specs.declared.cursor.Step.{Step}
 use Rattle.build.proofs.Rules.{property_shorthand, property_init_fails, property_init, property_key_fails, property_no_colon, property_value_fails, property_done}
 use Rattle.build.proofs.Ends.{is_fail, moved, single}
 use Rattle.build.proofs.Makes.{made_leaf, made_then, unmade_past, unmade_after, count_one, is_topped}
@@ -39,25 +39,25 @@ pub record Keyed (ks fs r₀ s₀ m₀ : List ℕ) (c : Cursor) (r s m : List �
   pub goes : {e : ℕ} {ts : Forest} {rs : List Record} {m' : List ℕ} → Comes ks fs (assignment (d.at + 1)) m (done e ts rs m')
       → Comes ks fs (property c.at) m₀ (done e (one (node kind mark c.at e (join trees ts))) (records ++ rs) m')
 
-module _ {ks fs r₀ s₀ m₀ : List ℕ} {c : Cursor} {b : Bool} (room : Room ks r₀ s₀ c) (n : b ≡ is_shorthand ks c.at) where
-  pub property_shorthands : {r₁ r : List ℕ} {d u : Cursor} {y : ℕ} → b ≡ true → Leafed r₀ c Row.Identifier r₁ d → y ≡ get_or ks (c.at + 1) 0 → (y ≡ 63 → ⊥)
+module _ {ks fs r₀ s₀ m₀ : List ℕ} {c : Cursor} (room : Room ks r₀ s₀ c) where
+  pub property_shorthands : {r₁ r : List ℕ} {d u : Cursor} {y : ℕ} → true ≡ is_shorthand ks c.at → Leafed r₀ c Row.Identifier r₁ d → y ≡ get_or ks (c.at + 1) 0 → (y ≡ 63 → ⊥)
       → Topped r₁ d Row.Shorthand c.at c.at (c.at + 1) 1 c.rows r u
-      → Met ks fs r₀ s₀ m₀ r s₀ m₀ (property c.at) c.rows c.records (Step.Done u)
+      → Met ks fs r₀ s₀ m₀ r s₀ m₀ (property c.at) c.rows c.records (Ok u)
   unfolding count
-  property_shorthands t low k o top = is_topped top (property_shorthand (sym n ∙ t) (λ q. o (k ∙ q))) (made_leaf low) refl
+  property_shorthands t low k o top = is_topped top (property_shorthand (sym t) (λ q. o (k ∙ q))) (made_leaf low) refl
 
-  pub property_refuses : {r s m : List ℕ} {x : Step} {p : Cause} → b ≡ false → Met ks fs r₀ s₀ m₀ r s m (key c.at) c.rows c.records x → x ≡ Step.Fail p
-      → Met ks fs r₀ s₀ m₀ r s m (property c.at) c.rows c.records x
-  property_refuses t h e = let f = h.fail_at _ e in is_fail e record { comes = property_key_fails (sym n ∙ t) f.comes; unmade = f.unmade }
+  pub property_refuses : {r s m : List ℕ} {p : Cause} → false ≡ is_shorthand ks c.at → Met ks fs r₀ s₀ m₀ r s m (key c.at) c.rows c.records (Err p)
+      → Met ks fs r₀ s₀ m₀ r s m (property c.at) c.rows c.records (Err p)
+  property_refuses t h = let f = h.fail_at _ refl in is_fail refl record { comes = property_key_fails (sym t) f.comes; unmade = f.unmade }
 
-  pub property_opens : {r s m : List ℕ} {x : Step} {d : Cursor} {y : ℕ} → b ≡ false → Met ks fs r₀ s₀ m₀ r s m (key c.at) c.rows c.records x → x ≡ Step.Done d
-      → y ≡ get_or ks d.at 0 → (y ≡ 25 → ⊥) → Met ks fs r₀ s₀ m₀ r s m (property c.at) c.rows c.records (Step.Fail (Cause.Unexpected d.at))
-  property_opens t h e k o =
-      let a = h.done_to _ e in
-      is_fail refl record { comes = property_no_colon (sym n ∙ t) a.comes (λ q. o (k ∙ q)); unmade = unmade_past (omega (arith, room)) (omega (arith, room)) a.made }
+  pub property_opens : {r s m : List ℕ} {d : Cursor} {y : ℕ} → false ≡ is_shorthand ks c.at → Met ks fs r₀ s₀ m₀ r s m (key c.at) c.rows c.records (Ok d) → y ≡ get_or ks d.at 0
+      → (y ≡ 25 → ⊥) → Met ks fs r₀ s₀ m₀ r s m (property c.at) c.rows c.records (Err (Cause.Unexpected d.at))
+  property_opens t h k o =
+      let a = h.done_to _ refl in
+      is_fail refl record { comes = property_no_colon (sym t) a.comes (λ q. o (k ∙ q)); unmade = unmade_past (omega (arith, room)) (omega (arith, room)) a.made }
 
   -- a name and its `=`; a key and its `:`
-  pub keyed_name : {r₁ : List ℕ} {d : Cursor} {y : ℕ} → b ≡ true → Leafed r₀ c Row.Identifier r₁ d → y ≡ get_or ks (c.at + 1) 0 → y ≡ 63 → length r₁ ≡ length r₀
+  pub keyed_name : {r₁ : List ℕ} {d : Cursor} {y : ℕ} → true ≡ is_shorthand ks c.at → Leafed r₀ c Row.Identifier r₁ d → y ≡ get_or ks (c.at + 1) 0 → y ≡ 63 → length r₁ ≡ length r₀
       → Keyed ks fs r₀ s₀ m₀ c r₁ s₀ m₀ d Row.ShorthandInit (c.at + 1)
   unfolding count join
   keyed_name {d = d} t low k o l =
@@ -75,14 +75,14 @@ module _ {ks fs r₀ s₀ m₀ : List ℕ} {c : Cursor} {b : Bool} (room : Room 
         records = [];
         lone = refl;
         made = made_leaf low;
-        fails = λ h. property_init_fails (sym n ∙ t) (sym k ∙ o) (rw past at h);
-        goes = λ h. property_init (sym n ∙ t) (sym k ∙ o) (rw past at h);
+        fails = λ h. property_init_fails (sym t) (sym k ∙ o) (rw past at h);
+        goes = λ h. property_init (sym t) (sym k ∙ o) (rw past at h);
       }
 
-  pub keyed_key : {r₁ s₁ m₁ : List ℕ} {x : Step} {d : Cursor} {y : ℕ} → b ≡ false → Met ks fs r₀ s₀ m₀ r₁ s₁ m₁ (key c.at) c.rows c.records x → x ≡ Step.Done d
-      → y ≡ get_or ks d.at 0 → y ≡ 25 → length r₁ ≡ length r₀ → length s₁ ≡ length s₀ → Keyed ks fs r₀ s₀ m₀ c r₁ s₁ m₁ d Row.Property c.at
-  keyed_key t h e k o l l' =
-      let a = h.done_to _ e in
+  pub keyed_key : {r₁ s₁ m₁ : List ℕ} {d : Cursor} {y : ℕ} → false ≡ is_shorthand ks c.at → Met ks fs r₀ s₀ m₀ r₁ s₁ m₁ (key c.at) c.rows c.records (Ok d) → y ≡ get_or ks d.at 0
+      → y ≡ 25 → length r₁ ≡ length r₀ → length s₁ ≡ length s₀ → Keyed ks fs r₀ s₀ m₀ c r₁ s₁ m₁ d Row.Property c.at
+  keyed_key t h k o l l' =
+      let a = h.done_to _ refl in
       let g = moved _ a refl in
       let st = stands ks (sym k ∙ o) in
       record {
@@ -96,8 +96,8 @@ module _ {ks fs r₀ s₀ m₀ : List ℕ} {c : Cursor} {b : Bool} (room : Room 
         records = a.records;
         lone = count_one _ _ (single _ a refl);
         made = a.made;
-        fails = λ f. property_value_fails (sym n ∙ t) a.comes (sym k ∙ o) f;
-        goes = λ f. property_done (sym n ∙ t) a.comes (sym k ∙ o) f;
+        fails = λ f. property_value_fails (sym t) a.comes (sym k ∙ o) f;
+        goes = λ f. property_done (sym t) a.comes (sym k ∙ o) f;
       }
 
 -- the same where the two ways meet
@@ -106,15 +106,15 @@ pub keyed_as : {ks fs r₀ s₀ m₀ r' s' m' r s m : List ℕ} {c d d' : Cursor
 keyed_as e e' e'' q q' q'' h = rw (e, e', e'', q, q', q'') h
 
 module _ {ks fs r₀ s₀ m₀ r₁ s₁ m₁ : List ℕ} {c d : Cursor} {kind mark : ℕ} (w : Keyed ks fs r₀ s₀ m₀ c r₁ s₁ m₁ d kind mark) where
-  pub property_fails_after : {r s m : List ℕ} {x : Step} {p : Cause} → Room ks r₀ s₀ c → Met ks fs r₁ s₁ m₁ r s m (assignment (d.at + 1)) d.rows d.records x → x ≡ Step.Fail p
-      → Met ks fs r₀ s₀ m₀ r s m (property c.at) c.rows c.records x
-  property_fails_after room h e =
-      let f = h.fail_at _ e in
-      is_fail e record { comes = w.fails f.comes; unmade = unmade_after (omega (arith, room)) (omega (arith, room)) w.made f.unmade }
+  pub property_fails_after : {r s m : List ℕ} {p : Cause} → Room ks r₀ s₀ c → Met ks fs r₁ s₁ m₁ r s m (assignment (d.at + 1)) d.rows d.records (Err p)
+      → Met ks fs r₀ s₀ m₀ r s m (property c.at) c.rows c.records (Err p)
+  property_fails_after room h =
+      let f = h.fail_at _ refl in
+      is_fail refl record { comes = w.fails f.comes; unmade = unmade_after (omega (arith, room)) (omega (arith, room)) w.made f.unmade }
 
-  pub property_dones : {r₂ r s m : List ℕ} {x : Step} {e u : Cursor} → Met ks fs r₁ s₁ m₁ r₂ s m (assignment (d.at + 1)) d.rows d.records x → x ≡ Step.Done e
-      → Topped r₂ e kind mark c.at e.at 2 c.rows r u → Met ks fs r₀ s₀ m₀ r s m (property c.at) c.rows c.records (Step.Done u)
-  property_dones h q top =
-      let g = h.done_to _ q in
+  pub property_dones : {r₂ r s m : List ℕ} {e u : Cursor} → Met ks fs r₁ s₁ m₁ r₂ s m (assignment (d.at + 1)) d.rows d.records (Ok e)
+      → Topped r₂ e kind mark c.at e.at 2 c.rows r u → Met ks fs r₀ s₀ m₀ r s m (property c.at) c.rows c.records (Ok u)
+  property_dones h top =
+      let g = h.done_to _ refl in
       let one_g = count_one _ _ (single _ g refl) in
       is_topped top (w.goes g.comes) (made_then w.made g.made) (omega (arith, w.lone, one_g, count_join w.trees g.trees))

@@ -1,5 +1,6 @@
 -- `rest` and `last`, 14.3.3: each way out of them.
 -- Assumes nothing.
+use Rattle.std.specs.Prelude.{Ok, Err}
 use Prim.Native.Nat.{ℕ, ◌+◌, ◌-◌, ◌<◌}
 use mathlib.Core.Path.{◌≡◌, refl, sym, ◌∙◌}
 use mathlib.Core.List.{List, append-nil}
@@ -14,11 +15,11 @@ use Rattle.rows.specs.Post.{Word}
 use Rattle.grammar.specs.Sheet.{sheet_of, done, fail, first_tree}
 use Rattle.grammar.specs.Job.{Job, binding_element, binding_rest}
 use Rattle.laws.proofs.Bounds.{limits, reads}
-use Rattle.build.specs.Post.{cursor, Comes, Room, Met, ReadTo, Made, MetClosed, NotClosed, NotClosedAt, not_read, no_token, Topped, Said}
+use Rattle.build.specs.Post.{cursor, Comes, Room, Met, ReadTo, Made, MetClosed, NotClosed, not_read, no_token, Topped, Said}
 use Rattle.build.specs.declared.cursor.Cursor.{Cursor}
-use Rattle.build.specs.declared.cursor.Step.{Step}
 use Rattle.build.proofs.Rules.{rest_fails, rest_done}
 use Rattle.build.proofs.Ends.{is_fail, single}
+use Rattle.build.proofs.Results.{at_ok, at_err, not_ok, not_err}
 use Rattle.build.proofs.Makes.{made_said, made_at, unmade_past, is_topped}
 use Rattle.waiting.proofs.Root.{some_row, root_kind, root_mark}
 use Rattle.parse.proofs.Steps.Cursors.{Now, now}
@@ -46,61 +47,54 @@ pub said_to : {s₀ s : List ℕ} {c d : Cursor} {number place : ℕ} → Said s
 said_to h = now h.is
 
 module _ {ks fs r₀ s₀ m₀ : List ℕ} {c : Cursor} (room : Room ks r₀ s₀ c) (here : c.at < length ks) where
-  pub rest_refused : {r s m : List ℕ} {x : Step} {p : Cause} → Met ks fs r₀ s₀ m₀ r s m (binding_element (c.at + 1)) c.rows c.records x → x ≡ Step.Fail p
-      → Met ks fs r₀ s₀ m₀ r s m (binding_rest c.at) c.rows c.records x
-  rest_refused h e = let f = h.fail_at _ e in is_fail e record { comes = rest_fails here f.comes; unmade = f.unmade }
+  pub rest_refused : {r s m : List ℕ} {p : Cause} → Met ks fs r₀ s₀ m₀ r s m (binding_element (c.at + 1)) c.rows c.records (Err p)
+      → Met ks fs r₀ s₀ m₀ r s m (binding_rest c.at) c.rows c.records (Err p)
+  rest_refused h = let f = h.fail_at _ refl in is_fail refl record { comes = rest_fails here f.comes; unmade = f.unmade }
 
-  pub rest_bare : {r₁ r s m : List ℕ} {x : Step} {d u : Cursor} {y : ℕ} → Met ks fs r₀ s₀ m₀ r₁ s m (binding_element (c.at + 1)) c.rows c.records x → x ≡ Step.Done d
+  pub rest_bare : {r₁ r s m : List ℕ} {d u : Cursor} {y : ℕ} → Met ks fs r₀ s₀ m₀ r₁ s m (binding_element (c.at + 1)) c.rows c.records (Ok d)
       → Word r₁ (d.rows - 1) 0 y → (y ≡ 34 → ⊥) → Topped r₁ d Row.BindingRest c.at c.at d.at 1 c.rows r u
-      → Met ks fs r₀ s₀ m₀ r s m (binding_rest c.at) c.rows c.records (Step.Done u)
+      → Met ks fs r₀ s₀ m₀ r s m (binding_rest c.at) c.rows c.records (Ok u)
   unfolding count
-  rest_bare h e w t top =
-      let a = one_to _ (h.done_to _ e) refl in
+  rest_bare h w t top =
+      let a = one_to _ (h.done_to _ refl) refl in
       let k = root_kind (omega (arith, room)) a.made.grown w in
       is_topped top (rw (ne_eqb (kind_of a.tree) Row.BindingDefault (λ q. t (k ∙ q)), append-nil) at (rest_done here a.comes)) a.made refl
 
-  pub rest_initialized : {r₁ s₁ r s m : List ℕ} {x : Step} {d e u : Cursor} {y z : ℕ} → Met ks fs r₀ s₀ m₀ r₁ s₁ m (binding_element (c.at + 1)) c.rows c.records x → x ≡ Step.Done d
+  pub rest_initialized : {r₁ s₁ r s m : List ℕ} {d e u : Cursor} {y z : ℕ} → Met ks fs r₀ s₀ m₀ r₁ s₁ m (binding_element (c.at + 1)) c.rows c.records (Ok d)
       → Word r₁ (d.rows - 1) 0 y → y ≡ 34 → Word r₁ (d.rows - 1) 1 z → Said s₁ d 2 z s e → Topped r₁ e Row.BindingRest c.at c.at e.at 1 c.rows r u
-      → Met ks fs r₀ s₀ m₀ r s m (binding_rest c.at) c.rows c.records (Step.Done u)
+      → Met ks fs r₀ s₀ m₀ r s m (binding_rest c.at) c.rows c.records (Ok u)
   unfolding count
-  rest_initialized h q w t w' said top =
-      let a = one_to _ (h.done_to _ q) refl in
+  rest_initialized h w t w' said top =
+      let a = one_to _ (h.done_to _ refl) refl in
       let k = root_kind (omega (arith, room)) a.made.grown w in
       let p = root_mark (omega (arith, room)) a.made.grown w' in
       is_topped top (rw ((said_to said).at_is, p) (rw (sym k ∙ t) at (rest_done here a.comes))) (made_said a.made said) refl
 
--- last
-module _ {ks fs r₀ s₀ m₀ r s m : List ℕ} {job : Job} {close : ℕ} {cause_at : ℕ → Cause} {n k : ℕ} where
-  is_not_closed : {p : Cause} {x : Step} → x ≡ Step.Fail p → NotClosedAt ks fs r₀ s₀ m₀ r s m job close cause_at n k p → MetClosed ks fs r₀ s₀ m₀ r s m job close cause_at n k x
-  is_not_closed {p} e h =
-      record {
-        closed_to = λ d q. let z : ◌≡◌ {A = ℕ} 0 1 = cc in absurd (omega arith);
-        closed_fail = λ p' q. let i : p ≡ p' = cc in rw (← i) h;
-      }
+-- `inside` and `last`: a part and its closing token
+module _ {ks fs r₀ s₀ m₀ r s m : List ℕ} {c : Cursor} {job : Job} {close : ℕ} {cause_at : ℕ → Cause} (room : Room ks r₀ s₀ c) where
+  pub closed_refused : {p : Cause} → Met ks fs r₀ s₀ m₀ r s m job c.rows c.records (Err p) → MetClosed ks fs r₀ s₀ m₀ r s m job close cause_at c.rows c.records (Err p)
+  closed_refused h =
+      let f = h.fail_at _ refl in
+      record { closed_to = not_ok _ refl; closed_fail = at_err _ refl (record { why = not_read f.comes; unmade = f.unmade }) }
 
-module _ {ks fs r₀ s₀ m₀ : List ℕ} {c : Cursor} {close : ℕ} (room : Room ks r₀ s₀ c) where
-  pub last_refused : {r s m : List ℕ} {x : Step} {p : Cause} → Met ks fs r₀ s₀ m₀ r s m (binding_rest c.at) c.rows c.records x → x ≡ Step.Fail p
-      → MetClosed ks fs r₀ s₀ m₀ r s m (binding_rest c.at) close Cause.RestLast c.rows c.records x
-  last_refused h e = let f = h.fail_at _ e in is_not_closed e record { why = not_read f.comes; unmade = f.unmade }
+  module _ {d : Cursor} {y : ℕ} (h : Met ks fs r₀ s₀ m₀ r s m job c.rows c.records (Ok d)) (k : y ≡ get_or ks d.at 0) where
+    pub closed_open : (y ≡ close → ⊥) → MetClosed ks fs r₀ s₀ m₀ r s m job close cause_at c.rows c.records (Err (cause_at d.at))
+    closed_open t =
+        let a = h.done_to _ refl in
+        record {
+          closed_to = not_ok _ refl;
+          closed_fail = at_err _ refl
+              (record { why = no_token _ _ _ a.comes (λ q. t (k ∙ q)) refl; unmade = unmade_past (omega (arith, room)) (omega (arith, room)) a.made });
+        }
 
-  pub last_open : {r s m : List ℕ} {x : Step} {d : Cursor} {y : ℕ} → Met ks fs r₀ s₀ m₀ r s m (binding_rest c.at) c.rows c.records x → x ≡ Step.Done d
-      → y ≡ get_or ks d.at 0 → (y ≡ close → ⊥)
-      → MetClosed ks fs r₀ s₀ m₀ r s m (binding_rest c.at) close Cause.RestLast c.rows c.records (Step.Fail (Cause.RestLast d.at))
-  last_open h e k t =
-      let a = h.done_to _ e in
-      is_not_closed refl record { why = no_token _ _ _ a.comes (λ q. t (k ∙ q)) refl; unmade = unmade_past (omega (arith, room)) (omega (arith, room)) a.made }
-
-  pub last_is_closed : {r s m : List ℕ} {x : Step} {d : Cursor} {y : ℕ} → Met ks fs r₀ s₀ m₀ r s m (binding_rest c.at) c.rows c.records x → x ≡ Step.Done d
-      → y ≡ get_or ks d.at 0 → y ≡ close
-      → MetClosed ks fs r₀ s₀ m₀ r s m (binding_rest c.at) close Cause.RestLast c.rows c.records (Step.Done (cursor (d.at + 1) d.rows d.records))
-  last_is_closed {d = d} h e k t =
-      let a = h.done_to _ e in
-      record {
-        closed_to = λ d' q.
-            let i : cursor (d.at + 1) d.rows d.records ≡ d' = cc in
-            rw (← i) record { end = d.at; trees = a.trees; records = a.records; comes = a.comes; token = sym k ∙ t; past = refl; made = made_at a.made refl refl };
-        closed_fail = λ p q. let z : ◌≡◌ {A = ℕ} 0 1 = cc in absurd (omega arith);
-      }
+    pub closed_done : y ≡ close → MetClosed ks fs r₀ s₀ m₀ r s m job close cause_at c.rows c.records (Ok (cursor (d.at + 1) d.rows d.records))
+    closed_done t =
+        let a = h.done_to _ refl in
+        record {
+          closed_to = at_ok _ refl
+              (record { end = d.at; trees = a.trees; records = a.records; comes = a.comes; token = sym k ∙ t; past = refl; made = made_at a.made refl refl });
+          closed_fail = not_err _ refl;
+        }
 
 -- a part or its closing token is refused, and so is what they stand in
 pub not_closed : {ks fs m m' : List ℕ} {part whole : Job} {close : ℕ} {cause_at : ℕ → Cause} {cause : Cause} → ((q : Cause) → Comes ks fs part m (fail q m') → Comes ks fs whole m (fail q m'))

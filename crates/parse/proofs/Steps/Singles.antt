@@ -1,8 +1,8 @@
 -- An expression of one token: what it comes to at each level, from the primary expression up to the assignment expression.
 -- Assumes nothing.
-use Rattle.std.specs.Prelude.{if◌then◌else◌}
+use Rattle.std.specs.Prelude.{if◌then◌else◌, Ok, Some, None}
 use Prim.Native.Nat.{ℕ, ◌+◌, ◌≤◌, ◌<◌}
-use mathlib.Core.Path.{◌≡◌, refl, ap, subst, ◌∙◌}
+use mathlib.Core.Path.{◌≡◌, refl, sym, ap, ◌∙◌}
 use mathlib.Core.Bool.{Bool, true, false}
 use mathlib.Core.List.{List, []}
 use native.Mathlib.Omega.{arith}
@@ -26,7 +26,6 @@ use Rattle.build.specs.Post.{Comes, Met, Leafed}
 use Rattle.heads.specs.Heads.{may_open}
 use Rattle.heads.specs.Singles.{single_row, goes_on, closes, single_operand, single_part}
 use Rattle.build.specs.declared.cursor.Cursor.{Cursor}
-use Rattle.build.specs.declared.cursor.Step.{Step}
 use Rattle.build.proofs.Rules.{primary_name, primary_this, primary_literal, left_more, links_end, postfix_none, unary_none, binary_more, operators_end, value_stops}
 use Rattle.heads.proofs.Opens.{closed}
 use Rattle.build.proofs.Ways.{assignment_passes}
@@ -42,26 +41,27 @@ no_and false b e = refl
 
 -- KINDS
 -- the kinds of one token are small
-single_small : (k : ℕ) → (single_row k ≡ 0 → ⊥) → k ≤ 22
+single_small : {x : ℕ} (k : ℕ) → single_row k ≡ Some x → k ≤ 22
 unfolding single_row is_name is_literal
-single_small k h = go (leb k 22) refl
+single_small {x} k h = go (leb k 22) refl
   where
     go : (b : Bool) → leb k 22 ≡ b → k ≤ 22
     go true q = leb-true k 22 q
     go false q =
         let l : 22 < k = leb-false k 22 q in
-        absurd (h (rw (le-leb 1 k (omega arith), lt-leb k 5 (omega arith), ne_eqb k This (λ z. omega arith), le-leb 8 k (omega arith), lt-leb k 13 (omega arith))))
+        let e : None ≡ Some x = rw (le-leb 1 k (omega arith), lt-leb k 5 (omega arith), ne_eqb k This (λ z. omega arith), le-leb 8 k (omega arith), lt-leb k 13 (omega arith)) at h in
+        absurd (cc)
 
 -- a token that is no expression
-pub no_single : (k : ℕ) → single_row k ≡ 0 → (is_name k ≡ false) × (k ≡ This → ⊥) × (is_literal k ≡ false)
+pub no_single : (k : ℕ) → single_row k ≡ None → (is_name k ≡ false) × (k ≡ This → ⊥) × (is_literal k ≡ false)
 unfolding single_row
 no_single k e = go (is_name k) (k is This) (is_literal k) refl refl refl e
   where
-    go : (n t l : Bool) → is_name k ≡ n → k is This ≡ t → is_literal k ≡ l → (if n then Row.Identifier else if t then Row.This else if l then Row.Literal else 0) ≡ 0
+    go : (n t l : Bool) → is_name k ≡ n → k is This ≡ t → is_literal k ≡ l → (if n then Some Row.Identifier else if t then Some Row.This else if l then Some Row.Literal else None) ≡ None
         → (is_name k ≡ false) × (k ≡ This → ⊥) × (is_literal k ≡ false)
-    go true t l p q r e = absurd (omega (arith, e))
-    go false true l p q r e = absurd (omega (arith, e))
-    go false false true p q r e = absurd (omega (arith, e))
+    go true t l p q r e = absurd (cc)
+    go false true l p q r e = absurd (cc)
+    go false false true p q r e = absurd (cc)
     go false false false p q r e = (p, eqb-false _ _ q, r)
 
 -- what may follow an operand of one token that ends there, and an assignment expression
@@ -102,95 +102,92 @@ module _ (ks fs : List ℕ) (at : ℕ) (m : List ℕ) where
   abbrev token : ℕ
   token = get_or ks at 0
 
-  abbrev single : Out (List ℕ)
-  single = done (at + 1) (one (leaf (single_row token) at)) [] m
+  abbrev single : ℕ → Out (List ℕ)
+  single x = done (at + 1) (one (leaf x at)) [] m
 
-  primary_single : (single_row token ≡ 0 → ⊥) → Comes ks fs (primary at) m single
-  unfolding single_row
-  primary_single h = go (is_name token) (token is This) (is_literal token) refl refl refl
-    where
-      go : (n t l : Bool) → is_name token ≡ n → token is This ≡ t → is_literal token ≡ l → Comes ks fs (primary at) m single
-      go true t l p q r = rw p (primary_name p)
-      go false true l p q r = rw (p, q) (primary_this (eqb-true _ _ q))
-      go false false true p q r = rw (p, q, r) (primary_literal p (eqb-false _ _ q) r)
-      go false false false p q r = absurd (h (rw (p, q, r)))
+  module _ {x : ℕ} (h : single_row token ≡ Some x) where
+    primary_single : Comes ks fs (primary at) m (single x)
+    unfolding single_row
+    primary_single = go (is_name token) (token is This) (is_literal token) refl refl refl h
+      where
+        go : (n t l : Bool) → is_name token ≡ n → token is This ≡ t → is_literal token ≡ l
+            → (if n then Some Row.Identifier else if t then Some Row.This else if l then Some Row.Literal else None) ≡ Some x → Comes ks fs (primary at) m (single x)
+        go true t l p q r e = let i : Row.Identifier ≡ x = cc in rw (← i) (primary_name p)
+        go false true l p q r e = let i : Row.This ≡ x = cc in rw (← i) (primary_this (eqb-true _ _ q))
+        go false false true p q r e = let i : Row.Literal ≡ x = cc in rw (← i) (primary_literal p (eqb-false _ _ q) r)
+        go false false false p q r e = absurd (cc)
 
-  unary_single : (single_row token ≡ 0 → ⊥) → goes_on (get_or ks (at + 1) 0) ≡ false → Comes ks fs (unary at) m single
-  unfolding after_records is_unary_operator is_update_operator
-  unary_single h g =
-      let s = single_small token h in
-      let f = unlinked _ g in
-      unary_none (rw (lt-leb 30 token (omega arith), ne_eqb token 57 (λ z. omega arith), ne_eqb token 58 (λ z. omega arith)))
-      (rw (ne_eqb token 36 (λ z. omega arith), ne_eqb token 37 (λ z. omega arith)))
-      (postfix_none (left_more (primary_single h) (links_end f.1 f.2 f.3)) (rw f.0))
+    unary_single : goes_on (get_or ks (at + 1) 0) ≡ false → Comes ks fs (unary at) m (single x)
+    unfolding after_records is_unary_operator is_update_operator
+    unary_single g =
+        let s = single_small token h in
+        let f = unlinked _ g in
+        unary_none (rw (lt-leb 30 token (omega arith), ne_eqb token 57 (λ z. omega arith), ne_eqb token 58 (λ z. omega arith)))
+        (rw (ne_eqb token 36 (λ z. omega arith), ne_eqb token 37 (λ z. omega arith)))
+        (postfix_none (left_more primary_single (links_end f.1 f.2 f.3)) (rw f.0))
 
-  module _ (h : single_row token ≡ 0 → ⊥) (f : Follows (get_or ks (at + 1) 0)) where
-    binary_single : Comes ks fs (binary 0 at) m single
-    unfolding after_records
-    binary_single = binary_more (unary_single h f.links) (operators_end (rw f.no_operator))
+    module _ (f : Follows (get_or ks (at + 1) 0)) where
+      binary_single : Comes ks fs (binary 0 at) m (single x)
+      unfolding after_records
+      binary_single = binary_more (unary_single f.links) (operators_end (rw f.no_operator))
 
-    value_single : (token is Async) ≡ false → Comes ks fs (value at) m single
-    unfolding is_async_name
-    value_single a = value_stops (rw a) binary_single (no_and (kind_of (leaf (single_row token) at) is Row.Identifier) _ f.no_arrow) f.no_assignment (eqb-false _ _ f.no_question)
+      value_single : (token is Async) ≡ false → Comes ks fs (value at) m (single x)
+      unfolding is_async_name
+      value_single a = value_stops (rw a) binary_single (no_and (kind_of (leaf x at) is Row.Identifier) _ f.no_arrow) f.no_assignment (eqb-false _ _ f.no_question)
 
-    assignment_single : (token is Async) ≡ false → Comes ks fs (assignment at) m single
-    unfolding may_open single_row is_name is_literal
-    assignment_single a = assignment_passes (closed ks fs m at (rw (ne_eqb token LParen (λ q. h (rw q)), a))) (value_single a)
+      assignment_single : (token is Async) ≡ false → Comes ks fs (assignment at) m (single x)
+      unfolding may_open single_row is_name is_literal
+      assignment_single a =
+          assignment_passes (closed ks fs m at (rw (ne_eqb token LParen (λ q. let e : None ≡ Some x = rw q at h in cc), a))) (value_single a)
 
 -- THE FUNCTIONS
 -- a token of one expression stands before the end
 module _ (ks : List ℕ) (at : ℕ) where
-  single_stands : (single_row (get_or ks at 0) ≡ 0 → ⊥) → at < length ks
+  single_stands : {x : ℕ} → single_row (get_or ks at 0) ≡ Some x → at < length ks
   single_stands h = let w = bounded (primary_single ks ks at ks h).settles in omega arith
 
-  pub primary_stands : {x y : ℕ} → y ≡ get_or ks at 0 → x ≡ single_row y → (x ≡ 0 → ⊥) → at < length ks
-  primary_stands k e h = single_stands (λ z. h (e ∙ ap single_row k ∙ z))
+  pub primary_stands : {x y : ℕ} → y ≡ get_or ks at 0 → Some x ≡ single_row y → at < length ks
+  primary_stands k e = single_stands (sym (e ∙ ap single_row k))
 
   -- what an operand, and a part, of one token has after it
-  module _ {x : ℕ} (h : x ≡ 0 → ⊥) where
-    operand_is : x ≡ single_operand ks at → (goes_on (get_or ks (at + 1) 0) ≡ false) × (x ≡ single_row (get_or ks at 0))
+  module _ {x : ℕ} where
+    operand_is : Some x ≡ single_operand ks at → (goes_on (get_or ks (at + 1) 0) ≡ false) × (single_row (get_or ks at 0) ≡ Some x)
     unfolding single_operand
     operand_is e = go (goes_on (get_or ks (at + 1) 0)) e
       where
-        go : (b : Bool) → x ≡ (if b then 0 else single_row (get_or ks at 0)) → (b ≡ false) × (x ≡ single_row (get_or ks at 0))
-        go true q = absurd (h q)
-        go false q = (refl, q)
+        go : (b : Bool) → Some x ≡ (if b then None else single_row (get_or ks at 0)) → (b ≡ false) × (single_row (get_or ks at 0) ≡ Some x)
+        go true q = absurd (cc)
+        go false q = (refl, sym q)
 
-    part_is : x ≡ single_part ks at → (closes (get_or ks (at + 1) 0) ≡ true) × (get_or ks at 0 is Async ≡ false) × (x ≡ single_row (get_or ks at 0))
+    part_is : Some x ≡ single_part ks at → (closes (get_or ks (at + 1) 0) ≡ true) × (get_or ks at 0 is Async ≡ false) × (single_row (get_or ks at 0) ≡ Some x)
     unfolding single_part
     part_is e = go (closes (get_or ks (at + 1) 0)) (get_or ks at 0 is Async) e
       where
-        go : (b a : Bool) → x ≡ (if b then (if a then 0 else single_row (get_or ks at 0)) else 0) → (b ≡ true) × (a ≡ false) × (x ≡ single_row (get_or ks at 0))
-        go true true q = absurd (h q)
-        go true false q = (refl, refl, q)
-        go false a q = absurd (h q)
+        go : (b a : Bool) → Some x ≡ (if b then (if a then None else single_row (get_or ks at 0)) else None)
+            → (b ≡ true) × (a ≡ false) × (single_row (get_or ks at 0) ≡ Some x)
+        go true true q = absurd (cc)
+        go true false q = (refl, refl, sym q)
+        go false a q = absurd (cc)
 
-  pub unary_stands : {x : ℕ} → x ≡ single_operand ks at → (x ≡ 0 → ⊥) → at < length ks
-  unary_stands e h = single_stands (λ z. h ((operand_is h e).1 ∙ z))
+  pub unary_stands : {x : ℕ} → Some x ≡ single_operand ks at → at < length ks
+  unary_stands e = single_stands (operand_is e).1
 
-  pub assign_stands : {x : ℕ} → x ≡ single_part ks at → (x ≡ 0 → ⊥) → at < length ks
-  assign_stands e h = single_stands (λ z. h ((part_is h e).2 ∙ z))
+  pub assign_stands : {x : ℕ} → Some x ≡ single_part ks at → at < length ks
+  assign_stands e = single_stands (part_is e).2
 
-leafed : {r₀ r : List ℕ} {c d : Cursor} {x y : ℕ} → Leafed r₀ c x r d → x ≡ y → Leafed r₀ c y r d
-leafed {r₀} {r} {c} {d} top e = subst (λ (z : ℕ). Leafed r₀ c z r d) e top
+module _ {ks fs r₀ s₀ m₀ r : List ℕ} {c d : Cursor} {x : ℕ} (top : Leafed r₀ c x r d) where
+  pub primary_singles : {y : ℕ} → y ≡ get_or ks c.at 0 → Some x ≡ single_row y → Met ks fs r₀ s₀ m₀ r s₀ m₀ (primary c.at) c.rows c.records (Ok d)
+  primary_singles k e = is_leafed top (primary_single ks fs c.at m₀ (sym (e ∙ ap single_row k)))
 
-module _ {ks fs r₀ s₀ m₀ r : List ℕ} {c d : Cursor} {x : ℕ} (top : Leafed r₀ c x r d) (h : x ≡ 0 → ⊥) where
-  pub primary_singles : {y : ℕ} → y ≡ get_or ks c.at 0 → x ≡ single_row y → Met ks fs r₀ s₀ m₀ r s₀ m₀ (primary c.at) c.rows c.records (Step.Done d)
-  primary_singles k e =
-      let q : x ≡ single_row (get_or ks c.at 0) = e ∙ ap single_row k in
-      is_leafed (leafed top q) (primary_single ks fs c.at m₀ (λ z. h (q ∙ z)))
+  pub unary_singles : Some x ≡ single_operand ks c.at → Met ks fs r₀ s₀ m₀ r s₀ m₀ (unary c.at) c.rows c.records (Ok d)
+  unary_singles e = let o = operand_is ks c.at e in is_leafed top (unary_single ks fs c.at m₀ o.1 o.0)
 
-  pub unary_singles : x ≡ single_operand ks c.at → Met ks fs r₀ s₀ m₀ r s₀ m₀ (unary c.at) c.rows c.records (Step.Done d)
-  unary_singles e = let o = operand_is ks c.at h e in is_leafed (leafed top o.1) (unary_single ks fs c.at m₀ (λ z. h (o.1 ∙ z)) o.0)
-
-  pub assign_singles : x ≡ single_part ks c.at → Met ks fs r₀ s₀ m₀ r s₀ m₀ (assignment c.at) c.rows c.records (Step.Done d)
-  assign_singles e =
-      let o = part_is ks c.at h e in
-      is_leafed (leafed top o.2) (assignment_single ks fs c.at m₀ (λ z. h (o.2 ∙ z)) (follows _ o.0) o.1)
+  pub assign_singles : Some x ≡ single_part ks c.at → Met ks fs r₀ s₀ m₀ r s₀ m₀ (assignment c.at) c.rows c.records (Ok d)
+  assign_singles e = let o = part_is ks c.at e in is_leafed top (assignment_single ks fs c.at m₀ o.2 (follows _ o.0) o.1)
 
   -- as an element or an argument
-  pub item_singles : x ≡ single_part ks c.at
-      → Met ks fs r₀ s₀ m₀ r s₀ m₀ (if get_or ks c.at 0 is Dot3 then spread c.at else assignment c.at) c.rows c.records (Step.Done d)
+  pub item_singles : Some x ≡ single_part ks c.at
+      → Met ks fs r₀ s₀ m₀ r s₀ m₀ (if get_or ks c.at 0 is Dot3 then spread c.at else assignment c.at) c.rows c.records (Ok d)
   item_singles e =
-      let s = single_small _ (λ z. h ((part_is ks c.at h e).2 ∙ z)) in
+      let s = single_small _ (part_is ks c.at e).2 in
       rw (ne_eqb (get_or ks c.at 0) Dot3 (λ z. omega (arith, s, z))) (assign_singles e)

@@ -5,13 +5,13 @@ use Rattle.reader.proofs.Entries.{begins, ends, came_out, entry_refuses, entry_e
 use Rattle.reader.proofs.pattern.Goals as goal
 
 pub element-got-requires : goal.element-got-requires
-element-got-requires c = begins c.check-checked.ensures c.in-Fine.is
+element-got-requires c = begins c.check.ensures c.in_default.is
 
 pub finish-requires : goal.finish-requires
-finish-requires c = record { ready = ends c.check-checked.ensures c.in-Fine.is c.element-got.auto.rows c.element-got.auto.records; came_out = came_out (binding_element 0) refl refl c.element-got.ensures }
+finish-requires c = record { ready = ends c.check.ensures c.in_default.is c.element-got.auto.rows c.element-got.auto.records; came_out = came_out (binding_element 0) refl refl c.element-got.ensures }
 
-pub returns-in-Refused : goal.returns-in-Refused
-returns-in-Refused c = entry_refuses (binding_element 0) c.check-checked.ensures c.in-Refused.is
+pub returns-in-Err : goal.returns-in-Err
+returns-in-Err c = entry_refuses (binding_element 0) c.check.ensures c.in-Err.is
 
-pub returns-in-Fine : goal.returns-in-Fine
-returns-in-Fine c = entry_ends (binding_element 0) refl refl c.check-checked.ensures c.in-Fine.is c.element-got.ensures c.element-got.auto.rows c.element-got.auto.records c.finish.ensures
+pub returns : goal.returns
+returns c = entry_ends (binding_element 0) refl refl c.check.ensures c.in_default.is c.element-got.ensures c.element-got.auto.rows c.element-got.auto.records c.finish.ensures

@@ -5,13 +5,13 @@ use Rattle.reader.proofs.Entries.{begins, ends, came_out, entry_refuses, entry_e
 use Rattle.reader.proofs.read.Goals as goal
 
 pub comma-got-requires : goal.comma-got-requires
-comma-got-requires c = begins c.check-checked.ensures c.in-Fine.is
+comma-got-requires c = begins c.check.ensures c.in_default.is
 
 pub finish-requires : goal.finish-requires
-finish-requires c = record { ready = ends c.check-checked.ensures c.in-Fine.is c.comma-got.auto.rows c.comma-got.auto.records; came_out = came_out (expression 0) refl refl c.comma-got.ensures }
+finish-requires c = record { ready = ends c.check.ensures c.in_default.is c.comma-got.auto.rows c.comma-got.auto.records; came_out = came_out (expression 0) refl refl c.comma-got.ensures }
 
-pub returns-in-Refused : goal.returns-in-Refused
-returns-in-Refused c = entry_refuses (expression 0) c.check-checked.ensures c.in-Refused.is
+pub returns-in-Err : goal.returns-in-Err
+returns-in-Err c = entry_refuses (expression 0) c.check.ensures c.in-Err.is
 
-pub returns-in-Fine : goal.returns-in-Fine
-returns-in-Fine c = entry_ends (expression 0) refl refl c.check-checked.ensures c.in-Fine.is c.comma-got.ensures c.comma-got.auto.rows c.comma-got.auto.records c.finish.ensures
+pub returns : goal.returns
+returns c = entry_ends (expression 0) refl refl c.check.ensures c.in_default.is c.comma-got.ensures c.comma-got.auto.rows c.comma-got.auto.records c.finish.ensures

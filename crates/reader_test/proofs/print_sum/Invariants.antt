@@ -1,9 +1,6 @@
--- `print_sum` ends: the words that are left get fewer.
-use Rattle.std.proofs.Common.{◌<◌, ◌-◌, length}
+-- `print_sum`: the sum stays below 2 ^ 32.
+use Rattle.std.proofs.Common.{◌<◌}
 use Rattle.reader_test.proofs.print_sum.Given as goal
 
-abbrev pub invariant-loop-at : goal.invariant-loop-at
-invariant-loop-at g l = l.sum < 4294967296
-
-abbrev pub decreases-loop-at : goal.decreases-loop-at
-decreases-loop-at g l = length l.words - l.at
+abbrev pub invariant-loop-word : goal.invariant-loop-word
+invariant-loop-word g l = l.sum < 4294967296

@@ -6,12 +6,6 @@ use Rattle.targets.proofs.is_plain_array.Goals as goal
 pub loop-end-init : goal.loop-end-init
 loop-end-init c = plain_starts
 
-pub first_row-requires : goal.first_row-requires
-first_row-requires c = c.requires
-
-pub overflow_sub-end : goal.overflow_sub-end
-overflow_sub-end c = omega (arith, c.loop-end-test.true)
-
 pub word_at-kind-requires : goal.word_at-kind-requires
 word_at-kind-requires c = kid_word c.loop-end.invariant c.first_row.ensures c.loop-end-test.true c.requires
 

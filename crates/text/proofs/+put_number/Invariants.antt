@@ -1,4 +1,4 @@
--- `text::put_number` calls itself on a tenth of the number: the number is its measure.
+-- `put_number` calls itself on a tenth of the number: the number is its measure.
 use Rattle.text.proofs.+put_number.Given as goal
 
 abbrev pub decreases-put_number : goal.decreases-put_number

@@ -1,11 +1,8 @@
--- `text::put_all` meets its contract: one byte more each turn.
-use Prim.Native.Nat.{◌-◌}
-use lib.ListN.{length}
-use Rattle.text.proofs.Laying.{Copying}
+-- `put_all`: the bytes before the index were added.
+use Rattle.std.specs.Prelude.{Some}
+use Rattle.std.proofs.Common.{drop}
+use Rattle.text.proofs.Laying.{Parts}
 use Rattle.text.proofs.put_all.Given as goal
 
-abbrev pub invariant-loop-i : goal.invariant-loop-i
-invariant-loop-i l = Copying l.bytes l.initial.out l.initial.here l.i l.out l.here
-
-abbrev pub decreases-loop-i : goal.decreases-loop-i
-decreases-loop-i l = length l.bytes - l.i
+abbrev pub invariant-loop-byte : goal.invariant-loop-byte
+invariant-loop-byte l = Parts l.bytes (drop l.byte-index l.bytes) l.initial.out l.initial.at l.out (Some l.at)

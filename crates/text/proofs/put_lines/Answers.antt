@@ -1,28 +1,18 @@
--- `text::put_lines` meets its contract: one line more each turn, and none after the buffer is full.
-use native.Mathlib.Omega.{arith}
-use Rattle.text.proofs.Lines.{listing_none, listing_more, listing_all, listing_full}
+-- `put_lines` meets its contract: one line more each turn, until a byte is lost.
+use Rattle.text.proofs.Laying.{parts_none, parts_more, parts_all, parts_lost}
+use Rattle.text.proofs.Lines.{lines_start, lines_go_on, lines_end}
 use Rattle.text.proofs.put_lines.Goals as goal
 
 pub loop-n-init : goal.loop-n-init
-loop-n-init c = listing_none
+loop-n-init c = parts_none (lines_start c.args.words.now c.args.width c.args.count)
 
-pub shape_of-out-then-here : goal.shape_of-out-then-here
-shape_of-out-then-here c = c.loop-n.invariant.long
-
-pub returns-then-here : goal.returns-then-here
-returns-then-here c = listing_full c.loop-n.invariant c.if-here.true
-
-pub overflow_add-n : goal.overflow_add-n
-overflow_add-n c = omega (arith, c.loop-n.invariant)
-
-pub loop-n-smaller : goal.loop-n-smaller
-loop-n-smaller c = omega (arith, c.loop-n.invariant)
+pub returns-in_err-at : goal.returns-in_err-at
+returns-in_err-at c =
+    parts_lost c.from_residual.ensures
+    (parts_more c.loop-n.invariant (lines_go_on c.args.words.now c.args.width c.args.count c.loop-n.n c.loop-n-test.true) c.in_err-at.ensures)
 
 pub loop-n-preserved : goal.loop-n-preserved
-loop-n-preserved c = listing_more c.loop-n.invariant c.loop-n-test.true c.put_line-here.ensures c.put_line-here.auto.out
-
-pub shape_of-out : goal.shape_of-out
-shape_of-out c = c.loop-n.invariant.long
+loop-n-preserved c = parts_more c.loop-n.invariant (lines_go_on c.args.words.now c.args.width c.args.count c.loop-n.n c.loop-n-test.true) c.in_ok-at.ensures
 
 pub returns : goal.returns
-returns c = listing_all c.loop-n.invariant c.loop-n-test.false
+returns c = parts_all c.loop-n.invariant (lines_end c.args.words.now c.args.width c.args.count c.loop-n.n c.loop-n-test.false)

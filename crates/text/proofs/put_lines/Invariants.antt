@@ -1,10 +1,9 @@
--- `text::put_lines` meets its contract: one line more each turn, and none after the buffer is full.
-use Prim.Native.Nat.{◌-◌}
-use Rattle.text.proofs.Lines.{Listing}
+-- `put_lines`: the lines of the groups before the index were added.
+use Rattle.std.specs.Prelude.{Some}
+use Rattle.std.proofs.Common.{◌-◌}
+use Rattle.text.specs.Text.{lines_from}
+use Rattle.text.proofs.Laying.{Parts}
 use Rattle.text.proofs.put_lines.Given as goal
 
 abbrev pub invariant-loop-n : goal.invariant-loop-n
-invariant-loop-n l = Listing l.words l.width l.count l.initial.out l.initial.here l.n l.out l.here
-
-abbrev pub decreases-loop-n : goal.decreases-loop-n
-decreases-loop-n l = l.count - l.n
+invariant-loop-n l = Parts (lines_from l.words l.width 0 l.count) (lines_from l.words l.width l.n (l.count - l.n)) l.initial.out l.initial.at l.out (Some l.at)

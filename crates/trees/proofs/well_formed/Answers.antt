@@ -1,31 +1,20 @@
 -- `trees::well_formed` meets its contract: every row stands, and the last is as large as all.
-use native.Mathlib.Omega.{arith}
-use borrow.Author.Count.{below_more}
-use borrow.Author.Rules.{rules}
+use Rattle.std.proofs.Common.{arith}
 use Rattle.trees.proofs.Walks.{never}
 use Rattle.trees.proofs.Whole.{no_words, too_many, no_multiple, falls, last_says}
 use Rattle.trees.proofs.well_formed.Goals as goal
-
-pub returns : goal.returns
-returns c = let if1 = c.if-length-eq0 in
-    let if2 = c.if-length-gt12288 in
-    let if3 = c.if-length-ne0 in
-    last_says if1.false if2.false if3.false c.row_word.ensures.is (λ m l. c.loop-n.invariant.1 m (omega (arith, c.loop-n-test.false)))
+use Rattle.trees.proofs.well_formed.Goals.{then-length-eq0-via-then-length-eq0, then-length-eq0-via-else-length-eq0+then-length-gt-MOST_WORDS, then-length-eq0-via-else-length-eq0+else-length-gt-MOST_WORDS+then-length-ne0}
 
 pub returns-then-length-eq0 : goal.returns-then-length-eq0
-returns-then-length-eq0 c = never (no_words c.if-length-eq0.true)
-
-pub returns-then-length-gt12288 : goal.returns-then-length-gt12288
-returns-then-length-gt12288 c = never (too_many c.if-length-gt12288.true)
-
-pub returns-then-length-ne0 : goal.returns-then-length-ne0
-returns-then-length-ne0 c = never (no_multiple c.if-length-ne0.true)
-
-pub loop-n-init : goal.loop-n-init
-loop-n-init c = (search rules, λ m l. absurd (omega arith))
+returns-then-length-eq0 c =
+    never (elim c.then-length-eq0.branch [
+      | then-length-eq0-via-then-length-eq0 w ↦ no_words w.if-length-eq0.true
+      | then-length-eq0-via-else-length-eq0+then-length-gt-MOST_WORDS w ↦ too_many w.if-length-gt-MOST_WORDS.true
+      | then-length-eq0-via-else-length-eq0+else-length-gt-MOST_WORDS+then-length-ne0 w ↦ no_multiple w.if-length-ne0.true
+    ])
 
 pub returns-then-not-row_stands : goal.returns-then-not-row_stands
 returns-then-not-row_stands c = never (falls c.loop-n-test.true (c.row_stands.ensures.fails c.if-not-row_stands.true))
 
-pub loop-n-preserved : goal.loop-n-preserved
-loop-n-preserved c = (search rules, below_more _ _ c.loop-n.invariant.1 (c.row_stands.ensures.holds c.if-not-row_stands.false))
+pub returns : goal.returns
+returns c = last_says c.if-length-eq0.false c.if-length-gt-MOST_WORDS.false c.if-length-ne0.false c.row_word.ensures.is (λ m l. c.loop-n.invariant m (omega (arith, c.loop-n-test.false)))

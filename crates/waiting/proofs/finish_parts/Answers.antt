@@ -1,28 +1,18 @@
--- `waiting::finish_parts` meets its contract.
-use mathlib.Core.Path.{refl, ap, ◌∙◌}
-use native.Mathlib.Omega.{arith}
-use native.Mathlib.Decide.{ℕ_discrete}
-use Rattle.build.specs.declared.cursor.Cursor.{Cursor}
-use Rattle.waiting.proofs.Groups.{goes_at, finishing_starts, parts_inside, parts_fit, parts_made, parts_end, parts_choice_place, parts_choice}
+-- `waiting::finish_parts` meets its contract. The loop's invariant is `Finishing`.
+use Rattle.waiting.proofs.Groups.{finishing_fits, finishing_place, finishing_made, finishing_stops, finishing_ends}
 use Rattle.waiting.proofs.finish_parts.Goals as goal
 
-pub loop-top-init : goal.loop-top-init
-loop-top-init c = finishing_starts
-
-pub otherwise-requires : goal.otherwise-requires
-otherwise-requires c = record { row_inside = record { room = parts_inside (c.loop-top.invariant.goes c.requires.fs c.requires.all c.requires.m c.requires.s c.requires.ws c.requires.at) c.loop-top-test.true }; at_bound = parts_choice_place (c.loop-top.invariant.goes c.requires.fs c.requires.all c.requires.m c.requires.s c.requires.ws c.requires.at) c.loop-top-test.true refl c.if-rows-top-eq-CHOICE.true }
+pub otherwise-requires-clause-at_bound : goal.otherwise-requires-clause-at_bound
+otherwise-requires-clause-at_bound c = finishing_place c.loop-top.invariant c.requires c.loop-top-test.true c.if-rows-top-eq-CHOICE.true
 
 pub returns-then-rows-top-eq-CHOICE : goal.returns-then-rows-top-eq-CHOICE
-returns-then-rows-top-eq-CHOICE c = record { goes = λ fs all m s ws p. goes_at c.loop-top.invariant.place (parts_choice (c.loop-top.invariant.goes fs all m s ws p) c.loop-top-test.true refl c.if-rows-top-eq-CHOICE.true c.otherwise.ensures (omega (arith, c.otherwise.auto)) (ℕ_discrete _ _)) }
+returns-then-rows-top-eq-CHOICE c = finishing_stops c.loop-top.invariant c.loop-top-test.true c.if-rows-top-eq-CHOICE.true c.otherwise.ensures c.otherwise.auto.rows
 
 pub finish_part-c-requires : goal.finish_part-c-requires
-finish_part-c-requires c = parts_fit (c.loop-top.invariant.goes c.requires.fs c.requires.all c.requires.m c.requires.s c.requires.ws c.requires.at) c.loop-top-test.true refl c.if-rows-top-eq-CHOICE.false
-
-pub loop-top-smaller : goal.loop-top-smaller
-loop-top-smaller c = omega (arith, c.loop-top.invariant, c.requires, parts_inside (c.loop-top.invariant.goes c.requires.fs c.requires.all c.requires.m c.requires.s c.requires.ws c.requires.at) c.loop-top-test.true, c.finish_part-c.auto)
+finish_part-c-requires c = finishing_fits c.loop-top.invariant c.requires c.loop-top-test.true c.if-rows-top-eq-CHOICE.false
 
 pub loop-top-preserved : goal.loop-top-preserved
-loop-top-preserved c = record { long = omega (arith, c.finish_part-c.auto, c.loop-top.invariant); place = ap (λ (x : Cursor). x.at) c.finish_part-c.ensures.is ∙ c.loop-top.invariant.place; goes = λ fs all m s ws p. parts_made (c.loop-top.invariant.goes fs all m s ws p) c.loop-top-test.true refl c.if-rows-top-eq-CHOICE.false c.finish_part-c.ensures (omega (arith, c.finish_part-c.auto)) }
+loop-top-preserved c = finishing_made c.loop-top.invariant c.loop-top-test.true c.if-rows-top-eq-CHOICE.false c.finish_part-c.ensures c.finish_part-c.auto.rows
 
 pub returns : goal.returns
-returns c = record { goes = λ fs all m s ws p. goes_at c.loop-top.invariant.place (parts_end (c.loop-top.invariant.goes fs all m s ws p) c.loop-top-test.false) }
+returns c = finishing_ends c.loop-top.invariant c.loop-top-test.false

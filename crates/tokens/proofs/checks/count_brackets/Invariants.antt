@@ -1,10 +1,7 @@
 -- `checks::count_brackets` meets its contract: one token more each turn.
-use Prim.Native.Nat.{◌-◌}
-use Rattle.tokens.proofs.Quick.{Counting}
+use Rattle.std.proofs.Common.{◌≡◌}
+use Rattle.tokens.specs.Check.{openings, closings}
 use Rattle.tokens.proofs.checks.count_brackets.Given as goal
 
-abbrev pub invariant-loop-i : goal.invariant-loop-i
-invariant-loop-i l = Counting l.kinds l.from l.opened l.closed l.i
-
-abbrev pub decreases-loop-i : goal.decreases-loop-i
-decreases-loop-i l = 32 - l.i
+abbrev pub invariant-loop-k : goal.invariant-loop-k
+invariant-loop-k l = (l.opened ≡ openings l.k-index l.chunk) × (l.closed ≡ closings l.k-index l.chunk)

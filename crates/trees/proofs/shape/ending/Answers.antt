@@ -1,9 +1,6 @@
--- `shapes::ending` meets its contract.
-use Rattle.trees.proofs.Columns.{ending_1, ending_0}
+-- `shape::ending` meets its contract: what stands at the end is what has kinds.
+use Rattle.trees.proofs.Shapes.{ending_cell}
 use Rattle.trees.proofs.shape.ending.Goals as goal
 
-pub returns-then-last-ne0 : goal.returns-then-last-ne0
-returns-then-last-ne0 c = ending_1 c.args.kind c.last.ensures c.if-last-ne0.true
-
-pub returns : goal.returns
-returns c = ending_0 c.args.kind c.last.ensures c.if-last-ne0.false
+pub returns-clause-is : goal.returns-clause-is
+returns-clause-is c = ending_cell _ c.last.ensures c.from.ensures

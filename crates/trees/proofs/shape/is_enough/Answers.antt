@@ -1,13 +1,7 @@
--- `shapes::is_enough` meets its contract.
-use mathlib.Core.Path.{◌∙◌, sym}
-use Rattle.trees.proofs.Shapes.{enough, not_enough}
+-- `shape::is_enough` meets its contract.
+use Rattle.std.proofs.Common.{sym, ◌∙◌}
+use Rattle.trees.proofs.Shapes.{enough}
 use Rattle.trees.proofs.shape.is_enough.Goals as goal
 
-pub returns : goal.returns
-returns c = rw (sym c.is_listed.ensures ∙ c.if-not-is_listed.false) (enough c.front-fixed.ensures c.if-kids-fixed.false c.ending.ensures)
-
-pub returns-then-not-is_listed : goal.returns-then-not-is_listed
-returns-then-not-is_listed c = rw (sym c.is_listed.ensures ∙ c.if-not-is_listed.true)
-
-pub returns-then-kids-fixed : goal.returns-then-kids-fixed
-returns-then-kids-fixed c = rw (sym c.is_listed.ensures ∙ c.if-not-is_listed.false) (not_enough c.front-fixed.ensures c.if-kids-fixed.true)
+pub returns-then-is_listed : goal.returns-then-is_listed
+returns-then-is_listed c = rw (sym c.is_listed.ensures ∙ c.if-is_listed.true) (enough c.args.kids c.front.ensures.is c.ending.ensures.is)
