@@ -1,2 +1,4 @@
+pub mod Plan
 pub mod Meaning
+pub mod Numbers
 pub mod ShortCut

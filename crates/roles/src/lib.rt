@@ -3,12 +3,12 @@
 
 ghost use Rattle.std.specs.Prelude.{◌≡◌};
 ghost use Rattle.conversion.specs.Conversion as def;
-ghost use Rattle.roles.specs.Meaning as means;
+ghost use Rattle.roles.specs.Numbers as number;
 ghost use Rattle.roles.specs.ShortCut as short;
 
-use plan::Plan;
 use rows::row;
 
+mod numbers;
 pub mod plan;
 pub mod plans;
 
@@ -79,31 +79,20 @@ pub fn named_kind(kind: u32) -> u32
     }
 }
 
-// The plan of a row whose only kid is to be any target, or a simple one.
-pub fn aim_at(simple: bool) -> Plan
-    ensures { result ≡ means.aimed simple }
+// The number of a plan of a row whose only kid is to be any target, or a simple one.
+pub fn aim_at(simple: bool) -> usize
+    ensures { result ≡ number.aimed simple }
 {
     if simple {
-        Plan::Paren
+        plan::PAREN
     } else {
-        Plan::RestInArray(None)
+        plan::REST_IN_ARRAY
     }
 }
 
-// The kind that a row of this plan gets.
-#[tactic(auto, unfolding(crate::specs::Meaning::kind))]
-pub fn kind_of(of: Plan) -> u32
-    ensures { result ≡ means.kind of }
+// The kind that a row gets whose plan is this number.
+pub fn kind_of(of: usize) -> u32
+    ensures { result ≡ number.kind of }
 {
-    match of {
-        Plan::Array(_) => row::TARGET_ARRAY,
-        Plan::Object(_) => row::TARGET_OBJECT,
-        Plan::Property => row::TARGET_PROPERTY,
-        Plan::Shorthand => row::TARGET_SHORTHAND,
-        Plan::ShorthandInit => row::TARGET_SHORTHAND_INIT,
-        Plan::Paren => row::TARGET_PAREN,
-        Plan::Keep(kind) => kind,
-        Plan::Compound(_) => row::TARGET_DEFAULT,
-        _ => row::TARGET_REST,
-    }
+    numbers::to_plan(of).kind()
 }

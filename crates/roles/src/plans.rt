@@ -2,9 +2,10 @@
 ghost use Rattle.std.specs.Prelude.{◌≡◌};
 ghost use Rattle.conversion.specs.Conversion as def;
 ghost use Rattle.roles.specs.Meaning as means;
+ghost use Rattle.roles.specs.Numbers as number;
 
-use crate::Seen;
 use crate::plan::Plan;
+use crate::{Seen, numbers};
 use rows::row;
 
 // An Array or Object, with or without a comma after its closing spread. Follows a part of `SimpleAssignmentTarget::cover`.
@@ -114,8 +115,9 @@ fn as_last_element(comma: Option<u32>, seen: Seen) -> Plan
     as_element(seen)
 }
 
-// A shorthand, a shorthand with an initializer, or a key with its value; a Spread that is not last is 10.
-// Follows `AssignmentTargetProperty::cover` and a part of `ObjectAssignmentTarget::cover`.
+// A shorthand, a shorthand with an initializer, or a key with its value. Follows `AssignmentTargetProperty::cover` and a part of
+// `ObjectAssignmentTarget::cover`. A Spread that is not last is 10, all else 9, at the row's first token.
+// Stands for `invalid_assignment` and `spread_last_element`.
 #[tactic(auto, unfolding(crate::specs::Meaning::plan, crate::specs::Meaning::kind, crate::specs::Meaning::before, crate::specs::Meaning::after, crate::specs::Meaning::kid, conversion::specs::Conversion::as_property))]
 fn as_property(seen: Seen) -> Plan
     ensures { means.plan seen.begins result ≡ def.as_property (means.seen seen) }
@@ -151,6 +153,7 @@ fn as_last_property(comma: Option<u32>, seen: Seen) -> Plan
 }
 
 // The name of a shorthand. Follows a part of `AssignmentTargetProperty::cover`.
+// All else is 9, at the row's first token. Stands for `invalid_assignment`.
 #[tactic(auto, unfolding(crate::specs::Meaning::plan, conversion::specs::Conversion::as_name))]
 fn as_name(seen: Seen) -> Plan
     ensures { means.plan seen.begins result ≡ def.as_name (means.seen seen) }
@@ -161,34 +164,43 @@ fn as_name(seen: Seen) -> Plan
     Plan::NoTarget(seen.first)
 }
 
-// What a row becomes as a kid, the last one or not, of a row of the plan `under`. Follows `CoverGrammar::cover`.
-#[tactic(auto, unfolding(crate::specs::Meaning::plan, crate::specs::Meaning::kid, conversion::specs::Conversion::change))]
-pub fn plan_of(under: Plan, last: bool, seen: Seen) -> Plan
-    ensures { means.plan seen.begins result ≡ def.change (means.kid under «last») (means.seen seen) }
-{
-    match under {
-        Plan::Array(comma) => if last {
-            as_last_element(comma, seen)
-        } else {
-            as_element(seen)
-        },
-        Plan::Object(comma) => if last {
-            as_last_property(comma, seen)
-        } else {
-            as_property(seen)
-        },
-        Plan::Property => if last {
-            as_value(seen)
-        } else {
-            Plan::Keep(seen.kind)
-        },
-        Plan::Shorthand => as_name(seen),
-        Plan::ShorthandInit => if last {
-            Plan::Keep(seen.kind)
-        } else {
-            as_name(seen)
-        },
-        Plan::Paren => as_simple(seen),
-        _ => as_any(seen),
+impl Plan {
+    // What a row becomes as a kid, the last one or not, of a row of the plan `under`. Follows `CoverGrammar::cover`.
+    #[tactic(auto, unfolding(crate::specs::Meaning::plan, crate::specs::Meaning::kid, conversion::specs::Conversion::change))]
+    pub fn of_kid(under: Plan, last: bool, seen: Seen) -> Plan
+        ensures { means.plan seen.begins result ≡ def.change (means.kid under «last») (means.seen seen) }
+    {
+        match under {
+            Plan::Array(comma) => if last {
+                as_last_element(comma, seen)
+            } else {
+                as_element(seen)
+            },
+            Plan::Object(comma) => if last {
+                as_last_property(comma, seen)
+            } else {
+                as_property(seen)
+            },
+            Plan::Property => if last {
+                as_value(seen)
+            } else {
+                Plan::Keep(seen.kind)
+            },
+            Plan::Shorthand => as_name(seen),
+            Plan::ShorthandInit => if last {
+                Plan::Keep(seen.kind)
+            } else {
+                as_name(seen)
+            },
+            Plan::Paren => as_simple(seen),
+            _ => as_any(seen),
+        }
     }
+}
+
+// The number of what a row becomes as a kid, the last one or not, of a row whose plan is the number `under`.
+pub fn plan_of(under: usize, last: bool, seen: Seen) -> usize
+    ensures { number.plan seen.begins result ≡ def.change (number.kid under «last») (means.seen seen) }
+{
+    numbers::from_plan(Plan::of_kid(numbers::to_plan(under), last, seen))
 }

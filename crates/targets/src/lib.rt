@@ -11,8 +11,8 @@ ghost use Rattle.conversion.specs.Entry.{Answered};
 ghost use Rattle.targets.specs.Post.{Subtree, WordInside, SizeInside, FirstRow, PlanAt, Judged, Sums, Counted, Own, NoteFits, Written, FinishFits, Finished, Ready, TurnedRow, Room, RowConverted};
 ghost use Rattle.targets.specs.Post.{NameUnder, NameBelow, NameInside, NameSet, PlainArray, PlainReady, PlainTurned};
 
+use roles::Seen;
 use roles::plan::Plan;
-use roles::{Seen, plans};
 use rows::{clear_from, row, row_word, set_kind};
 use tokens::cause::{Answer, Cause, Counts};
 use trees::well_formed;
@@ -56,7 +56,7 @@ fn plan_at(rows: &[u32], root: usize, under: Plan, last: bool) -> Plan
         below = word_at(rows, root - 1, 0);
         begins = word_at(rows, root - 1, 2);
     }
-    plans::plan_of(
+    Plan::of_kid(
         under,
         last,
         Seen {
@@ -209,7 +209,7 @@ fn finish(rows: &mut [u32], root: usize, of: Plan, records: &mut [u32], start: u
     requires { FinishFits rows.old root of (length records.old) start }
     ensures { Finished rows.old records.old root of start rows.new records.new result }
 {
-    set_kind(rows, root, roles::kind_of(of));
+    set_kind(rows, root, of.kind());
     match of {
         Plan::RestInObject(comma) => write_comma(records, start, comma),
         Plan::WrongRest(comma) => {
@@ -307,7 +307,7 @@ pub fn convert_row(
             }
         }
     }
-    let under = roles::aim_at(simple);
+    let under = Plan::aimed(simple);
     let mut found = Ok(0);
     judge(rows, root, under, true, &mut found);
     let count = found?;

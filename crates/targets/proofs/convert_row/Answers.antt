@@ -30,13 +30,13 @@ judge-requires c = record { rooted = c.requires.rooted; counted = none_counted c
 pub returns-in_err-count : goal.returns-in_err-count
 returns-in_err-count c =
     let p = err_from_is_err_and c.from_residual.result c.from_residual.ensures.1 in
-    rw (p.1, p.2) (convert_fails c.args.simple c.aim_at-under.ensures c.judge.ensures c.in_err-count.was)
+    rw (p.1, p.2) (convert_fails c.args.simple c.aimed-under.ensures c.judge.ensures c.in_err-count.was)
 
 pub overflow_add-used : goal.overflow_add-used
-overflow_add-used c = omega (arith, (convert_ready c.args.simple c.aim_at-under.ensures c.judge.ensures c.requires c.in_ok-count.was).inside)
+overflow_add-used c = omega (arith, (convert_ready c.args.simple c.aimed-under.ensures c.judge.ensures c.requires c.in_ok-count.was).inside)
 
 pub turn-requires : goal.turn-requires
-turn-requires c = convert_ready c.args.simple c.aim_at-under.ensures c.judge.ensures c.requires c.in_ok-count.was
+turn-requires c = convert_ready c.args.simple c.aimed-under.ensures c.judge.ensures c.requires c.in_ok-count.was
 
 pub returns : goal.returns
-returns c = convert_done c.args.simple c.aim_at-under.ensures c.judge.ensures c.in_ok-count.was c.turn.ensures
+returns c = convert_done c.args.simple c.aimed-under.ensures c.judge.ensures c.in_ok-count.was c.turn.ensures

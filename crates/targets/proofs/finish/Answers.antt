@@ -18,14 +18,14 @@ pub write_record-requires-in-Compound : goal.write_record-requires-in-Compound
 write_record-requires-in-Compound c = compound_fits c.requires c.in-Compound.is
 
 pub returns-in-RestInObject : goal.returns-in-RestInObject
-returns-in-RestInObject c = finished c.set_kind.ensures c.kind_of.ensures (ends_comma _ _ c.in-RestInObject.is c.write_comma.ensures)
+returns-in-RestInObject c = finished c.set_kind.ensures c.kind.ensures (ends_comma _ _ c.in-RestInObject.is c.write_comma.ensures)
 
 pub returns-in-WrongRest : goal.returns-in-WrongRest
-returns-in-WrongRest c = finished c.set_kind.ensures c.kind_of.ensures (ends_wrong c.requires c.in-WrongRest.is c.set_kind.ensures c.word_at-begins.ensures c.write_comma-middle.ensures c.write_record.ensures)
+returns-in-WrongRest c = finished c.set_kind.ensures c.kind.ensures (ends_wrong c.requires c.in-WrongRest.is c.set_kind.ensures c.word_at-begins.ensures c.write_comma-middle.ensures c.write_record.ensures)
 
 pub returns-in-Compound : goal.returns-in-Compound
-returns-in-Compound c = finished c.set_kind.ensures c.kind_of.ensures (ends_compound _ _ c.in-Compound.is c.write_record-in-Compound.ensures)
+returns-in-Compound c = finished c.set_kind.ensures c.kind.ensures (ends_compound _ _ c.in-Compound.is c.write_record-in-Compound.ensures)
 
 pub returns-in_default : goal.returns-in_default
 unfolding before
-returns-in_default c = finished c.set_kind.ensures c.kind_of.ensures (ends_none _ c.args.of (search rules))
+returns-in_default c = finished c.set_kind.ensures c.kind.ensures (ends_none _ c.args.of (search rules))

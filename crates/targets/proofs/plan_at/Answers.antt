@@ -36,4 +36,4 @@ returns c =
       | then-kids-ne0 w ↦ sees_last c.word_at-kids.ensures w.if-kids-ne0.true w.word_at-below.ensures w.word_at-begins.ensures w.below-is w.begins-is
       | else-kids-ne0 w ↦ sees_none c.word_at-kids.ensures w.if-kids-ne0.false w.below-is w.begins-is
     ])
-    c.plan_of.ensures
+    c.of_kid.ensures
