@@ -1,4 +1,5 @@
 pub mod Table
 pub mod Stands
+mod Passed
 mod Outside
 mod Nesting

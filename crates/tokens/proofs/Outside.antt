@@ -1,6 +1,6 @@
 -- The quick look at a list of bytes, seen from a place inside it; and the first place outside two bounds, which the checks of flags and kinds look for.
 -- Assumes nothing.
-use Rattle.std.proofs.Common.{◌≡◌, ℕ, suc, ◌+◌, ◌≤◌, ◌<◌, min, max, Bool, true, not, List, [], ◌∷◌, length, get_or, drop, Option, Some, None, Ok, Err, refl, sym, ◌∙◌, leb, ltb, arith, add-one, drop-cons, drop_of_length-le, ap}
+use Rattle.std.proofs.Common.{◌≡◌, ℕ, suc, ◌+◌, ◌≤◌, ◌<◌, min, max, Bool, true, false, not, List, [], ◌∷◌, length, get_or, drop, Option, Some, None, Ok, Err, refl, sym, ◌∙◌, leb, ltb, arith, add-one, drop-cons, drop_of_length-le, ap}
 use Rattle.std.specs.List.{position_from}
 use Rattle.std.proofs.lemmas.Bool.Decides.{nat_tests}
 use Rattle.std.proofs.lemmas.Iterator.Adapters.{position_from-zero}
@@ -55,6 +55,13 @@ pub outside_none : (low high : ℕ) (xs : List ℕ) → all_between low high xs 
 unfolding first_outside
 outside_none low high xs e = sym (position_from-zero (λ x. not (between low high x)) xs ∙ none_outside low high 0 xs e)
 
+-- nor by another test that passes all bytes between the two
+none_such : (test : ℕ → Bool) (cause : ℕ → Cause) (low high : ℕ) → ((x : ℕ) → low ≤ x → x ≤ high → test x ≡ false) → (p : ℕ) (xs : List ℕ) → all_between low high xs ≡ true
+    → Ok tt ≡ first_such test cause p xs
+unfolding all_between first_such
+none_such test cause low high h p [] e = refl
+none_such test cause low high h p (x ∷ xs) e = grind (arith, nat_tests, h x, none_such test cause low high h (suc p) xs)
+
 -- a refusal at the place that was found, if any was
 abbrev pub refusal : (ℕ → Cause) → Option ℕ → Checked
 refusal cause None = Ok tt
@@ -79,3 +86,10 @@ flags_refused flags found e = refused (λ flag. ltb 1 flag) Cause.Flag 0 1 (λ x
 pub kinds_refused : (kinds : List ℕ) (found : Option ℕ) → found ≡ first_outside 1 78 kinds → refusal Cause.Kind found ≡ check_kinds kinds
 unfolding check_kinds
 kinds_refused kinds found e = refused (λ kind. kind is 0 or ltb 78 kind) Cause.Kind 1 78 (λ x. grind (arith, nat_tests)) kinds found e
+
+-- so where all bytes are between the two, the check of flags finds nothing, and that of kinds
+pub flags_fine : (flags : List ℕ) → all_between 0 1 flags ≡ true → Ok tt ≡ check_flags flags
+flags_fine flags e = flags_refused flags None (outside_none 0 1 flags e)
+
+pub kinds_fine : (kinds : List ℕ) → all_between 1 78 kinds ≡ true → Ok tt ≡ check_kinds kinds
+kinds_fine kinds e = kinds_refused kinds None (outside_none 1 78 kinds e)

@@ -24,7 +24,7 @@ use Rattle.heads.specs.Heads.{arrow_kind}
 use Rattle.build.specs.Post.{cursor, Met}
 use Rattle.build.specs.declared.cursor.Cursor.{Cursor}
 use Rattle.build.proofs.Ends.{is_fail, moved}
-use Rattle.build.proofs.Steps.Inside.{closed_read}
+use Rattle.build.proofs.Steps.Inside.{closed_read, inside_fails, inside_opens, inside_done}
 use denote.Enum.Bare.{Bare, same_true, same_false, differs_true, differs_false}
 use lib.Seq.{length-take-le}
 use Rattle.heads.specs.contracts.Way.{the_type as way_type}
@@ -256,16 +256,16 @@ init-returns t c = init_done c.requires.room (init-value t (goal.at.init-returns
 
 -- `inside`
 pub inside-returns-in_err-d : goal.inside-returns-in_err-d
-inside-returns-in_err-d t c = rw (exits _ c.from_residual.ensures.1) (closed_refused c.requires.room c.in_err-d.ensures)
+inside-returns-in_err-d t c = rw (exits _ c.from_residual.ensures.1) (inside_fails c.requires.room c.in_err-d.ensures refl)
 
 pub inside-returns-then-kind_at-close : goal.inside-returns-then-kind_at-close
-inside-returns-then-kind_at-close t c = closed_open c.requires.room c.in_ok-d.ensures c.kind_at.ensures c.if-kind_at-close.true
+inside-returns-then-kind_at-close t c = inside_opens c.requires.room c.in_ok-d.ensures refl c.kind_at.ensures c.if-kind_at-close.true
 
 pub inside-overflow_add-result : goal.inside-overflow_add-result
 inside-overflow_add-result t c = omega (arith, moved _ (c.in_ok-d.ensures.done_to _ refl) refl)
 
 pub inside-returns : goal.inside-returns
-inside-returns t c = closed_done c.requires.room c.in_ok-d.ensures c.kind_at.ensures c.if-kind_at-close.false
+inside-returns t c = inside_done c.requires.room c.in_ok-d.ensures refl c.kind_at.ensures c.if-kind_at-close.false
 
 -- `item`
 pub item-assign-requires : goal.item-assign-requires
