@@ -3,7 +3,7 @@
 // tests/lookahead.py makes `stdin` and `stdout`; it was written from the rules and arrow.rs and not from this program.
 #![tactic(auto)]
 
-ghost use Rattle.std.specs.Prelude.{◌≡◌, ◌≤◌, length};
+ghost use Rattle.std.specs.Prelude.{◌≡◌, length};
 
 use lookahead::Tristate;
 use std::io;
@@ -11,7 +11,7 @@ use tokens::cause::Cause;
 use tokens::kind;
 
 // A row of 22 bytes describes a list: how many kinds and flags it has, the place (255: the largest), whether TypeScript and JSX are on,
-// whether every next kind is to be tried, eight kinds and eight flags. The ninth of each is for the next token.
+// whether every next kind is to be tried, eight kinds and eight flags. The ninth of each is for the next token; no list has more.
 #[derive(Clone, Copy)]
 struct Row {
     kind_count: usize,
@@ -22,7 +22,6 @@ struct Row {
     is_open: bool,
     kinds: [u8; 9],
     flags: [u8; 9],
-    ghost inside: { (kind_count ≤ 8) × (flag_count ≤ 8) },
 }
 
 impl Row {
@@ -35,8 +34,8 @@ impl Row {
         flags[..8].copy_from_slice(&bytes[14..]);
         let place = usize::from(bytes[2]);
         Row {
-            kind_count: usize::from(bytes[0]).min(8),
-            flag_count: usize::from(bytes[1]).min(8),
+            kind_count: usize::from(bytes[0]),
+            flag_count: usize::from(bytes[1]),
             at: if place == 255 { usize::MAX } else { place },
             is_ts: bytes[3] == 1,
             is_jsx: bytes[4] == 1,
@@ -51,12 +50,14 @@ impl Row {
         let mut kinds = self.kinds;
         let mut more = 0;
         if let Some(k) = next {
-            kinds[self.kind_count] = k;
+            if let Some(after) = kinds.get_mut(self.kind_count) {
+                *after = k;
+            }
             more = 1;
         }
         lookahead::three_way(
-            &kinds[..self.kind_count + more],
-            &self.flags[..self.flag_count + more],
+            first(&kinds, self.kind_count.saturating_add(more)),
+            first(&self.flags, self.flag_count.saturating_add(more)),
             self.is_ts,
             self.is_jsx,
             self.at,
@@ -66,13 +67,18 @@ impl Row {
     // The answer without the checks.
     fn unchecked(&self) -> Tristate {
         lookahead::is_parenthesized_arrow_function_expression(
-            &self.kinds[..self.kind_count],
-            &self.flags[..self.flag_count],
+            first(&self.kinds, self.kind_count),
+            first(&self.flags, self.flag_count),
             self.is_ts,
             self.is_jsx,
             self.at,
         )
     }
+}
+
+// The first n of a list, or all of it.
+fn first(list: &[u8], n: usize) -> &[u8] {
+    &list[..n.min(list.len())]
 }
 
 fn letter(answer: Tristate) -> u8 {
@@ -110,11 +116,14 @@ fn print_bytes(rt: &impl Print, bytes: &[u8]) -> io::Result<()> {
     Ok(())
 }
 
-fn print_row(rt: &impl Print, row: &Row) -> io::Result<()> {
+// The row as it stands: as many bytes as it says, or up to its end.
+fn print_row(rt: &impl Print, row: &Row, bytes: &[u8]) -> io::Result<()>
+    requires { length bytes.now ≡ 22 }
+{
     rt.print("kinds")?;
-    print_bytes(rt, &row.kinds[..row.kind_count])?;
+    print_bytes(rt, first(&bytes[6..], row.kind_count))?;
     rt.print(", flags")?;
-    print_bytes(rt, &row.flags[..row.flag_count])?;
+    print_bytes(rt, first(&bytes[14..], row.flag_count))?;
     print!(rt; ", at {}", row.at)?;
     if row.is_ts {
         rt.print(", ts")?;
@@ -157,7 +166,7 @@ fn main(rt: HostRuntime) -> io::Result<()> {
     let n = input::read_full(&mut rt.stdin(), &mut rows)?;
     for bytes in rows[..n].chunks_exact(22) {
         let row = Row::from_bytes(bytes);
-        print_row(&rt, &row)?;
+        print_row(&rt, &row, bytes)?;
         print_answers(&rt, &row)?;
     }
     print_limits(&rt)

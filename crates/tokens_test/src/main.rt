@@ -8,35 +8,28 @@ use std::io;
 use tokens::cause::Cause;
 use tokens::{checks, classes};
 
-// Prints the answers of tests, 1 or 0 each.
-fn print_tests(rt: &impl Print, tests: &[bool]) -> io::Result<()> {
-    for &test in tests {
-        rt.print(u8::from(test))?;
-    }
-    rt.println("")
-}
-
-// The classes of a byte: name, word, literal, and the three-way answer's name and modifier.
+// The classes of a byte: name, word, literal, and the three-way answer's name and modifier. 1 or 0 each.
 fn print_classes(rt: &impl Print, k: u8) -> io::Result<()> {
-    print!(rt; "byte {k}: ")?;
-    print_tests(
-        rt,
-        &[
-            classes::is_name(k),
-            classes::is_word(k),
-            classes::is_literal(k),
-            classes::is_binding_identifier(k),
-            classes::is_modifier_kind(k),
-        ],
+    let told = [
+        classes::is_name(k),
+        classes::is_word(k),
+        classes::is_literal(k),
+        classes::is_binding_identifier(k),
+        classes::is_modifier_kind(k),
+    ]
+    .map(|test| u8::from(test));
+    println!(rt;
+        "byte {k}: {}{}{}{}{}",
+        told[0], told[1], told[2], told[3], told[4]
     )
 }
 
 // A range, and whether 0, 7, 8, 13, 14, 255 are in it.
 fn print_range(rt: &impl Print, low: u8, high: u8) -> io::Result<()> {
-    print!(rt; "range {low} to {high}: ")?;
-    print_tests(
-        rt,
-        &[0, 7, 8, 13, 14, 255].map(|k| classes::between(low, high, k)),
+    let told = [0, 7, 8, 13, 14, 255].map(|k| u8::from(classes::between(low, high, k)));
+    println!(rt;
+        "range {low} to {high}: {}{}{}{}{}{}",
+        told[0], told[1], told[2], told[3], told[4], told[5]
     )
 }
 
