@@ -90,7 +90,8 @@ pub fn is_assignment_operator(k: u8) -> bool
 fn is_unary_operator(k: u8) -> bool
     ensures { result ≡ Update.is_unary_operator k }
 {
-    matches!(k, kind::BANG..=kind::DELETE | kind::PLUS | kind::MINUS)
+    // in two tests: one `matches!` becomes a table of jumps, which costs a chain of them a quarter more time
+    matches!(k, kind::BANG..=kind::DELETE) || k == kind::PLUS || k == kind::MINUS
 }
 
 // 13.4: ++ --

@@ -2,6 +2,7 @@
 // All of it stands in one file, from Expression down to the parts of bindings; the cycle is named `expressions`.
 // Rows, records and notes go from call to call by themselves: `assign` lends a part of the rows on, and a struct of borrows that is made anew
 // with a part of one is not covered by the borrow checker. Each list has a loop of its own, since its steps are (docs/DECISIONS.md, 100).
+// The hints `inline` and `cold` change no answer: they keep a nested bracket to one frame, and literals out of the loop of `assign`.
 #![tactic(auto)]
 
 ghost use Rattle.std.specs.Prelude.{◌+◌, ◌<◌, length, get_or, if◌then◌else◌};
@@ -23,6 +24,7 @@ use tokens::{Sheet, classes, kind};
 use waiting::{Next, Spot, Start};
 
 // 13.16 Expression: one part, or a Sequence of them. Stands for `parse_expr`.
+#[inline]
 #[cycle(expressions)]
 pub fn comma(
     sheet: &Sheet,
@@ -411,6 +413,7 @@ fn spread(
 }
 
 // 13.2.4 ArrayLiteral: elements and holes up to the `]`.
+#[cold]
 #[cycle(expressions)]
 fn array(
     sheet: &Sheet,
@@ -460,6 +463,7 @@ fn array(
 }
 
 // 13.2.5 ObjectLiteral: properties up to the `}`. Follows `parse_object_expression`, with the loop of `parse_delimited_list`.
+#[cold]
 #[cycle(expressions)]
 fn object(
     sheet: &Sheet,

@@ -44,6 +44,30 @@ some x = bool_byte (not (eqb x 0))
 number : Shape → ℕ → ℕ
 number s place = get_or (cells s) place 0
 
+-- the kids in front: the third has two before it, the second one
+pub front_three : (kind : ℕ) {c : ℕ} → Cell (shape_of kind) 3 c → (c ≡ 0 → ⊥) → Cell (shape_of kind) 0 3
+unfolding number bits mask cells is_left_hand_side is_unary is_binary is_logical is_assignment is_expression is_body is_binding is_parameter is_simple_target is_target only nothing shape_of
+front_three kind {c} z h =
+    let n : (c is 0 or number (shape_of kind) 0 is 3) ≡ true = rw z.is (all_shapes (λ (s : Shape). number s 3 is 0 or number s 0 is 3) refl refl kind) in
+    record { is = sym (eqb-true _ _ (rw (ne_eqb c 0 h) at n)) }
+
+pub front_two : (kind : ℕ) {b c : ℕ} → Cell (shape_of kind) 3 c → c ≡ 0 → Cell (shape_of kind) 2 b → (b ≡ 0 → ⊥) → Cell (shape_of kind) 0 2
+unfolding number bits mask cells is_left_hand_side is_unary is_binary is_logical is_assignment is_expression is_body is_binding is_parameter is_simple_target is_target only nothing shape_of
+front_two kind {b} {c} z e y h =
+    let n : (not (c is 0) or (b is 0 or number (shape_of kind) 0 is 2)) ≡ true =
+    rw (z.is, y.is) (all_shapes (λ (s : Shape). not (number s 3 is 0) or (number s 2 is 0 or number s 0 is 2)) refl refl kind)
+    in
+    record { is = sym (eqb-true _ _ (rw (e, ne_eqb b 0 h) at n)) }
+
+pub front_one : (kind : ℕ) {a b c f : ℕ} → Cell (shape_of kind) 3 c → c ≡ 0 → Cell (shape_of kind) 2 b → b ≡ 0 → Cell (shape_of kind) 1 a → f ≡ some a → Cell (shape_of kind) 0 f
+unfolding number bits mask cells is_left_hand_side is_unary is_binary is_logical is_assignment is_expression is_body is_binding is_parameter is_simple_target is_target only nothing shape_of
+front_one kind {a} {b} {c} z e y g x h =
+    let n : (not (c is 0) or (not (b is 0) or number (shape_of kind) 0 is some a)) ≡ true =
+    rw (z.is, y.is, x.is) (all_shapes (λ (s : Shape). not (number s 3 is 0) or (not (number s 2 is 0) or number s 0 is some (number s 1))) refl refl kind)
+    in
+    record { is = h ∙ sym (eqb-true _ _ (rw (e, g) at n)) }
+
+-- and their sum is how many there are
 pub front_cell : (kind : ℕ) {f a b c : ℕ} → Cell (shape_of kind) 1 a → Cell (shape_of kind) 2 b → Cell (shape_of kind) 3 c → f ≡ some a + some b + some c → Cell (shape_of kind) 0 f
 unfolding number bits mask cells is_left_hand_side is_unary is_binary is_logical is_assignment is_expression is_body is_binding is_parameter is_simple_target is_target only nothing shape_of
 front_cell kind x y z e =
